@@ -4,7 +4,7 @@ use Rattle.fm_base.specs.declared.arena_id.ArenaId.{ArenaId}
 use Rattle.fm_base.specs.declared.kind.Kind.{Kind}
 use Rattle.fm_base.specs.declared.kind.Kind.TheVariants.{Automatic}
 use Rattle.fm_base.specs.declared.refusal.Refusal.{Refusal}
-use Rattle.fm_base.specs.Finds.{Close}
+use Rattle.fm_base.specs.Finds.{Sweep}
 use Rattle.fm_pool_facts.specs.Hands.{Hand, nothing}
 use Rattle.fm_pool_facts.specs.Views.{View}
 use Rattle.fm_rule.specs.declared.pool.Pool.{Pool}
@@ -14,7 +14,7 @@ use Rattle.fm_arena.specs.Handles.{AfterStart}
 use Rattle.fm_arena.specs.Opening.{HasNoSlot, OpensExactly}
 
 -- Where no slot is told, every arena that was ended is swept.
-pub none_swept : (cs : List Close) (hand : Hand) → slots_told cs hand ≡ [] → cs ≡ []
+pub none_swept : (cs : List Sweep) (hand : Hand) → slots_told cs hand ≡ [] → cs ≡ []
 unfolding slots_told
 none_swept [] hand e = refl
 none_swept (c ∷ cs) hand e = absurd (cc)

@@ -30,10 +30,23 @@ pub record Gathered : Type 0 where
   pub caller : Caller
   pub finds : List Find
 
--- a close that was begun and not finished, and how many marks it has visited
-pub record Close : Type 0 where
+-- what is gone through one by one when an arena is closed, and when it is swept
+pub data Stretch : Type 0 where
+  Marks : Stretch
+  Parts : Stretch
+
+-- an arena of which so many marks or parts are behind
+pub record Walk (stretch : Stretch) : Type 0 where
   pub arena : ArenaId
-  pub visited : ℕ
+  pub passed : ℕ
+
+-- a close that was begun and not finished: it has visited so many marks
+abbrev pub Close : Type 0
+Close = Walk Marks
+
+-- the sweep of an arena that ended: so many of its parts are given back, and one more is passed where its given bytes are forgotten
+abbrev pub Sweep : Type 0
+Sweep = Walk Parts
 
 -- what a caller has, and what was gathered into it
 pub record Rest : Type 0 where

@@ -4,7 +4,7 @@ use Rattle.std.specs.Prelude.{Contains}
 use Rattle.fm_base.specs.declared.arena_id.ArenaId.{ArenaId}
 use Rattle.fm_base.specs.Arenas.{State, has_arena, arena_of}
 use Rattle.fm_base.specs.Calls.{Entry}
-use Rattle.fm_base.specs.Finds.{Close}
+use Rattle.fm_base.specs.Finds.{Sweep}
 use Rattle.fm_base.specs.Histories.{IsLegal, state_after}
 use Rattle.fm_base.proofs.Growing as growing
 use Rattle.fm_words.specs.declared.shape.Shape.{Shape}
@@ -53,7 +53,7 @@ pub has_ended : {p : View} {id : ArenaId} → IsOver p id → HasEnded p id
 has_ended o = record { known = o.known; life = o.life }
 
 -- Nothing is lent to an arena whose sweep has come past its last part.
-pub no_words_swept : {p : View} (id : ArenaId) → IsSound p → (c : Close) → In c p.sweeps → c.arena ≡ id → p.shape.reach ≤ c.visited → HasNoWords p id
+pub no_words_swept : {p : View} (id : ArenaId) → IsSound p → (c : Sweep) → In c p.sweeps → c.arena ≡ id → p.shape.reach ≤ c.passed → HasNoWords p id
 no_words_swept {p = p} id sound c i e n l h q =
     let fits = (sound.loans l h).1 in
     let left = sound.unlent c i l h (q ∙ sym e) in absurd (omega arith)

@@ -4,7 +4,7 @@ use Rattle.fm_base.specs.declared.arena_id.ArenaId.{ArenaId}
 use Rattle.fm_base.specs.Arenas.{Ended, arena_of, kind_number}
 use Rattle.fm_base.specs.Calls.{Entry}
 use Rattle.fm_base.specs.Histories.{made_by}
-use Rattle.fm_base.specs.Finds.{Close, Rest, FindsMore}
+use Rattle.fm_base.specs.Finds.{Close, Sweep, Rest, FindsMore}
 use Rattle.fm_base.specs.View.{inside_after}
 use Rattle.fm_words.specs.declared.shape.Shape.{Shape}
 use Rattle.fm_pool_facts.specs.Hands.{Hand, slots_in}
@@ -34,12 +34,12 @@ abbrev pub shape_numbers : Shape → List ℕ
 shape_numbers z = z.passes ∷ z.slots ∷ z.pages ∷ z.page_words ∷ z.reach ∷ z.generations ∷ []
 
 -- numbers that tell of arenas that ended and aren't swept, and how far each sweep is: until then their slots are in the pass's hand
-abbrev pub sweep_numbers : List Close → List ℕ
+abbrev pub sweep_numbers : List Sweep → List ℕ
 sweep_numbers [] = []
 sweep_numbers (c ∷ cs) =
-    c.arena.slot ∷ c.arena.generation ∷ kind_number c.arena.kind ∷ c.arena.owner ∷ c.arena.term ∷ c.visited ∷ sweep_numbers cs
+    c.arena.slot ∷ c.arena.generation ∷ kind_number c.arena.kind ∷ c.arena.owner ∷ c.arena.term ∷ c.passed ∷ sweep_numbers cs
 
-unfoldable pub slots_told : List Close → Hand → List ℕ
+unfoldable pub slots_told : List Sweep → Hand → List ℕ
 slots_told sweeps hand = sweep_numbers sweeps ++ slots_in hand
 
 -- what a pass has, and what was gathered into it

@@ -11,7 +11,7 @@ use Rattle.fm_pool_facts.proofs.Gripping.{handles_are}
 use Rattle.fm_pool_facts.specs.Words.{alive_holds}
 use Rattle.fm_pool_facts.specs.Holds.{released}
 use Rattle.fm_pool_facts.specs.Handles.{Giving, Missed, Kept, Last, last_if, giving_by, giving, given_back, giving_entries}
-use Rattle.fm_pool_facts.specs.Closes.{close_of, visited_of, dropped}
+use Rattle.fm_pool_facts.specs.Closes.{walk_of, passed_of, dropped}
 use Rattle.fm_pool_facts.specs.Steps.{Stepped, none_noted}
 use Rattle.fm_rule.specs.declared.pool.Pool.{Pool}
 use Rattle.fm_calls.specs.Kept.{Goes, rest_of, HasEnded, HasNoWords}
@@ -25,7 +25,7 @@ use Rattle.fm_close.specs.declared.gave_back.GaveBack.TheVariants as gave
 use Rattle.fm_close.specs.declared.shutting.Shutting.{Shutting}
 use Rattle.fm_close.specs.Does.{begun}
 use Rattle.fm_close.specs.Learnt.{CanGiveBack, AfterBack, AfterSpend, AfterGiveBack}
-use Rattle.fm_close.proofs.Closes.{visited_of-begun, dropped-begun}
+use Rattle.fm_close.proofs.Closes.{passed_of-begun, dropped-begun}
 use Rattle.fm_close.proofs.Walks.{Finished, ends_so}
 
 -- ---- the exchanges
@@ -119,7 +119,7 @@ module _ {pool : Pool} {p q : View} {a : ArenaId} {word : ℕ} (can : CanGiveBac
             maker = mine;
             unfinished = refl;
             known = known_on g a can.handle.known;
-            at = ap (λ (r : Rest). visited_of r.closes a) rest ∙ visited_of-begun p.closes a;
+            at = ap (λ (r : Rest). passed_of r.closes a) rest ∙ passed_of-begun p.closes a;
             low = (let n = g.sound.number in omega arith);
           };
         };
@@ -154,7 +154,7 @@ after_ended {p = p} {q = q} {r = r} {a = a} {s = s} automatic h w =
     let g : Goes p q (entry_of p.caller (Shut a) Fine ∷ []) = subst (λ (es : List Entry). Goes p q es) h.did.does.1 h.did.goes in
     let end : Goes q r (entry_of p.caller (End a) Fine ∷ w.backs) =
     subst (λ (x : Caller × ArenaId). Goes q r (entry_of x.0 (End x.1) Fine ∷ w.backs)) (λ j. (g.same_caller j, arena j)) w.goes in
-    let closes : q.closes ≡ close_of a 0 ∷ p.closes = ap (λ (x : Rest). x.closes) h.did.rest in
+    let closes : q.closes ≡ walk_of a 0 ∷ p.closes = ap (λ (x : Rest). x.closes) h.did.rest in
     let left : dropped s.arena q.closes ≡ p.closes = ap (λ (i : ArenaId). dropped i q.closes) arena ∙ (ap (dropped a) closes ∙ dropped-begun p.closes a) in
     let all = goes_then g end in
     record {

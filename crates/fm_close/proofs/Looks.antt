@@ -11,7 +11,7 @@ use Rattle.fm_words.specs.Marks.{mark_word}
 use Rattle.fm_pool_facts.specs.Views.{View}
 use Rattle.fm_pool_facts.specs.Words.{mark_of, own_word}
 use Rattle.fm_pool_facts.specs.Closes as closes
-use Rattle.fm_pool_facts.specs.Closes.{visit_by, visit_found, closes_after, sweeps_after, visit_entries, visited_of, visited}
+use Rattle.fm_pool_facts.specs.Closes.{visit_by, visit_found, closes_after, sweeps_after, visit_entries, passed_of, advanced}
 use Rattle.fm_pool_facts.specs.Steps.{Stepped, note_of, is_clear}
 use Rattle.fm_rule.specs.declared.pool.Pool.{Pool}
 use Rattle.fm_calls.specs.Kept.{Goes, HasEnded}
@@ -24,7 +24,7 @@ use Rattle.fm_close.specs.declared.shutting.Shutting.{Shutting}
 use Rattle.fm_close.specs.declared.outcome.Visit.TheVariants.{Next, Inside, Ended}
 use Rattle.fm_close.specs.Does.{visit_answer}
 use Rattle.fm_close.specs.Learnt.{CanWalk, Looked, AfterVisit}
-use Rattle.fm_close.proofs.Closes.{visited_of-visited, visited_of-begun}
+use Rattle.fm_close.proofs.Closes.{passed_of-advanced, passed_of-begun}
 
 -- No arena has the mark 0.
 mark_of-positive : (a : ArenaId) → 0 < mark_of a
@@ -131,7 +131,7 @@ module _ {pool : Pool} {p q : View} {s : Shutting} (found : ℕ) (can : CanWalk 
             maker = can.walks.maker ∙ sym (made_on g);
             unfinished = can.walks.unfinished;
             known = known_on g s.arena can.walks.known;
-            at = ap (λ cs. visited_of cs s.arena) (closes_is t) ∙ can.walks.at;
+            at = ap (λ cs. passed_of cs s.arena) (closes_is t) ∙ can.walks.at;
             low = rw g.same_shape can.walks.low;
           },
           λ mine.
@@ -157,8 +157,8 @@ module _ {pool : Pool} {p q : View} {s : Shutting} (found : ℕ) (can : CanWalk 
         let t = step_as closes.Next e in
         let g = goes_as closes.Next e in
         let z = g.same_shape in
-        let at : visited_of q.closes s.arena ≡ Some (s.next + 1) = ap (λ cs. visited_of cs s.arena) (closes_is t)
-        ∙ visited_of-visited p.closes s.arena s.next can.walks.at in
+        let at : passed_of q.closes s.arena ≡ Some (s.next + 1) = ap (λ cs. passed_of cs s.arena) (closes_is t)
+        ∙ passed_of-advanced p.closes s.arena s.next can.walks.at in
         record {
           did = record { own = []; does = refl; goes = g; rest = rest_is t };
           sweeps = sweeps_is t;
@@ -201,7 +201,7 @@ module _ {pool : Pool} {p q : View} {s : Shutting} (found : ℕ) (can : CanWalk 
             record {
               maker = can.walks.maker ∙ sym (made_on g);
               ended = refl;
-              at = ap (λ cs. visited_of cs s.arena) (sweeps_is t) ∙ visited_of-begun p.sweeps s.arena;
+              at = ap (λ cs. passed_of cs s.arena) (sweeps_is t) ∙ passed_of-begun p.sweeps s.arena;
             },
           );
           outside = outside_by g;

@@ -5,26 +5,26 @@ use Rattle.fm_words.specs.declared.shape.Shape.{Shape}
 use Rattle.fm_base.specs.declared.caller.Caller.{Caller}
 use Rattle.fm_base.specs.declared.arena_id.ArenaId.{ArenaId}
 use Rattle.fm_base.specs.Calls.{Back, Fine, Entry, entry_of}
-use Rattle.fm_base.specs.Finds.{Close}
+use Rattle.fm_base.specs.Finds.{Sweep}
 use Rattle.fm_base.specs.Histories.{made_by}
 use Rattle.fm_base.specs.View.{inside_after}
 use Rattle.fm_pool_facts.specs.Parts.{Swept, unread, named, wiping, swept_read}
 use Rattle.fm_pool_facts.specs.Views.{View, IsOver, IsSound, given_of}
-use Rattle.fm_pool_facts.specs.Closes.{visited_of, visited, dropped}
+use Rattle.fm_pool_facts.specs.Closes.{passed_of, advanced, dropped}
 use Rattle.fm_pool_facts.specs.Steps.{Stepped, AreAllGiven, none_noted}
 use Rattle.fm_pool_facts.proofs.Ending.{all_given}
-use Rattle.fm_pool_steps.proofs.Closes.{visited_of-found}
+use Rattle.fm_pool_steps.proofs.Closes.{passed_of-found}
 use Rattle.fm_rule.specs.declared.pool.Pool.{Pool}
 use Rattle.fm_rule.specs.Passes.{IsOf}
 use Rattle.fm_calls.proofs.Going.{goes_of, goes_none, goes_then, no_draws, made_by-one}
 use Rattle.fm_calls.proofs.Unlent.{given_on}
 use Rattle.fm_close.specs.Does.{IsBack, AreBacks}
 use Rattle.fm_close.specs.Sweeps.{SweepsOn, PartTaken, PartsTaken}
-use Rattle.fm_close.proofs.Closes.{visited_of-visited, dropped-visited}
+use Rattle.fm_close.proofs.Closes.{passed_of-advanced, dropped-advanced}
 
 -- ---- steps in order
 
-abbrev pub Steps : View → View → List Entry → Swept → List Close → Type 0
+abbrev pub Steps : View → View → List Entry → Swept → List Sweep → Type 0
 Steps p q own s cs = Stepped p q (record p { swept = s; sweeps = cs }) own none_noted
 
 -- None was made.
@@ -32,7 +32,7 @@ pub sweeps_none : {p : View} {s : Swept} → IsSound p → p.swept ≡ s → Swe
 sweeps_none {p = p} sound h = record { goes = goes_none sound; is = λ j. record p { swept = h j } }
 
 -- One was.
-sweeps_step : {p q : View} {own : List Entry} {s : Swept} {cs : List Close} → made_by p.caller own ≡ own → p.inside ≡ inside_after p.inside own
+sweeps_step : {p q : View} {own : List Entry} {s : Swept} {cs : List Sweep} → made_by p.caller own ≡ own → p.inside ≡ inside_after p.inside own
     → Steps p q own s cs → SweepsOn p q own s cs
 sweeps_step {p = p} {q = q} {own = own} {s = s} {cs = cs} made inside t = record {
   goes = goes_of t (record {
@@ -48,18 +48,18 @@ sweeps_step {p = p} {q = q} {own = own} {s = s} {cs = cs} made inside t = record
 }
 
 -- One that makes no entry.
-pub quiet_step : {p q : View} {s : Swept} {cs : List Close} → Steps p q [] s cs → SweepsOn p q [] s cs
+pub quiet_step : {p q : View} {s : Swept} {cs : List Sweep} → Steps p q [] s cs → SweepsOn p q [] s cs
 quiet_step t = sweeps_step refl refl t
 
 -- Some were, and then others.
-pub sweeps_then : {o p q : View} {es fs : List Entry} {s t : Swept} {cs ds : List Close} → SweepsOn o p es s cs → SweepsOn p q fs t ds
+pub sweeps_then : {o p q : View} {es fs : List Entry} {s t : Swept} {cs ds : List Sweep} → SweepsOn o p es s cs → SweepsOn p q fs t ds
     → SweepsOn o q (es ++ fs) t ds
 sweeps_then {q = q} {t = t} {ds = ds} a b = record {
   goes = goes_then a.goes b.goes;
   is = b.is ∙ ap (λ (x : View). record x { seen = q.seen; finds = q.finds; swept = t; sweeps = ds }) a.is;
 }
 
-module _ {p q : View} {own : List Entry} {s : Swept} {cs : List Close} (t : SweepsOn p q own s cs) where
+module _ {p q : View} {own : List Entry} {s : Swept} {cs : List Sweep} (t : SweepsOn p q own s cs) where
   pub swept_now : q.swept ≡ s
   swept_now = ap (λ (x : View). x.swept) t.is
 
@@ -74,27 +74,27 @@ module _ {p q : View} {own : List Entry} {s : Swept} {cs : List Close} (t : Swee
   of_still pool of = (ap (λ (x : View). x.home) t.is ∙ of.0, ap (λ (x : View). x.shape) t.is ∙ of.1)
 
   -- The sweep of the arena is where the sweeps say.
-  pub visited_still : (a : ArenaId) (n : ℕ) → visited_of cs a ≡ Some n → visited_of q.sweeps a ≡ Some n
-  visited_still a n at = ap (λ (xs : List Close). visited_of xs a) sweeps_now ∙ at
+  pub passed_still : (a : ArenaId) (n : ℕ) → passed_of cs a ≡ Some n → passed_of q.sweeps a ≡ Some n
+  passed_still a n at = ap (λ (xs : List Sweep). passed_of xs a) sweeps_now ∙ at
 
 -- Quiet ones that leave the sweeps where they are.
-pub sweeps_same : {o p q : View} {s t : Swept} {cs : List Close} → SweepsOn o p [] s cs → SweepsOn p q [] t p.sweeps → SweepsOn o q [] t cs
-sweeps_same {o = o} {q = q} {t = t} a b = subst (λ (xs : List Close). SweepsOn o q [] t xs) (sweeps_now a) (sweeps_then a b)
+pub sweeps_same : {o p q : View} {s t : Swept} {cs : List Sweep} → SweepsOn o p [] s cs → SweepsOn p q [] t p.sweeps → SweepsOn o q [] t cs
+sweeps_same {o = o} {q = q} {t = t} a b = subst (λ (xs : List Sweep). SweepsOn o q [] t xs) (sweeps_now a) (sweeps_then a b)
 
 -- ---- how many bytes the arena gave
 
 -- An arena that a pass sweeps is over.
-pub over_now : {p : View} {a : ArenaId} (n : ℕ) → IsSound p → visited_of p.sweeps a ≡ Some n → IsOver p a
-over_now {p = p} {a = a} n sound at = let f = visited_of-found p.sweeps a n at in subst (IsOver p) f.arena (sound.swept f.close f.there)
+pub over_now : {p : View} {a : ArenaId} (n : ℕ) → IsSound p → passed_of p.sweeps a ≡ Some n → IsOver p a
+over_now {p = p} {a = a} n sound at = let f = passed_of-found p.sweeps a n at in subst (IsOver p) f.arena (sound.swept f.walk f.there)
 
 -- It gave as many still.
-pub gave_still : {p q : View} {own : List Entry} {s : Swept} {cs : List Close} (a : ArenaId) (n given : ℕ) → SweepsOn p q own s cs → IsSound p
-    → visited_of p.sweeps a ≡ Some n → given_of p a ≡ given → given_of q a ≡ given
+pub gave_still : {p q : View} {own : List Entry} {s : Swept} {cs : List Sweep} (a : ArenaId) (n given : ℕ) → SweepsOn p q own s cs → IsSound p
+    → passed_of p.sweeps a ≡ Some n → given_of p a ≡ given → given_of q a ≡ given
 gave_still a n given t sound at gave = given_on a t.goes (over_now n sound at) ∙ gave
 
 -- Words up to the count, or up to the end of the page, are all that have a given byte.
-pub all_words : {p q : View} {own : List Entry} {s : Swept} {cs : List Close} (a : ArenaId) (part given size words : ℕ) → SweepsOn p q own s cs → IsSound p
-    → visited_of p.sweeps a ≡ Some part → given_of p a ≡ given → size ≡ p.shape.page_words → (words ≡ size) ⊎ (given ≤ 8 * (part * size + words))
+pub all_words : {p q : View} {own : List Entry} {s : Swept} {cs : List Sweep} (a : ArenaId) (part given size words : ℕ) → SweepsOn p q own s cs → IsSound p
+    → passed_of p.sweeps a ≡ Some part → given_of p a ≡ given → size ≡ p.shape.page_words → (words ≡ size) ⊎ (given ≤ 8 * (part * size + words))
     → AreAllGiven q a part words
 all_words {q = q} a part given size words t sound at gave is all =
     let some : 0 < size = (let l = sound.valid.page_words.0 in omega arith) in
@@ -107,7 +107,7 @@ all_words {q = q} a part given size words t sound at gave is all =
 
 -- the map word of the next part was x
 abbrev pub Looks : View → View → ArenaId → (part x : ℕ) → Type 0
-Looks p q a part x = Steps p q [] (swept_read a part x) (if x == 0 then visited a p.sweeps else p.sweeps)
+Looks p q a part x = Steps p q [] (swept_read a part x) (if x == 0 then advanced a p.sweeps else p.sweeps)
 
 module _ {p q : View} {a : ArenaId} (part x : ℕ) (t : Looks p q a part x) where
   -- It was 0: the part has no page.
@@ -121,7 +121,7 @@ module _ {p q : View} {a : ArenaId} (part x : ℕ) (t : Looks p q a part x) wher
   -- It names a page.
   pub part_named : x ≢ 0 → SweepsOn p q [] (named a part (x - 1)) p.sweeps
   part_named n = quiet_step (subst
-      (λ (b : Bool). Steps p q [] (if b then unread else named a part (x - 1)) (if b then visited a p.sweeps else p.sweeps)) (ne_eqb x 0 n) t)
+      (λ (b : Bool). Steps p q [] (if b then unread else named a part (x - 1)) (if b then advanced a p.sweeps else p.sweeps)) (ne_eqb x 0 n) t)
 
 -- Its page was taken from the map word.
 pub part_unmapped : {p q r : View} {a : ArenaId} {part page : ℕ} → SweepsOn p q [] (named a part page) p.sweeps
@@ -130,22 +130,22 @@ part_unmapped t u = sweeps_same t (quiet_step u)
 
 -- It was taken back, once its words were wiped.
 pub part_taken : {p q r : View} {a : ArenaId} {part page words : ℕ} → SweepsOn p q [] (wiping a part page words) p.sweeps
-    → Steps q r (entry_of q.caller (Back page) Fine ∷ []) unread (visited a q.sweeps) → PartTaken p r a
+    → Steps q r (entry_of q.caller (Back page) Fine ∷ []) unread (advanced a q.sweeps) → PartTaken p r a
 part_taken {p = p} {q = q} {r = r} {a = a} {page = page} t s =
     let e : Entry = entry_of p.caller (Back page) Fine in
-    let g : SweepsOn p r (entry_of q.caller (Back page) Fine ∷ []) unread (visited a q.sweeps) =
+    let g : SweepsOn p r (entry_of q.caller (Back page) Fine ∷ []) unread (advanced a q.sweeps) =
     sweeps_then t (sweeps_step (made_by-one q.caller (Back page) Fine) refl s) in
     record {
       own = e ∷ [];
       backs = All-cons (IsBack p.caller) e [] (page, refl) (All-nil (IsBack p.caller));
-      goes_on = subst (λ (y : Caller × List Close). SweepsOn p r (entry_of y.0 (Back page) Fine ∷ []) unread (visited a y.1))
+      goes_on = subst (λ (y : Caller × List Sweep). SweepsOn p r (entry_of y.0 (Back page) Fine ∷ []) unread (advanced a y.1))
           (λ j. (caller_now t j, sweeps_now t j)) g;
     }
 
 -- ---- the parts in order
 
 -- No part was taken yet.
-pub parts_none : {p : View} {a : ArenaId} → IsSound p → p.swept ≡ unread → visited_of p.sweeps a ≡ Some 0 → PartsTaken p p a 0
+pub parts_none : {p : View} {a : ArenaId} → IsSound p → p.swept ≡ unread → passed_of p.sweeps a ≡ Some 0 → PartsTaken p p a 0
 parts_none {p = p} sound idle at =
     record { own = []; backs = All-nil (IsBack p.caller); goes_on = sweeps_none sound idle; at = at; left = refl }
 
@@ -154,7 +154,7 @@ pub parts_more : {o p q : View} {a : ArenaId} {n : ℕ} → PartsTaken o p a n �
 parts_more {o = o} {p = p} {q = q} {a = a} {n = n} t u = record {
   own = t.own ++ u.own;
   backs = All-append (IsBack o.caller) t.own u.own t.backs (subst (λ (c : Caller). AreBacks c u.own) (caller_now t.goes_on) u.backs);
-  goes_on = subst (λ (cs : List Close). SweepsOn o q (t.own ++ u.own) unread cs) (sym (sweeps_now u.goes_on)) (sweeps_then t.goes_on u.goes_on);
-  at = visited_still u.goes_on a (n + 1) (visited_of-visited p.sweeps a n t.at);
-  left = ap (dropped a) (sweeps_now u.goes_on) ∙ (dropped-visited p.sweeps a ∙ t.left);
+  goes_on = subst (λ (cs : List Sweep). SweepsOn o q (t.own ++ u.own) unread cs) (sym (sweeps_now u.goes_on)) (sweeps_then t.goes_on u.goes_on);
+  at = passed_still u.goes_on a (n + 1) (passed_of-advanced p.sweeps a n t.at);
+  left = ap (dropped a) (sweeps_now u.goes_on) ∙ (dropped-advanced p.sweeps a ∙ t.left);
 }

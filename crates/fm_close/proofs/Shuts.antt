@@ -10,7 +10,7 @@ use Rattle.fm_base.specs.Does.{IsClosable}
 use Rattle.fm_base.specs.Finds.{Close}
 use Rattle.fm_pool_facts.specs.Views.{View, IsSound}
 use Rattle.fm_pool_facts.specs.Words.{alive_holds, shut_found, shut_by}
-use Rattle.fm_pool_facts.specs.Closes.{begun, visited_of}
+use Rattle.fm_pool_facts.specs.Closes.{begun, passed_of}
 use Rattle.fm_pool_facts.specs.Steps.{Stepped, none_noted}
 use Rattle.fm_rule.specs.declared.pool.Pool.{Pool}
 use Rattle.fm_rule.specs.Passes.{IsOf}
@@ -21,7 +21,7 @@ use Rattle.fm_gate.specs.Standing.{IsOutside, CanVisit}
 use Rattle.fm_gate.proofs.Standing.{made_on, stands_outside, swept_is}
 use Rattle.fm_close.specs.Does as does
 use Rattle.fm_close.specs.Learnt.{AfterShut}
-use Rattle.fm_close.proofs.Closes.{visited_of-begun}
+use Rattle.fm_close.proofs.Closes.{passed_of-begun}
 
 -- What is learnt where the kind isn't closed by hand: no step was made.
 pub after_kind : {pool : Pool} {p : View} {a : ArenaId} → CanVisit pool p a → IsSound p → ¬ (IsClosable a.kind)
@@ -130,7 +130,7 @@ module _ {pool : Pool} {p q : View} {a : ArenaId} (word : ℕ) (can : CanVisit p
           maker = mine;
           unfinished = refl;
           known = known_on g a can.known;
-          at = ap (λ cs. visited_of cs a) (closes_is t) ∙ visited_of-begun p.closes a;
+          at = ap (λ cs. passed_of cs a) (closes_is t) ∙ passed_of-begun p.closes a;
           low = (let n = g.sound.number in omega arith);
         };
         outside = still_outside Fine r;

@@ -5,13 +5,13 @@ use Rattle.fm_words.specs.declared.shape.Shape.{Shape}
 use Rattle.fm_base.specs.declared.caller.Caller.{Caller}
 use Rattle.fm_base.specs.declared.arena_id.ArenaId.{ArenaId}
 use Rattle.fm_base.specs.Calls.{Entry}
-use Rattle.fm_base.specs.Finds.{Close}
+use Rattle.fm_base.specs.Finds.{Sweep}
 use Rattle.fm_pool_facts.specs.Hands.{Hand, nothing, retired, hand_retired}
 use Rattle.fm_pool_facts.specs.Parts.{Swept, unread}
 use Rattle.fm_pool_facts.specs.Views.{View, IsOver}
-use Rattle.fm_pool_facts.specs.Closes.{visited_of, visited, dropped}
+use Rattle.fm_pool_facts.specs.Closes.{passed_of, advanced, dropped}
 use Rattle.fm_pool_facts.specs.Steps.{Stepped, none_noted}
-use Rattle.fm_pool_steps.proofs.Closes.{visited_of-found}
+use Rattle.fm_pool_steps.proofs.Closes.{passed_of-found}
 use Rattle.fm_rule.specs.declared.pool.Pool.{Pool}
 use Rattle.fm_calls.specs.Kept.{Goes, rest_of, slots_told, HasNoWords}
 use Rattle.fm_calls.proofs.Going.{goes_of, goes_then, no_draws, lasts_on}
@@ -21,8 +21,8 @@ use Rattle.fm_close.specs.declared.shutting.Shutting.{Shutting}
 use Rattle.fm_close.specs.Does.{AreBacks}
 use Rattle.fm_close.specs.Learnt.{CanSweep, AfterSweep}
 use Rattle.fm_close.specs.Sweeps.{SweepsOn, PartsTaken}
-use Rattle.fm_close.proofs.Closes.{visited_of-visited, dropped-visited}
-use Rattle.fm_close.proofs.Parts.{quiet_step, sweeps_then, swept_now, sweeps_now, caller_now, visited_still, over_now}
+use Rattle.fm_close.proofs.Closes.{passed_of-advanced, dropped-advanced}
+use Rattle.fm_close.proofs.Parts.{quiet_step, sweeps_then, swept_now, sweeps_now, caller_now, passed_still, over_now}
 
 -- ---- steps that make no entry
 
@@ -30,7 +30,7 @@ abbrev Quiet : View → View → View → Type 0
 Quiet p q part = Stepped p q part [] none_noted
 
 abbrev pub Resets : View → View → ArenaId → Type 0
-Resets p q a = Quiet p q (record p { sweeps = visited a p.sweeps })
+Resets p q a = Quiet p q (record p { sweeps = advanced a p.sweeps })
 
 abbrev pub Retires : View → View → ArenaId → Type 0
 Retires p q a =
@@ -81,7 +81,7 @@ parts_since {o = o} {p = p} {q = q} {a = a} s w =
 -- the arena has ended, no page is lent to it, and it fits the pool
 pub record Emptied (o q : View) (a : ArenaId) (own : List Entry) : Type 0 where
   pub goes_on : SweepsOn o q own unread q.sweeps
-  pub at : visited_of q.sweeps a ≡ Some (o.shape.reach + 1)
+  pub at : passed_of q.sweeps a ≡ Some (o.shape.reach + 1)
   pub left : dropped a q.sweeps ≡ dropped a o.sweeps
   pub over : IsOver q a
   pub next : a.generation + 1 < 2 ^ 32
@@ -91,20 +91,20 @@ pub emptied : {o p q : View} {a : ArenaId} (w : PartsTaken o p a o.shape.reach) 
 emptied {o = o} {p = p} {q = q} {a = a} w s =
     let n : ℕ = o.shape.reach + 1 in
     let idle : p.swept ≡ unread = swept_now w.goes_on in
-    let r : SweepsOn p q [] unread (visited a p.sweeps) = subst (λ (x : Swept). SweepsOn p q [] x (visited a p.sweeps)) idle (quiet_step s) in
-    let at : visited_of q.sweeps a ≡ Some n = visited_still r a n (visited_of-visited p.sweeps a o.shape.reach w.at) in
+    let r : SweepsOn p q [] unread (advanced a p.sweeps) = subst (λ (x : Swept). SweepsOn p q [] x (advanced a p.sweeps)) idle (quiet_step s) in
+    let at : passed_of q.sweeps a ≡ Some n = passed_still r a n (passed_of-advanced p.sweeps a o.shape.reach w.at) in
     let all : SweepsOn o q w.own unread q.sweeps =
-    subst (λ (x : List Entry × List Close). SweepsOn o q x.0 unread x.1) (λ j. (append-nil w.own j, sym (sweeps_now r) j)) (sweeps_then w.goes_on r) in
-    let f = visited_of-found q.sweeps a n at in
+    subst (λ (x : List Entry × List Sweep). SweepsOn o q x.0 unread x.1) (λ j. (append-nil w.own j, sym (sweeps_now r) j)) (sweeps_then w.goes_on r) in
+    let f = passed_of-found q.sweeps a n at in
     let over : IsOver q a = over_now n s.sound at in
     let reach : q.shape.reach ≡ o.shape.reach = ap (λ (z : Shape). z.reach) all.goes.same_shape in
     record {
       goes_on = all;
       at = at;
-      left = ap (dropped a) (sweeps_now r) ∙ (dropped-visited p.sweeps a ∙ w.left);
+      left = ap (dropped a) (sweeps_now r) ∙ (dropped-advanced p.sweeps a ∙ w.left);
       over = over;
       next = (let g = (s.sound.fits a over.known).generation in let v = s.sound.valid.generations.1 in omega arith);
-      no_words = no_words_swept a s.sound f.close f.there f.arena (let v = f.visited in omega arith);
+      no_words = no_words_swept a s.sound f.walk f.there f.arena (let v = f.passed in omega arith);
     }
 
 -- ---- the slot is retired
@@ -165,8 +165,8 @@ module _ {pool : Pool} {o p m n : View} {s : Shutting} (can : CanSweep pool o s)
   its_next = empty.next
 
   -- The sweep is past the last part.
-  pub past_parts : visited_of n.sweeps s.arena ≡ Some (pool.shape.reach + 1)
-  past_parts = subst (λ (z : Shape). visited_of n.sweeps s.arena ≡ Some (z.reach + 1)) can.outside.of.1 empty.at
+  pub past_parts : passed_of n.sweeps s.arena ≡ Some (pool.shape.reach + 1)
+  past_parts = subst (λ (z : Shape). passed_of n.sweeps s.arena ≡ Some (z.reach + 1)) can.outside.of.1 empty.at
 
   module _ {q : View} (r : Retires n q s.arena) where
     retired_by : (b : Bool) → (s.arena.generation + 1 == o.shape.generations) ≡ b

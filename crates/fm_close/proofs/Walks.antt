@@ -7,12 +7,12 @@ use Rattle.fm_base.specs.declared.arena_id.ArenaId.{ArenaId}
 use Rattle.fm_base.specs.declared.refusal.Refusal.{Refusal}
 use Rattle.fm_base.specs.declared.refusal.Refusal.TheVariants as refusal
 use Rattle.fm_base.specs.Calls.{Shut, End, Fine, Entry, entry_of}
-use Rattle.fm_base.specs.Finds.{Close, Rest}
+use Rattle.fm_base.specs.Finds.{Close, Sweep, Rest}
 use Rattle.fm_base.specs.Does.{DoesClose}
 use Rattle.fm_base.specs.View.{but_loans}
 use Rattle.fm_pool_facts.specs.Hands.{Hand, nothing}
 use Rattle.fm_pool_facts.specs.Views.{View}
-use Rattle.fm_pool_facts.specs.Closes.{close_of, visited, dropped}
+use Rattle.fm_pool_facts.specs.Closes.{walk_of, advanced, dropped}
 use Rattle.fm_rule.specs.declared.pool.Pool.{Pool}
 use Rattle.fm_calls.specs.Kept.{Goes, rest_of, sweep_numbers, slots_told, HasEnded, HasNoWords}
 use Rattle.fm_calls.proofs.Going.{goes_then, lasts_on}
@@ -23,12 +23,12 @@ use Rattle.fm_close.specs.declared.outcome.Visit.{Visit}
 use Rattle.fm_close.specs.declared.outcome.Visit.TheVariants.{Next, Inside, Ended}
 use Rattle.fm_close.specs.Does.{IsBack, AreBacks, DoesShut}
 use Rattle.fm_close.specs.Learnt.{CanWalk, AfterShut, AfterVisit, Walked, AfterSweep, AfterClose}
-use Rattle.fm_close.proofs.Closes.{dropped-visited, dropped-begun}
+use Rattle.fm_close.proofs.Closes.{dropped-advanced, dropped-begun}
 
 -- ---- the walk
 
 -- One sweep more is told.
-told_more : (c : Close) (cs ds : List Close) (h k : Hand) → slots_told cs h ≡ slots_told ds k → slots_told (c ∷ cs) h ≡ slots_told (c ∷ ds) k
+told_more : (c : Sweep) (cs ds : List Sweep) (h k : Hand) → slots_told cs h ≡ slots_told ds k → slots_told (c ∷ cs) h ≡ slots_told (c ∷ ds) k
 unfolding slots_told
 told_more c cs ds h k e = ap (λ (ns : List ℕ). sweep_numbers (c ∷ []) ++ ns) e
 
@@ -42,13 +42,13 @@ more {p = p} {q = q} {r = r} {s = s} {t = t} cs g rest sweeps drops arena w =
     (λ (a : ArenaId). Goes q r (entry_of p.caller (End a) Fine ∷ [])) arena (subst
     (λ (c : Caller). Goes q r (entry_of c (End t.arena) Fine ∷ [])) g.same_caller w.goes) in
     let left : dropped t.arena q.closes ≡ dropped s.arena p.closes = ap (λ (a : ArenaId). dropped a q.closes) arena ∙ (ap (dropped s.arena) closes ∙ drops) in
-    let begun : close_of t.arena 0 ∷ q.sweeps ≡ close_of s.arena 0 ∷ p.sweeps = λ j. close_of (arena j) 0 ∷ sweeps j in
-    let numbers : slots_told (close_of t.arena 0 ∷ q.sweeps) q.hand ≡ slots_told (close_of s.arena 0 ∷ p.sweeps) p.hand =
-    told_more (close_of t.arena 0) q.sweeps p.sweeps q.hand p.hand (ap (λ (x : Rest). x.slots) rest)
-    ∙ ap (λ (a : ArenaId). slots_told (close_of a 0 ∷ p.sweeps) p.hand) arena in
+    let begun : walk_of t.arena 0 ∷ q.sweeps ≡ walk_of s.arena 0 ∷ p.sweeps = λ j. walk_of (arena j) 0 ∷ sweeps j in
+    let numbers : slots_told (walk_of t.arena 0 ∷ q.sweeps) q.hand ≡ slots_told (walk_of s.arena 0 ∷ p.sweeps) p.hand =
+    told_more (walk_of t.arena 0) q.sweeps p.sweeps q.hand p.hand (ap (λ (x : Rest). x.slots) rest)
+    ∙ ap (λ (a : ArenaId). slots_told (walk_of a 0 ∷ p.sweeps) p.hand) arena in
     record {
       goes = goes_then g end;
-      rest = w.rest ∙ (ap (λ (x : Rest). record x { closes = dropped t.arena q.closes; slots = slots_told (close_of t.arena 0 ∷ q.sweeps) q.hand }) rest
+      rest = w.rest ∙ (ap (λ (x : Rest). record x { closes = dropped t.arena q.closes; slots = slots_told (walk_of t.arena 0 ∷ q.sweeps) q.hand }) rest
           ∙ (λ j. record (rest_of p) { closes = left j; slots = numbers j }));
       sweeps = w.sweeps ∙ begun;
       arena = w.arena ∙ arena;
@@ -59,8 +59,8 @@ more {p = p} {q = q} {r = r} {s = s} {t = t} cs g rest sweeps drops arena w =
 -- A visit that isn't the last, and a walk.
 pub visit_then : {pool : Pool} {p q r : View} {s t u : Shutting} (v : Visit) → AfterVisit pool p q s t v → v ≢ Ended → Walked pool q r t u → Walked pool p r s u
 visit_then {p = p} {q = q} {s = s} Next a goes_on w =
-    more (visited s.arena p.closes) (subst (λ (es : List Entry). Goes p q es) a.did.does a.did.goes) a.did.rest a.sweeps
-    (dropped-visited p.closes s.arena) (ap (λ (x : Shutting). x.arena) a.close) w
+    more (advanced s.arena p.closes) (subst (λ (es : List Entry). Goes p q es) a.did.does a.did.goes) a.did.rest a.sweeps
+    (dropped-advanced p.closes s.arena) (ap (λ (x : Shutting). x.arena) a.close) w
 visit_then {p = p} {q = q} (Inside k) a goes_on w =
     more p.closes (subst (λ (es : List Entry). Goes p q es) a.did.does a.did.goes) a.did.rest a.sweeps refl (ap (λ (x : Shutting). x.arena) a.close) w
 visit_then Ended a goes_on w = absurd (goes_on refl)
@@ -127,7 +127,7 @@ finished {p = p} {q = q} {r = r} {s = s} {t = t} a is none w z =
     let d = z.did in
     let ends : Goes p q (entry_of p.caller (End a) Fine ∷ []) = subst (λ (i : ArenaId). Goes p q (entry_of p.caller (End i) Fine ∷ [])) is w.goes in
     let left : dropped t.arena q.sweeps ≡ p.sweeps =
-    ap (dropped t.arena) (w.sweeps ∙ (λ j. close_of (sym w.arena j) 0 ∷ p.sweeps)) ∙ dropped-begun p.sweeps t.arena in
+    ap (dropped t.arena) (w.sweeps ∙ (λ j. walk_of (sym w.arena j) 0 ∷ p.sweeps)) ∙ dropped-begun p.sweeps t.arena in
     let hand : q.hand ≡ p.hand = w.ends.outside.no_slot ∙ sym none in
     record {
       backs = d.own;
@@ -149,7 +149,7 @@ after_walk {p = p} {q = q} {r = r} {a = a} {s = s} u h w =
     let g : Goes p q (entry_of p.caller (Shut a) Fine ∷ []) = subst (λ (es : List Entry). Goes p q es) does.3 h.did.goes in
     let end : Goes q r (entry_of p.caller (End a) Fine ∷ w.backs) =
     subst (λ (x : Caller × ArenaId). Goes q r (entry_of x.0 (End x.1) Fine ∷ w.backs)) (λ j. (g.same_caller j, arena j)) w.goes in
-    let closes : q.closes ≡ close_of a 0 ∷ p.closes = ap (λ (x : Rest). x.closes) h.did.rest in
+    let closes : q.closes ≡ walk_of a 0 ∷ p.closes = ap (λ (x : Rest). x.closes) h.did.rest in
     let left : dropped s.arena q.closes ≡ p.closes = ap (λ (i : ArenaId). dropped i q.closes) arena ∙ (ap (dropped a) closes ∙ dropped-begun p.closes a) in
     let all = goes_then g end in
     record {

@@ -6,10 +6,10 @@ use Rattle.fm_base.specs.declared.refusal.Refusal.{Refusal}
 use Rattle.fm_base.specs.declared.refusal.Refusal.TheVariants.{WrongThread, CannotClose}
 use Rattle.fm_base.specs.Calls.{End, Fine, Entry, entry_of}
 use Rattle.fm_base.specs.Does.{DoesClose, DoesGiveBack}
-use Rattle.fm_base.specs.Finds.{Close, Find, Visits}
+use Rattle.fm_base.specs.Finds.{Close, Sweep, Find, Visits}
 use Rattle.fm_base.specs.View.{but_loans}
 use Rattle.fm_pool_facts.specs.Views.{View, In, IsKnown}
-use Rattle.fm_pool_facts.specs.Closes.{close_of, visited_of, visited, dropped}
+use Rattle.fm_pool_facts.specs.Closes.{walk_of, passed_of, advanced, dropped}
 use Rattle.fm_pool_facts.specs.Steps.{is_clear}
 use Rattle.fm_pool_facts.specs.Words.{mark_of, alive_holds}
 use Rattle.fm_pool_facts.specs.Holds.{released}
@@ -32,7 +32,7 @@ pub record IsUnderWay (p : View) (s : Shutting) : Type 0 where
   pub maker : s.maker ≡ made_by_pass p
   pub unfinished : s.ended ≡ false
   pub known : IsKnown p s.arena
-  pub at : visited_of p.closes s.arena ≡ Some s.next
+  pub at : passed_of p.closes s.arena ≡ Some s.next
   pub low : s.next < p.shape.passes
 
 pub record CanWalk (pool : Pool) (p : View) (s : Shutting) : Type 0 where
@@ -43,7 +43,7 @@ pub record CanWalk (pool : Pool) (p : View) (s : Shutting) : Type 0 where
 pub record IsToSweep (p : View) (s : Shutting) : Type 0 where
   pub maker : s.maker ≡ made_by_pass p
   pub ended : s.ended ≡ true
-  pub at : visited_of p.sweeps s.arena ≡ Some 0
+  pub at : passed_of p.sweeps s.arena ≡ Some 0
 
 pub record CanSweep (pool : Pool) (p : View) (s : Shutting) : Type 0 where
   pub outside : IsOutside pool p
@@ -58,7 +58,7 @@ pub record CanGiveBack (pool : Pool) (p : View) (id : ArenaId) : Type 0 where
 
 -- the closes of a pass after `shut`
 abbrev pub closes_shut : ArenaId → Result Shutting Refusal → List Close → List Close
-closes_shut id (Ok s) cs = close_of id 0 ∷ cs
+closes_shut id (Ok s) cs = walk_of id 0 ∷ cs
 closes_shut id (Err r) cs = cs
 
 -- of `shut`
@@ -74,15 +74,15 @@ pub record AfterShut (pool : Pool) (old new : View) (id : ArenaId) (result : Res
 
 -- the closes of a pass after a visit
 abbrev pub closes_visited : ArenaId → Visit → List Close → List Close
-closes_visited id Next cs = visited id cs
+closes_visited id Next cs = advanced id cs
 closes_visited id (Inside k) cs = cs
 closes_visited id Ended cs = dropped id cs
 
 -- the arenas that a pass has to sweep after a visit
-abbrev pub sweeps_visited : ArenaId → Visit → List Close → List Close
+abbrev pub sweeps_visited : ArenaId → Visit → List Sweep → List Sweep
 sweeps_visited id Next cs = cs
 sweeps_visited id (Inside k) cs = cs
-sweeps_visited id Ended cs = close_of id 0 ∷ cs
+sweeps_visited id Ended cs = walk_of id 0 ∷ cs
 
 -- what stands of the close after a visit
 abbrev pub StandsAfter : View → Shutting → Visit → Type 0
@@ -118,9 +118,9 @@ pub record Walked (pool : Pool) (old new : View) (s t : Shutting) : Type 0 where
   pub goes : Goes old new (entry_of old.caller (End s.arena) Fine ∷ [])
   pub rest : rest_of new ≡ record (rest_of old) {
     closes = dropped s.arena old.closes;
-    slots = slots_told (close_of s.arena 0 ∷ old.sweeps) old.hand;
+    slots = slots_told (walk_of s.arena 0 ∷ old.sweeps) old.hand;
   }
-  pub sweeps : new.sweeps ≡ close_of s.arena 0 ∷ old.sweeps
+  pub sweeps : new.sweeps ≡ walk_of s.arena 0 ∷ old.sweeps
   pub arena : t.arena ≡ s.arena
   pub ends : CanSweep pool new t
   pub over : HasEnded new s.arena
@@ -161,7 +161,7 @@ pub record AfterBack (old new : View) (id : ArenaId) (word : ℕ) : Type 0 where
 -- the closes of a pass after a handle was spent
 abbrev pub closes_spent : ArenaId → Option Shutting → List Close → List Close
 closes_spent id None cs = cs
-closes_spent id (Some s) cs = close_of id 0 ∷ cs
+closes_spent id (Some s) cs = walk_of id 0 ∷ cs
 
 -- of a handle that is spent
 pub record AfterSpend (pool : Pool) (old new : View) (id : ArenaId) (result : Option Shutting) : Type 0 where

@@ -2,15 +2,15 @@
 use Rattle.std.specs.Prelude.{◌≡◌, ℕ, List, Some}
 use Rattle.fm_base.specs.declared.arena_id.ArenaId.{ArenaId}
 use Rattle.fm_base.specs.Calls.{Entry}
-use Rattle.fm_base.specs.Finds.{Close}
+use Rattle.fm_base.specs.Finds.{Sweep}
 use Rattle.fm_pool_facts.specs.Parts.{Swept, unread}
 use Rattle.fm_pool_facts.specs.Views.{View}
-use Rattle.fm_pool_facts.specs.Closes.{visited_of, visited, dropped}
+use Rattle.fm_pool_facts.specs.Closes.{passed_of, advanced, dropped}
 use Rattle.fm_calls.specs.Kept.{Goes}
 use Rattle.fm_close.specs.Does.{AreBacks}
 
 -- the pass has these sweeps now, and has come so far with the next part; it is else as it was, but for what it has seen
-pub record SweepsOn (old new : View) (own : List Entry) (swept : Swept) (sweeps : List Close) : Type 0 where
+pub record SweepsOn (old new : View) (own : List Entry) (swept : Swept) (sweeps : List Sweep) : Type 0 where
   pub goes : Goes old new own
   pub is : new ≡ record old { seen = new.seen; finds = new.finds; swept = swept; sweeps = sweeps }
 
@@ -18,12 +18,12 @@ pub record SweepsOn (old new : View) (own : List Entry) (swept : Swept) (sweeps 
 pub record PartTaken (old new : View) (id : ArenaId) : Type 0 where
   pub own : List Entry
   pub backs : AreBacks old.caller own
-  pub goes_on : SweepsOn old new own unread (visited id old.sweeps)
+  pub goes_on : SweepsOn old new own unread (advanced id old.sweeps)
 
 -- so many parts of the arena have no page any more
 pub record PartsTaken (old new : View) (id : ArenaId) (parts : ℕ) : Type 0 where
   pub own : List Entry
   pub backs : AreBacks old.caller own
   pub goes_on : SweepsOn old new own unread new.sweeps
-  pub at : visited_of new.sweeps id ≡ Some parts
+  pub at : passed_of new.sweeps id ≡ Some parts
   pub left : dropped id new.sweeps ≡ dropped id old.sweeps

@@ -1,7 +1,7 @@
 ghost use Rattle.std.specs.Prelude.{◌≡◌, ◌⊎◌, ◌<◌, ◌≤◌, ◌+◌, ◌*◌, [], Some};
 ghost use Rattle.fm_pool_facts.specs.Parts.{unread, wiping};
 ghost use Rattle.fm_pool_facts.specs.Views.{IsSound, given_of};
-ghost use Rattle.fm_pool_facts.specs.Closes.{visited_of};
+ghost use Rattle.fm_pool_facts.specs.Closes.{passed_of};
 ghost use Rattle.fm_rule.specs.Passes.{IsOf};
 ghost use Rattle.fm_close.specs.Learnt.{AfterSweep, CanSweep};
 ghost use Rattle.fm_close.specs.Sweeps.{SweepsOn, PartTaken, PartsTaken};
@@ -42,7 +42,7 @@ pub fn sweep(pool: &Pool, pass: &mut Pass, s: Shutting)
 fn take_pages_back(pool: &Pool, pass: &mut Pass, a: ArenaId, given: u64)
     requires of { IsOf pool.now pass.old }
     requires sound { IsSound pass.old }
-    requires begun { visited_of pass.old.sweeps a ≡ Some 0 }
+    requires begun { passed_of pass.old.sweeps a ≡ Some 0 }
     requires idle { pass.old.swept ≡ unread }
     requires gave { given_of pass.old a ≡ given }
     ensures { PartsTaken pass.old pass.new a pool.now.shape.reach }
@@ -56,7 +56,7 @@ fn take_pages_back(pool: &Pool, pass: &mut Pass, a: ArenaId, given: u64)
 fn take_back(pool: &Pool, pass: &mut Pass, a: ArenaId, part: u32, given: u64)
     requires of { IsOf pool.now pass.old }
     requires sound { IsSound pass.old }
-    requires sweep { visited_of pass.old.sweeps a ≡ Some part }
+    requires sweep { passed_of pass.old.sweeps a ≡ Some part }
     requires low { part < pool.now.shape.reach }
     requires idle { pass.old.swept ≡ unread }
     requires gave { given_of pass.old a ≡ given }
@@ -89,7 +89,7 @@ fn given_words(given: u64, part: u32, size: u32) -> u32
 fn wipe(pool: &Pool, pass: &mut Pass, a: ArenaId, part: u32, page: u32, words: u32)
     requires of { IsOf pool.now pass.old }
     requires sound { IsSound pass.old }
-    requires sweep { visited_of pass.old.sweeps a ≡ Some part }
+    requires sweep { passed_of pass.old.sweeps a ≡ Some part }
     requires low { part < pool.now.shape.reach }
     requires begun { pass.old.swept ≡ wiping a part page 0 }
     requires few { words ≤ pool.now.shape.page_words }

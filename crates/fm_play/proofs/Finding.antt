@@ -6,7 +6,7 @@ use Rattle.std.proofs.lemmas.List.{append-nil}
 use Rattle.std.proofs.lemmas.List.Elements.{filter-append}
 use Rattle.fm_base.specs.declared.caller.Caller.{Caller}
 use Rattle.fm_base.specs.Calls.{Entry}
-use Rattle.fm_base.specs.Finds.{Close, Find, Gathered, Rest, is_slot}
+use Rattle.fm_base.specs.Finds.{Sweep, Find, Gathered, Rest, is_slot}
 use Rattle.fm_base.specs.Histories.{made_by}
 use Rattle.fm_pool_facts.specs.Hands.{Hand, nothing, taken, learnt, retired}
 use Rattle.fm_pool_facts.specs.Splits.{as_gathered}
@@ -34,7 +34,7 @@ pub no_slot_still : {p q : View} {own : List Entry} → Went p q own → HasNoSl
 no_slot_still w none = ap (λ (x : Rest). x.slots) w.rest ∙ none
 
 -- What is told of slots tells of the one in the hand.
-pub none_held : (cs : List Close) (hand : Hand) → slots_told cs hand ≡ [] → hand ≡ nothing
+pub none_held : (cs : List Sweep) (hand : Hand) → slots_told cs hand ≡ [] → hand ≡ nothing
 unfolding slots_told
 none_held [] nothing e = refl
 none_held [] (taken slot) e = absurd (cc)

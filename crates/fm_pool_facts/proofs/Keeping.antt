@@ -11,7 +11,7 @@ use Rattle.fm_words.specs.declared.shape.Shape.{Shape}
 use Rattle.fm_base.specs.declared.caller.Caller.{Caller}
 use Rattle.fm_base.specs.Calls.{Entry}
 use Rattle.fm_base.specs.Histories.{made_by}
-use Rattle.fm_base.specs.Finds.{Gathered, Close}
+use Rattle.fm_base.specs.Finds.{Gathered, Close, Sweep}
 use Rattle.fm_depicts.specs.Functions.{Machine}
 use Rattle.fm_depicts.specs.Steps.{moved_by}
 use Rattle.fm_pool_facts.specs.Views.{Met, View, In, all_gathered, brought, limit_of}
@@ -99,12 +99,12 @@ module _ (limit : ℕ) (h : List Entry) (c : Caller) (t : Machine) (es : List En
   closing_on j o o' x k e z = record {
     owner = e ∙ k.owner;
     life = still_closing limit c x.arena es t ok k.life z;
-    visited = λ i l. none_come limit c i x.arena es t ok k.life z (k.visited i l);
+    passed = λ i l. none_come limit c i x.arena es t ok k.life z (k.passed i l);
   }
 
 -- a sweep goes on where nothing of its arena was changed
 pub sweeping_on : (limit : ℕ) (c : Caller) (m : Memory) (t : Machine) (es : List Entry) (m' : Memory) → MayMake limit t c es
-    → ((k : Caller) (a : ArenaId) → t.inside k ≡ Some a → IsStanding (t.life a)) → (z : Shape) (j : ℕ) (o o' : Owners) (x : Close)
+    → ((k : Caller) (a : ArenaId) → t.inside k ≡ Some a → IsStanding (t.life a)) → (z : Shape) (j : ℕ) (o o' : Owners) (x : Sweep)
     → IsSweeping z m t o j x → o'.closer x.arena ≡ o.closer x.arena → StaysEnded m m' x.arena → IsSweeping z m' (moved_by t es) o' j x
 sweeping_on limit c m t es m' ok stands z j o o' x k e s = record {
   owner = e ∙ k.owner;
@@ -120,9 +120,9 @@ sweeping_on limit c m t es m' ok stands z j o o' x k e s = record {
 pub closing_as : {t : Machine} {o : Owners} {j : ℕ} {c : Close} {who : ℕ → Caller} {rank seat : Caller → ℕ} {number holder : ℕ → ℕ}
     {taker : ℕ → Option Caller} → IsClosing t o j c
     → IsClosing t (record o { who = who; rank = rank; seat = seat; number = number; holder = holder; taker = taker }) j c
-closing_as y = record { owner = y.owner; life = y.life; visited = y.visited }
+closing_as y = record { owner = y.owner; life = y.life; passed = y.passed }
 
-pub sweeping_as : {z : Shape} {m : Memory} {t : Machine} {o : Owners} {j : ℕ} {c : Close} {draw bits : ℕ} {numbers terms : ℕ → ℕ} {who : ℕ → Caller}
+pub sweeping_as : {z : Shape} {m : Memory} {t : Machine} {o : Owners} {j : ℕ} {c : Sweep} {draw bits : ℕ} {numbers terms : ℕ → ℕ} {who : ℕ → Caller}
     {rank seat : Caller → ℕ} {number holder : ℕ → ℕ} {taker : ℕ → Option Caller}
     → IsSweeping z m t o j c → IsSweeping z (record m { draw = draw; bits = bits; numbers = numbers; terms = terms }) t
     (record o { who = who; rank = rank; seat = seat; number = number; holder = holder; taker = taker }) j c
@@ -214,8 +214,8 @@ module _ (z : Shape) (h : List Entry) (me : ℕ) (c : Caller) (m : Memory) (t : 
 
       maps_of : (a : ArenaId) (i : ℕ) → IsNext v.sweeps a i → m'.maps a.slot i ≡ m.maps a.slot i
       maps_of a i n =
-          let y = k.sweeps n.close n.there in
-          let w = d.sweepers n.close.arena y.life y.session (λ e. other (sym y.owner ∙ e)) in
+          let y = k.sweeps n.sweep n.there in
+          let w = d.sweepers n.sweep.arena y.life y.session (λ e. other (sym y.owner ∙ e)) in
           subst (λ (b : ArenaId). m'.maps b.slot i ≡ m.maps b.slot i) n.arena (w.1.maps i)
 
       go : (s : Swept) → HasSwept z m.maps m.cells o.berth j v.sweeps s → HasSwept z m'.maps m'.cells o'.berth j v.sweeps s

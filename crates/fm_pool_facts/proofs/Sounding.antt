@@ -9,7 +9,7 @@ use Rattle.fm_base.specs.declared.arena_id.ArenaId.{ArenaId}
 use Rattle.fm_base.specs.Arenas.{only_caller, Life, Alive, Closing, Ended, State, IsUnderWay, has_arena, arena_of}
 use Rattle.fm_base.specs.Calls.{Entry}
 use Rattle.fm_base.specs.Histories.{IsLegal, state_after, made_by}
-use Rattle.fm_base.specs.Finds.{Gathered, Close}
+use Rattle.fm_base.specs.Finds.{Gathered, Sweep}
 use Rattle.std.proofs.lemmas.Bool.{cases_lt}
 use Rattle.fm_pool_facts.specs.Berths.{LentAt}
 use Rattle.fm_pool_facts.specs.Parts.{wiping}
@@ -77,13 +77,13 @@ nobody (k ∷ ks) n = absurd (n k (contains_first ks k))
 
 -- ---- loans
 
--- closes of one arena are one
-one_close : (cs : List Close) → IsOnce (λ (c : Close). c.arena) cs → (c d : Close) → In c cs → In d cs → c.arena ≡ d.arena → c ≡ d
-one_close [] o c d i j e = absurd i
-one_close (x ∷ xs) o c d (inl i) (inl j) e = i ∙ sym j
-one_close (x ∷ xs) o c d (inl i) (inr j) e = absurd (o.0 d j (sym e ∙ ap (λ (y : Close). y.arena) i))
-one_close (x ∷ xs) o c d (inr i) (inl j) e = absurd (o.0 c i (e ∙ ap (λ (y : Close). y.arena) j))
-one_close (x ∷ xs) o c d (inr i) (inr j) e = one_close xs o.1 c d i j e
+-- sweeps of one arena are one
+one_sweep : (cs : List Sweep) → IsOnce (λ (c : Sweep). c.arena) cs → (c d : Sweep) → In c cs → In d cs → c.arena ≡ d.arena → c ≡ d
+one_sweep [] o c d i j e = absurd i
+one_sweep (x ∷ xs) o c d (inl i) (inl j) e = i ∙ sym j
+one_sweep (x ∷ xs) o c d (inl i) (inr j) e = absurd (o.0 d j (sym e ∙ ap (λ (y : Sweep). y.arena) i))
+one_sweep (x ∷ xs) o c d (inr i) (inl j) e = absurd (o.0 c i (e ∙ ap (λ (y : Sweep). y.arena) j))
+one_sweep (x ∷ xs) o c d (inr i) (inr j) e = one_sweep xs o.1 c d i j e
 
 module _ (z : Shape) (ws : List ℕ) (vs : List View) (r : Rule z ws vs) where
   -- a loan is of a page of the pool, as a part that arenas have
@@ -97,8 +97,8 @@ module _ (z : Shape) (ws : List ℕ) (vs : List View) (r : Rule z ws vs) where
       go (unmapped j a i) e q = let y = r.pages.unmapped_is l.block j i a e in (y.page, subst (λ (x : ℕ). x < z.reach) (sym q.1) y.part)
 
   -- of an arena that is swept at the seat, parts that have no page any more aren't lent
-  loan_left : (me : ℕ) (v : View) → get_elem? vs me ≡ some v → v.live ≡ true → (c : Close) → In c v.sweeps → (l : Loan) → Contains (lent r.history) l
-      → l.id ≡ c.arena → c.visited ≤ l.part
+  loan_left : (me : ℕ) (v : View) → get_elem? vs me ≡ some v → v.live ≡ true → (c : Sweep) → In c v.sweeps → (l : Loan) → Contains (lent r.history) l
+      → l.id ≡ c.arena → c.passed ≤ l.part
   loan_left me v at live c i l h same = go (r.owners.berth l.block) refl (r.pages.lent_is l h)
     where
       mine : Owns z r.history r.memory r.machine r.owners me v
@@ -107,30 +107,30 @@ module _ (z : Shape) (ws : List ℕ) (vs : List View) (r : Rule z ws vs) where
       its : IsSweeping z r.memory r.machine r.owners me c
       its = mine.sweeps c i
 
-      go : (b : Berth) → r.owners.berth l.block ≡ b → LentAt b l → c.visited ≤ l.part
+      go : (b : Berth) → r.owners.berth l.block ≡ b → LentAt b l → c.passed ≤ l.part
       go loose e q = absurd q
       go (claimed j) e q = absurd q
       go (mapped k p) e q = ⊎_elim
-          (λ (low : l.part < c.visited).
+          (λ (low : l.part < c.passed).
           let none : r.memory.maps c.arena.slot l.part ≡ None = its.parts l.part low in
           let here : r.memory.maps c.arena.slot l.part ≡ Some l.block =
           (λ n. r.memory.maps (ap (λ (x : ArenaId). x.slot) (sym same) n) l.part)
           ∙ ((λ n. r.memory.maps (q.0 n) (q.1 n)) ∙ (r.pages.mapped_is l.block k p e).named) in
           absurd (let f : None ≡ Some l.block = sym none ∙ here in cc))
-          (λ (high : c.visited ≤ l.part). high)
-          (cases_lt l.part c.visited)
+          (λ (high : c.passed ≤ l.part). high)
+          (cases_lt l.part c.passed)
       go (unmapped j a p) e q =
           let y = r.berths l.block j (subst (IsAt j) (sym e) refl) in
           let has : (y.view.live ≡ true) × ((w : ℕ) × (y.view.swept ≡ wiping a p l.block w)) = subst (λ (b : Berth). HasPage l.block b y.view) e y.holds in
           let its' = (r.each j y.view y.there).owns has.0 in
           let s : IsWiped z r.memory.maps r.memory.cells r.owners.berth j y.view.sweeps a p l.block has.1.0 =
           subst (HasSwept z r.memory.maps r.memory.cells r.owners.berth j y.view.sweeps) has.1.1 its'.pages.sweep in
-          let arenas : s.next.close.arena ≡ c.arena = s.next.arena ∙ (sym q.0 ∙ same) in
-          let seats : j ≡ me = sym (its'.sweeps s.next.close s.next.there).owner ∙ (ap r.owners.closer arenas ∙ its.owner) in
+          let arenas : s.next.sweep.arena ≡ c.arena = s.next.arena ∙ (sym q.0 ∙ same) in
+          let seats : j ≡ me = sym (its'.sweeps s.next.sweep s.next.there).owner ∙ (ap r.owners.closer arenas ∙ its.owner) in
           let views : y.view ≡ v = some-injective y.view v (sym y.there ∙ (ap (get_elem? vs) seats ∙ at)) in
-          let there : In s.next.close v.sweeps = subst (λ (u : View). In s.next.close u.sweeps) views s.next.there in
-          let one : c ≡ s.next.close = one_close v.sweeps mine.swept_once c s.next.close i there (sym arenas) in
-          let n : c.visited ≡ l.part = ap (λ (x : Close). x.visited) one ∙ (s.next.visited ∙ sym q.1) in omega arith
+          let there : In s.next.sweep v.sweeps = subst (λ (u : View). In s.next.sweep u.sweeps) views s.next.there in
+          let one : c ≡ s.next.sweep = one_sweep v.sweeps mine.swept_once c s.next.sweep i there (sym arenas) in
+          let n : c.passed ≡ l.part = ap (λ (x : Sweep). x.passed) one ∙ (s.next.passed ∙ sym q.1) in omega arith
 
 -- ---- a pass
 

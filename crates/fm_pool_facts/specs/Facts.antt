@@ -9,7 +9,7 @@ use Rattle.fm_base.specs.declared.arena_id.ArenaId.{ArenaId}
 use Rattle.fm_base.specs.Calls.{Entry}
 use Rattle.fm_base.specs.Histories.{IsLegal, state_after, made_by}
 use Rattle.fm_pool_facts.specs.Loans.{lent, IsRightlyLent}
-use Rattle.fm_base.specs.Finds.{Find, Gathered, Close, is_draw, is_number, group_of}
+use Rattle.fm_base.specs.Finds.{Find, Gathered, Close, Sweep, is_draw, is_number, group_of}
 use Rattle.fm_depicts.specs.Functions.{Stage, Fresh, Lives, Closes, Over, Machine, Depicts}
 use Rattle.std.specs.Int.{bit_at}
 use Rattle.fm_pool_facts.specs.Hands.{Hand, nothing, taken, learnt, retired, HasSlot, IsTaker, Number, no_number, number_taken, number_learnt, number_drawn, number_left, number_joined, HasNumberIn, last_term, most_draws}
@@ -106,34 +106,34 @@ pub record Owners : Type 0 where
 pub record IsClosing (t : Machine) (o : Owners) (j : ℕ) (c : Close) : Type 0 where
   pub owner : o.closer c.arena ≡ j
   pub life : t.life c.arena ≡ Closes
-  pub visited : (k : Caller) → k.number < c.visited → t.inside k ≢ Some c.arena
+  pub passed : (k : Caller) → k.number < c.passed → t.inside k ≢ Some c.arena
 
 -- an arena at the seat j that ended and isn't retired
-pub record IsSweeping (z : Shape) (m : Memory) (t : Machine) (o : Owners) (j : ℕ) (c : Close) : Type 0 where
+pub record IsSweeping (z : Shape) (m : Memory) (t : Machine) (o : Owners) (j : ℕ) (c : Sweep) : Type 0 where
   pub owner : o.closer c.arena ≡ j
   pub life : t.life c.arena ≡ Over
   pub session : m.sessions c.arena.slot ≡ shut c.arena
-  pub parts : (i : ℕ) → i < c.visited → m.maps c.arena.slot i ≡ None
+  pub parts : (i : ℕ) → i < c.passed → m.maps c.arena.slot i ≡ None
   -- the given word shows what it gave, until it is reset
-  pub count : c.visited ≤ z.reach → m.given c.arena.slot ≡ t.given c.arena
-  pub reset : z.reach < c.visited → m.given c.arena.slot ≡ 0
+  pub count : c.passed ≤ z.reach → m.given c.arena.slot ≡ t.given c.arena
+  pub reset : z.reach < c.passed → m.given c.arena.slot ≡ 0
 
 -- the part is the next one of the arena's sweep
-pub record IsNext (sweeps : List Close) (a : ArenaId) (i : ℕ) : Type 0 where
-  pub close : Close
-  pub there : In close sweeps
-  pub arena : close.arena ≡ a
-  pub visited : close.visited ≡ i
+pub record IsNext (sweeps : List Sweep) (a : ArenaId) (i : ℕ) : Type 0 where
+  pub sweep : Sweep
+  pub there : In sweep sweeps
+  pub arena : sweep.arena ≡ a
+  pub passed : sweep.passed ≡ i
 
 -- a page that the sweep at the seat j has, of which so many words are 0
-pub record IsWiped (z : Shape) (maps : ℕ → ℕ → Option ℕ) (cells : ℕ → ℕ → ℕ) (berth : ℕ → Berth) (j : ℕ) (sweeps : List Close) (a : ArenaId) (i p w : ℕ)
+pub record IsWiped (z : Shape) (maps : ℕ → ℕ → Option ℕ) (cells : ℕ → ℕ → ℕ) (berth : ℕ → Berth) (j : ℕ) (sweeps : List Sweep) (a : ArenaId) (i p w : ℕ)
     : Type 0 where
   pub next : IsNext sweeps a i
   pub owner : berth p ≡ unmapped j a i
   pub empty : maps a.slot i ≡ None
   pub wiped : (o : ℕ) → o < w → o < z.page_words → cells p o ≡ 0
 
-abbrev pub HasSwept : (z : Shape) (maps : ℕ → ℕ → Option ℕ) (cells : ℕ → ℕ → ℕ) (berth : ℕ → Berth) (j : ℕ) (sweeps : List Close) → Swept → Type 0
+abbrev pub HasSwept : (z : Shape) (maps : ℕ → ℕ → Option ℕ) (cells : ℕ → ℕ → ℕ) (berth : ℕ → Berth) (j : ℕ) (sweeps : List Sweep) → Swept → Type 0
 HasSwept z maps cells berth j sweeps unread = Unit {0}
 HasSwept z maps cells berth j sweeps (named a i p) = IsNext sweeps a i × (maps a.slot i ≡ Some p)
 HasSwept z maps cells berth j sweeps (wiping a i p w) = IsWiped z maps cells berth j sweeps a i p w
@@ -144,7 +144,7 @@ IsLone ps = (ps ≡ []) ⊎ ((p : ℕ) × (ps ≡ p ∷ []))
 
 -- what the seat j knows of pages
 pub record HasPages (z : Shape) (maps : ℕ → ℕ → Option ℕ) (cells : ℕ → ℕ → ℕ) (berth : ℕ → Berth) (j : ℕ) (inside : Option ArenaId)
-    (reads : List Mapping) (pages : List ℕ) (sweeps : List Close)
+    (reads : List Mapping) (pages : List ℕ) (sweeps : List Sweep)
     (swept : Swept) : Type 0 where
   -- what it has read in a map word stands there, while it is under way
   pub read : (a : ArenaId) → inside ≡ Some a → (x : Mapping) → In x reads → maps a.slot x.part ≡ Some x.page
@@ -238,8 +238,8 @@ pub record Owns (z : Shape) (h : List Entry) (m : Memory) (t : Machine) (o : Own
   pub mark : m.marks v.caller.number ≡ v.mark
   pub closes : (c : Close) → In c v.closes → IsClosing t o j c
   pub once : IsOnce (λ (c : Close). c.arena) v.closes
-  pub sweeps : (c : Close) → In c v.sweeps → IsSweeping z m t o j c
-  pub swept_once : IsOnce (λ (c : Close). c.arena) v.sweeps
+  pub sweeps : (c : Sweep) → In c v.sweeps → IsSweeping z m t o j c
+  pub swept_once : IsOnce (λ (c : Sweep). c.arena) v.sweeps
   pub hand : HasInHand z m.bits m.sessions o.holder j v.hand
   pub took : IsTaker o.taker v.caller v.hand
   pub pages : HasPages z m.maps m.cells o.berth j v.inside v.reads v.pages v.sweeps v.swept
@@ -308,7 +308,7 @@ abbrev pub HasClose : ArenaId → View → Type 0
 HasClose a v = (v.live ≡ true) × ((c : Close) × In c v.closes × (c.arena ≡ a))
 
 abbrev pub HasSweep : ArenaId → View → Type 0
-HasSweep a v = (v.live ≡ true) × ((c : Close) × In c v.sweeps × (c.arena ≡ a))
+HasSweep a v = (v.live ≡ true) × ((c : Sweep) × In c v.sweeps × (c.arena ≡ a))
 
 abbrev pub KeepsSlot : ℕ → View → Type 0
 KeepsSlot s v = (v.live ≡ true) × HasSlot s v.hand

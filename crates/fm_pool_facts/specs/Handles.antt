@@ -7,7 +7,7 @@ use Rattle.fm_base.specs.Finds.{Close}
 use Rattle.fm_pool_facts.specs.Views.{View}
 use Rattle.fm_pool_facts.specs.Words.{alive_holds, closing_word}
 use Rattle.fm_pool_facts.specs.Holds.{released}
-use Rattle.fm_pool_facts.specs.Closes.{close_of}
+use Rattle.fm_pool_facts.specs.Closes.{walk_of}
 
 -- what comes of it
 pub data Giving : Type 0 where
@@ -41,7 +41,7 @@ handles_given a Last hs = released a hs
 abbrev pub closes_given : ArenaId → Giving → List Close → List Close
 closes_given a Missed cs = cs
 closes_given a Kept cs = cs
-closes_given a Last cs = close_of a 0 ∷ cs
+closes_given a Last cs = walk_of a 0 ∷ cs
 
 abbrev pub given_back : ArenaId → Giving → View → View
 given_back a g v = record v { closes = closes_given a g v.closes; handles = handles_given a g v.handles }

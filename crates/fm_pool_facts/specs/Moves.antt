@@ -8,7 +8,7 @@ use Rattle.fm_base.specs.declared.arena_id.ArenaId.{ArenaId}
 use Rattle.fm_base.specs.Calls.{Call, Read, Write, SwapIf, Add, End, Lend, Back, Entry}
 use Rattle.fm_base.specs.Histories.{made_by}
 use Rattle.fm_pool_facts.specs.Loans.{lent, Loan, loan_of, loans_by, IsFree, HasPart}
-use Rattle.fm_base.specs.Finds.{Find, Gathered, Close, is_draw}
+use Rattle.fm_base.specs.Finds.{Find, Gathered, Close, Sweep, is_draw}
 use Rattle.fm_depicts.specs.Functions.{Fresh, Closes, Over, Machine, moved, MayBy, reply_by}
 use Rattle.std.specs.Int.{bit_at}
 use Rattle.fm_pool_facts.specs.Hands.{nothing, IsTaker, number_drawn, HasNumberIn, last_term, most_draws}
@@ -146,8 +146,8 @@ pub record Part (z : Shape) (h : List Entry) (v : View) (m : Memory) (t : Machin
   pub mark : m.marks p.caller.number ≡ p.mark
   pub closes : (c : Close) → In c p.closes → IsClosing t o j c
   pub once : IsOnce (λ (c : Close). c.arena) p.closes
-  pub sweeps : (c : Close) → In c p.sweeps → IsSweeping z m t o j c
-  pub swept_once : IsOnce (λ (c : Close). c.arena) p.sweeps
+  pub sweeps : (c : Sweep) → In c p.sweeps → IsSweeping z m t o j c
+  pub swept_once : IsOnce (λ (c : Sweep). c.arena) p.sweeps
   pub hand : HasInHand z m.bits m.sessions o.holder j p.hand
   pub took : IsTaker o.taker p.caller p.hand
   pub pages : HasPages z m.maps m.cells o.berth j p.inside p.reads p.pages p.sweeps p.swept

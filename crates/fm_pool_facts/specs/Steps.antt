@@ -16,7 +16,7 @@ use Rattle.fm_pool_facts.specs.Views.{View, In, IsSound, given_of, limit_of}
 use Rattle.fm_pool_facts.specs.Words.{alive_holds, enter_found, inside_found, shut_found, hold_found}
 use Rattle.fm_pool_facts.specs.Holds.{grips, with_grips, holds_after, handles_with, released}
 use Rattle.fm_pool_facts.specs.Handles.{giving, given_back, giving_entries}
-use Rattle.fm_pool_facts.specs.Closes.{begun, visited, dropped, visit_found, closes_after, sweeps_after, visit_entries}
+use Rattle.fm_pool_facts.specs.Closes.{begun, advanced, dropped, visit_found, closes_after, sweeps_after, visit_entries}
 
 -- ---- what a step does
 
@@ -145,12 +145,12 @@ part (Claims group expected bit) v x = record v { pages = pages_taken (takes exp
 part (Maps a i p) v x = record v { reads = reads_mapped i p x v.reads; pages = pages_mapped x v.pages }
 part (ReadsMap a i) v x = record v { reads = reads_after i x v.reads }
 part (SweepsGiven a) v x = v
-part (SweepsMap a i) v x = record v { swept = swept_read a i x; sweeps = if x == 0 then visited a v.sweeps else v.sweeps }
+part (SweepsMap a i) v x = record v { swept = swept_read a i x; sweeps = if x == 0 then advanced a v.sweeps else v.sweeps }
 part (Unmaps a i p) v x = record v { swept = wiping a i p 0 }
 part (Wipes a i p w) v x = record v { swept = wiping a i p (w + 1) }
 part (GivesPage p) v x = record v { pages = [] }
-part (ReturnsPage a p) v x = record v { swept = unread; sweeps = visited a v.sweeps }
-part (ResetsGiven a) v x = record v { sweeps = visited a v.sweeps }
+part (ReturnsPage a p) v x = record v { swept = unread; sweeps = advanced a v.sweeps }
+part (ResetsGiven a) v x = record v { sweeps = advanced a v.sweeps }
 part (Retires a) v x = record v { sweeps = dropped a v.sweeps; hand = hand_retired (a.generation + 1 == v.shape.generations) a.slot v.hand }
 part (GivesSlot slot) v x = record v { hand = nothing }
 part (TakesNumber group expected bit) v x = record v { number = number_taken_by (takes expected bit x) (number_at group bit) v.number }

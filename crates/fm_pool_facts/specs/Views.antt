@@ -12,7 +12,7 @@ use Rattle.fm_base.specs.Calls.{Entry}
 use Rattle.fm_base.specs.Histories.{IsLegal, state_after, made_by}
 use Rattle.fm_depicts.specs.Handles.{AreLeft, one_if}
 use Rattle.fm_pool_facts.specs.Loans.{Loan, loan_of, lent as lent_by, HasPart, IsRightlyLent}
-use Rattle.fm_base.specs.Finds.{Find, Gathered, Close, is_draw, is_slot, is_page, is_number, group_of}
+use Rattle.fm_base.specs.Finds.{Find, Gathered, Close, Sweep, is_draw, is_slot, is_page, is_number, group_of}
 use Rattle.fm_pool_facts.specs.Hands.{Hand, nothing, HasSlot, Number, no_number, number_drawn, last_term, most_draws}
 use Rattle.fm_pool_facts.specs.Parts.{Mapping, Swept, wiping}
 
@@ -39,7 +39,7 @@ pub record View : Type 0 where
   pub mark : Option ArenaId
   pub closes : List Close
   -- arenas that it ended and hasn't retired, and how many of their parts have no page any more: the count of given bytes is the last
-  pub sweeps : List Close
+  pub sweeps : List Sweep
   -- what it has of the part that it sweeps next
   pub swept : Swept
   -- the slot that it took to open an arena in, or retired
@@ -242,11 +242,11 @@ pub record IsSound (v : View) : Type 0 where
   pub outside : (a : ArenaId) → IsUnderWay (state_in v) v.caller a → v.inside ≡ Some a
   pub fits : (a : ArenaId) → IsKnown v a → Fits v.shape a
   pub hand : (s : ℕ) → HasSlot s v.hand → s < v.shape.slots
-  pub swept : (c : Close) → In c v.sweeps → IsOver v c.arena
+  pub swept : (c : Sweep) → In c v.sweeps → IsOver v c.arena
   -- each page is one of the pool's, lent as one of the parts that an arena can have
   pub loans : (l : Loan) → Contains (lent_by v.seen) l → (l.block < v.shape.pages) × (l.part < v.shape.reach)
   -- of an arena that is swept, parts that have no page any more aren't lent
-  pub unlent : (c : Close) → In c v.sweeps → (l : Loan) → Contains (lent_by v.seen) l → l.id ≡ c.arena → c.visited ≤ l.part
+  pub unlent : (c : Sweep) → In c v.sweeps → (l : Loan) → Contains (lent_by v.seen) l → l.id ≡ c.arena → c.passed ≤ l.part
   -- of an arena that hasn't ended, each part with a given byte is lent
   pub covered : (a : ArenaId) (word : ℕ) → (arena_of (state_in v) a).life ≢ Ended → 8 * word < given_of v a
       → HasPart (lent_by v.seen) a (word / v.shape.page_words)

@@ -103,8 +103,8 @@ module _ (z : Shape) (me : ℕ) (v : View) (l : v.live ≡ true) (ws : List ℕ)
   swept_still maps berth ended other = go v.swept mine.pages.sweep
     where
       still : (a : ArenaId) (i : ℕ) → IsNext v.sweeps a i → maps a.slot i ≡ r.memory.maps a.slot i
-      still a i n = let y = mine.sweeps n.close n.there in
-          subst (λ (b : ArenaId). maps b.slot i ≡ r.memory.maps b.slot i) n.arena (ended n.close.arena y.life y.session i)
+      still a i n = let y = mine.sweeps n.sweep n.there in
+          subst (λ (b : ArenaId). maps b.slot i ≡ r.memory.maps b.slot i) n.arena (ended n.sweep.arena y.life y.session i)
 
       go : (s : Swept) → HasSwept z r.memory.maps r.memory.cells r.owners.berth me v.sweeps s → HasSwept z maps r.memory.cells berth me v.sweeps s
       go unread h = tt

@@ -8,7 +8,7 @@ use Rattle.fm_base.specs.declared.arena_id.ArenaId.{ArenaId}
 use Rattle.fm_base.specs.Arenas.{State, has_arena, arena_of}
 use Rattle.fm_base.specs.Calls.{Entry}
 use Rattle.fm_base.specs.Histories.{state_after, IsLegal}
-use Rattle.fm_base.specs.Finds.{Find, Close, Gathered}
+use Rattle.fm_base.specs.Finds.{Find, Close, Gathered, Sweep}
 use Rattle.fm_depicts.specs.Functions.{Fresh, Closes, Over, Machine}
 use Rattle.fm_depicts.specs.Steps.{moved_by}
 use Rattle.std.specs.Int.{bit_at}
@@ -32,7 +32,7 @@ use Rattle.fm_pool_facts.proofs.Ruling.{PagesAfter, AreLooked, unlooked, page_li
 use Rattle.fm_pool_facts.proofs.Sounding.{opened_life}
 
 -- a step leaves all but these
-pub same_but : {v : View} {inside mark : Option ArenaId} {closes sweeps : List Close} {swept : Swept} {hand : Hand} {holds handles : List ArenaId}
+pub same_but : {v : View} {inside mark : Option ArenaId} {closes : List Close} {sweeps : List Sweep} {swept : Swept} {hand : Hand} {holds handles : List ArenaId}
     {pages : List ℕ} {reads : List Mapping}
     → Same v (record v {
       inside = inside;
@@ -294,7 +294,7 @@ module _ (z : Shape) (ws : List ℕ) (vs : List View) (r : Rule z ws vs) (me : �
           let y = own.sweeps c (subst (In c) sw i) in
           sweeping_on (limit_of z) v.caller r.memory r.machine es m' ok (λ k b i. (r.world.marked k b i).stands) z me r.owners r.owners c y refl
           (ended c.arena y.life y.session);
-      swept_once = subst (IsOnce (λ (c : Close). c.arena)) (sym sw) own.swept_once;
+      swept_once = subst (IsOnce (λ (c : Sweep). c.arena)) (sym sw) own.swept_once;
       hand = subst (HasInHand z m'.bits m'.sessions r.owners.holder me) (sym hd) (hand_still z r.memory m' r.owners.holder me still bits v.hand own.hand);
       number = number;
       took = subst (λ (x : Caller × Hand). IsTaker r.owners.taker x.0 x.1) (λ j. (sym s.caller j, sym hd j)) own.took;
@@ -356,7 +356,7 @@ plain_pages z m m' o me v p k maps cells reads paged sweeps swept = record {
   read = λ a e x i. let y = reads a e x i in (λ j. maps j a.slot x.part) ∙ k.read a y.0 x y.1;
   claims = λ q i. k.claims q (subst (In q) paged i);
   lone = subst IsLone (sym paged) k.lone;
-  sweep = subst (λ (x : List Close × Swept). HasSwept z m'.maps m'.cells o.berth me x.0 x.1) (λ j. (sym sweeps j, sym swept j)) (go v.swept k.sweep);
+  sweep = subst (λ (x : List Sweep × Swept). HasSwept z m'.maps m'.cells o.berth me x.0 x.1) (λ j. (sym sweeps j, sym swept j)) (go v.swept k.sweep);
 }
   where
     go : (s : Swept) → HasSwept z m.maps m.cells o.berth me v.sweeps s → HasSwept z m'.maps m'.cells o.berth me v.sweeps s

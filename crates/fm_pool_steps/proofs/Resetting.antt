@@ -10,13 +10,13 @@ use Rattle.fm_base.specs.Histories.{state_after}
 use Rattle.fm_words.specs.declared.shape.Shape.{Shape}
 use Rattle.fm_words.specs.Places.{at as place_at, given as given_place}
 use Rattle.fm_base.specs.declared.arena_id.ArenaId.{ArenaId}
-use Rattle.fm_base.specs.Finds.{Close}
+use Rattle.fm_base.specs.Finds.{Sweep}
 use Rattle.fm_depicts.specs.Functions.{Over, put}
 use Rattle.fm_depicts.proofs.Putting.{put_here, put_else, put_cases}
 use Rattle.fm_pool_facts.specs.declared.step.Step.TheVariants.{SweepsGiven, ResetsGiven}
 use Rattle.fm_pool_facts.specs.Parts.{unread}
 use Rattle.fm_pool_facts.specs.Views.{View, In, given_of, limit_of}
-use Rattle.fm_pool_facts.specs.Closes.{visited_of, visited, one_more}
+use Rattle.fm_pool_facts.specs.Closes.{passed_of, advanced, one_more}
 use Rattle.fm_pool_facts.specs.Steps.{part, entries, noted, none_noted}
 use Rattle.fm_pool_facts.specs.Facts.{Memory, shut, HasSwept, IsSweeping, Owns, Rule}
 use Rattle.fm_pool_facts.specs.Moves.{MayStep, MayStore}
@@ -24,12 +24,12 @@ use Rattle.fm_pool_facts.proofs.Retiring.{world_reset}
 use Rattle.fm_pool_facts.proofs.Shown.{shows_given}
 use Rattle.fm_pool_facts.proofs.Keeping.{set_there}
 use Rattle.fm_pool_facts.proofs.Ruling.{page_like}
-use Rattle.fm_pool_steps.proofs.Closes.{in_visited, once_visited}
+use Rattle.fm_pool_steps.proofs.Closes.{in_advanced, once_advanced}
 use Rattle.fm_pool_steps.proofs.Quiet.{looks_on}
 use Rattle.fm_pool_steps.proofs.Plain.{own, Made}
 use Rattle.fm_pool_steps.proofs.Sweeping.{its, its_sweep, ended_now, shut_now, apart, fit, its_count, memory_of, sweep_on, visits}
 
-module _ (z : Shape) (me : ℕ) (v : View) (l : v.live ≡ true) (a : ArenaId) (k : ℕ) (has : visited_of v.sweeps a ≡ Some k)
+module _ (z : Shape) (me : ℕ) (v : View) (l : v.live ≡ true) (a : ArenaId) (k : ℕ) (has : passed_of v.sweeps a ≡ Some k)
     (ws : List ℕ) (vs : List View) (r : Rule z ws vs) (at : get_elem? vs me ≡ some v) where
   abbrev mine : Owns z r.history r.memory r.machine r.owners me v
   mine = own z ws vs r me v at l
@@ -46,9 +46,9 @@ module _ (z : Shape) (me : ℕ) (v : View) (l : v.live ≡ true) (a : ArenaId) (
   -- ---- the given count is reset
 
   resets : v.swept ≡ unread → k ≡ z.reach
-      → Made z ws vs me v (place_at z (given_place a.slot)) 0 (record v { sweeps = visited a v.sweeps; swept = v.swept }) [] none_noted
+      → Made z ws vs me v (place_at z (given_place a.slot)) 0 (record v { sweeps = advanced a v.sweeps; swept = v.swept }) [] none_noted
   resets idle full = sweep_on z me v l a k has ws vs r at
-      (place_at z (given_place a.slot)) 0 r.memory.page_bits r.memory.maps r.memory.cells given r.owners.berth (visited a v.sweeps) v.swept [] (record {
+      (place_at z (given_place a.slot)) 0 r.memory.page_bits r.memory.maps r.memory.cells given r.owners.berth (advanced a v.sweeps) v.swept [] (record {
         may = tt;
         ends = λ b. tt;
         stays = refl;
@@ -59,12 +59,12 @@ module _ (z : Shape) (me : ℕ) (v : View) (l : v.live ≡ true) (a : ArenaId) (
         lends = tt;
         pages = r.pages;
         there = visits z me v l a k has ws vs r at;
-        keep = λ q j b. inr (refl, page_like q (r.owners.berth q) v (record v { sweeps = visited a v.sweeps; swept = v.swept }) refl refl refl);
+        keep = λ q j b. inr (refl, page_like q (r.owners.berth q) v (record v { sweeps = advanced a v.sweeps; swept = v.swept }) refl refl refl);
         shows = shows_given z r.valid ws r.memory r.shows a.slot 0 slot_low;
         world = world_reset z r.memory r.machine r.world a is_shut is_over;
-        sweeps = λ c j. let w = in_visited a c v.sweeps mine.swept_once j in onward c w.before (mine.sweeps w.before w.there) w.there w.how;
-        once = once_visited a v.sweeps mine.swept_once;
-        of_page = subst (HasSwept z r.memory.maps r.memory.cells r.owners.berth me (visited a v.sweeps)) (sym idle) tt;
+        sweeps = λ c j. let w = in_advanced a c v.sweeps mine.swept_once j in onward c w.before (mine.sweeps w.before w.there) w.there w.how;
+        once = once_advanced a v.sweeps mine.swept_once;
+        of_page = subst (HasSwept z r.memory.maps r.memory.cells r.owners.berth me (advanced a v.sweeps)) (sym idle) tt;
       })
     where
       given : ℕ → ℕ
@@ -80,7 +80,7 @@ module _ (z : Shape) (me : ℕ) (v : View) (l : v.live ≡ true) (a : ArenaId) (
           go None h = h
           go (Some p) h = absurd (let y = (r.pages.mapped_is p a.slot n (r.pages.map_is a.slot n p h)).part in omega arith)
 
-      onward : (c b : Close) → IsSweeping z r.memory r.machine r.owners me b → In b v.sweeps
+      onward : (c b : Sweep) → IsSweeping z r.memory r.machine r.owners me b → In b v.sweeps
           → ((b.arena ≡ a) × (c ≡ one_more b)) ⊎ ((c ≡ b) × (c.arena ≢ a))
           → IsSweeping z m' r.machine (record r.owners { berth = r.owners.berth }) me c
       onward c b s j (inr e) = subst (IsSweeping z m' r.machine (record r.owners { berth = r.owners.berth }) me) (sym e.0) (record {
@@ -89,7 +89,7 @@ module _ (z : Shape) (me : ℕ) (v : View) (l : v.live ≡ true) (a : ArenaId) (
         session = s.session;
         parts = s.parts;
         count = λ h. put_else r.memory.given a.slot 0 b.arena.slot
-            (apart z me v l a k has ws vs r at b.arena s.session (λ q. e.1 (ap (λ (y : Close). y.arena) e.0 ∙ q))) ∙ s.count h;
+            (apart z me v l a k has ws vs r at b.arena s.session (λ q. e.1 (ap (λ (y : Sweep). y.arena) e.0 ∙ q))) ∙ s.count h;
         reset = λ h. put_cases r.memory.given a.slot 0 b.arena.slot (λ (y : ℕ). y ≡ 0) (λ q. refl) (λ n. s.reset h);
       })
       onward c b s j (inl q) = subst (IsSweeping z m' r.machine (record r.owners { berth = r.owners.berth }) me) (sym q.1) (record {
@@ -109,11 +109,11 @@ module _ (z : Shape) (me : ℕ) (v : View) (l : v.live ≡ true) (a : ArenaId) (
   its_given : k ≤ z.reach → get_or ws (place_at z (given_place a.slot)) 0 ≡ r.machine.given a
   its_given low = r.shows.given a.slot slot_low
       ∙ subst (λ (b : ArenaId). r.memory.given b.slot ≡ r.machine.given b) (its z me v l a k has ws vs r at).arena
-      ((its_sweep z me v l a k has ws vs r at).count (let e = (its z me v l a k has ws vs r at).visited in omega arith))
+      ((its_sweep z me v l a k has ws vs r at).count (let e = (its z me v l a k has ws vs r at).passed in omega arith))
 
 -- ---- the steps
 
-module _ (z : Shape) (me : ℕ) (v : View) (a : ArenaId) (i : ℕ) (l : v.live ≡ true) (has : visited_of v.sweeps a ≡ Some i) where
+module _ (z : Shape) (me : ℕ) (v : View) (a : ArenaId) (i : ℕ) (l : v.live ≡ true) (has : passed_of v.sweeps a ≡ Some i) where
   -- how many bytes the arena gave
   pub given_steps : i ≤ z.reach → v.shape ≡ z → MayStep z (SweepsGiven a) me v (place_at z (given_place a.slot)) (λ n. n)
   unfolding part entries noted
@@ -123,7 +123,7 @@ module _ (z : Shape) (me : ℕ) (v : View) (a : ArenaId) (i : ℕ) (l : v.live �
         let x : ℕ = get_or ws place 0 in
         let g = looks_on z ws vs r me v at l place in
         let live' : g.0.live ≡ true = ap (λ (u : View). u.live) g.2.is ∙ l in
-        let has' : visited_of g.0.sweeps a ≡ Some i = ap (λ (u : View). visited_of u.sweeps a) g.2.is ∙ has in
+        let has' : passed_of g.0.sweeps a ≡ Some i = ap (λ (u : View). passed_of u.sweeps a) g.2.is ∙ has in
         let now = its_given z me g.0 live' a i has' (set ws place x) (set vs me g.0) g.1 (set_there vs me v g.0 at) low in
         let shape' : z ≡ g.0.shape = sym (ap (λ (u : View). u.shape) g.2.is ∙ sh) in
         let seen : (arena_of (state_after (limit_of z) [] g.1.history) a).given ≡ given_of g.0 a =
@@ -133,7 +133,7 @@ module _ (z : Shape) (me : ℕ) (v : View) (a : ArenaId) (i : ℕ) (l : v.live �
   }
 
 -- past the last part, the count of given bytes is made 0
-pub reset_steps : (z : Shape) (me : ℕ) (v : View) (a : ArenaId) → v.live ≡ true → visited_of v.sweeps a ≡ Some z.reach → v.swept ≡ unread
+pub reset_steps : (z : Shape) (me : ℕ) (v : View) (a : ArenaId) → v.live ≡ true → passed_of v.sweeps a ≡ Some z.reach → v.swept ≡ unread
     → MayStore z (ResetsGiven a) me v (place_at z (given_place a.slot)) 0
 unfolding part entries noted
 reset_steps z me v a l has idle =

@@ -16,7 +16,7 @@ use Rattle.fm_pool_facts.specs.declared.step.Step.TheVariants.{Retires}
 use Rattle.fm_pool_facts.specs.Hands.{Hand, nothing, HasSlot, IsTaker, hand_retired}
 use Rattle.fm_pool_facts.specs.Views.{View, limit_of}
 use Rattle.fm_pool_facts.specs.Words.{free_word}
-use Rattle.fm_pool_facts.specs.Closes.{visited_of, dropped}
+use Rattle.fm_pool_facts.specs.Closes.{passed_of, dropped}
 use Rattle.fm_pool_facts.specs.Steps.{part, entries, noted, none_noted}
 use Rattle.fm_pool_facts.specs.Loans.{lent}
 use Rattle.fm_pool_facts.specs.Facts.{Memory, Session, free, shut, Owners, IsHeld, HasInHand, HasSweep, KeepsSlot, Owns, Rule, HasSwept}
@@ -34,7 +34,7 @@ use Rattle.fm_pool_steps.proofs.Sweeping.{its, its_sweep, ended_now, shut_now, m
 use Rattle.fm_pool_steps.proofs.Plain.{same_but, own, Made, pages_there, numbers_stay, number_stays}
 
 module _ (z : Shape) (me : ℕ) (v : View) (l : v.live ≡ true) (sh : v.shape ≡ z) (none : v.hand ≡ nothing) (idle : v.swept ≡ unread) (a : ArenaId)
-    (has : visited_of v.sweeps a ≡ Some (z.reach + 1)) (ws : List ℕ) (vs : List View) (r : Rule z ws vs) (at : get_elem? vs me ≡ some v) where
+    (has : passed_of v.sweeps a ≡ Some (z.reach + 1)) (ws : List ℕ) (vs : List View) (r : Rule z ws vs) (at : get_elem? vs me ≡ some v) where
   abbrev mine : Owns z r.history r.memory r.machine r.owners me v
   mine = own z ws vs r me v at l
 
@@ -53,7 +53,7 @@ module _ (z : Shape) (me : ℕ) (v : View) (l : v.live ≡ true) (sh : v.shape �
       go (Some p) e =
           let t = its z me v l a (z.reach + 1) has ws vs r at in
           let low = (r.pages.mapped_is p a.slot i (r.pages.map_is a.slot i p e)).part in
-          let n = t.visited in
+          let n = t.passed in
           ap (λ (x : ArenaId). r.memory.maps x.slot i) (sym t.arena) ∙ (its_sweep z me v l a (z.reach + 1) has ws vs r at).parts i (omega arith)
 
   abbrev next : ℕ
@@ -189,7 +189,7 @@ module _ (z : Shape) (me : ℕ) (v : View) (l : v.live ≡ true) (sh : v.shape �
     retires =
         let t = its z me v l a (z.reach + 1) has ws vs r at in
         let mine_sweep = its_sweep z me v l a (z.reach + 1) has ws vs r at in
-        let count = t.visited in
+        let count = t.passed in
         keeps z ws (set ws (place_at z (session a.slot)) (free_word z.generations next)) vs r me v (part_by last) es none_noted m' o' at l moved_on
         (same_part last) no_draw
         tt
@@ -229,7 +229,7 @@ module _ (z : Shape) (me : ℕ) (v : View) (l : v.live ≡ true) (sh : v.shape �
         })
 
 pub retire_steps : (z : Shape) (me : ℕ) (v : View) (a : ArenaId) → v.live ≡ true → v.shape ≡ z → v.hand ≡ nothing → v.swept ≡ unread
-    → visited_of v.sweeps a ≡ Some (z.reach + 1)
+    → passed_of v.sweeps a ≡ Some (z.reach + 1)
     → MayStore z (Retires a) me v (place_at z (session a.slot)) (free_word z.generations (a.generation + 1))
 unfolding part entries noted
 retire_steps z me v a l sh none idle has = record {

@@ -17,7 +17,7 @@ use Rattle.fm_depicts.proofs.Putting.{put_else, at_here, at_other, one_arena, pu
 use Rattle.fm_pool_facts.specs.declared.step.Step.TheVariants.{Shuts}
 use Rattle.fm_pool_facts.specs.Views.{View, In, IsKnown, limit_of}
 use Rattle.fm_pool_facts.specs.Words.{alive_word, closing_word, alive_holds, shut_found}
-use Rattle.fm_pool_facts.specs.Closes.{begun, close_of}
+use Rattle.fm_pool_facts.specs.Closes.{begun, walk_of}
 use Rattle.fm_pool_facts.specs.Steps.{part, entries, noted, none_noted}
 use Rattle.fm_pool_facts.specs.Facts.{Memory, free, live, shut, Owners, IsClosing, HasClose, Rule}
 use Rattle.fm_pool_facts.specs.Moves.{MayMake, StaysEnded, Moved, Same, KeepsHolds, MayStep}
@@ -57,14 +57,14 @@ module _ (z : Shape) (me : ℕ) (v : View) (l : v.live ≡ true) (a : ArenaId) (
   -- an arena that is alive with no holds is closing from now on
   pub shuts : (hs : List ArenaId) → r.machine.life a ≡ Lives → r.machine.holds a ≡ 0
       → KeepsHolds v (record v { handles = hs }) r.machine (record r.machine { life = put_at r.machine.life a Closes })
-      → Made z ws vs me v i (closing_word a) (record v { closes = close_of a 0 ∷ v.closes; handles = hs }) (entry_of v.caller (Shut a) Fine ∷ []) none_noted
+      → Made z ws vs me v i (closing_word a) (record v { closes = walk_of a 0 ∷ v.closes; handles = hs }) (entry_of v.caller (Shut a) Fine ∷ []) none_noted
   shuts hs al none held =
       let k = own z ws vs r me v at l in
       let fit = r.world.sessions.fits a opened in
       let es : List Entry = entry_of v.caller (Shut a) Fine ∷ [] in
       let m' : Memory = record r.memory { sessions = put r.memory.sessions a.slot (shut a); counts = put r.memory.counts a.slot 0 } in
       let o' : Owners = record r.owners { closer = put_at r.owners.closer a me } in
-      let p : View = record v { closes = close_of a 0 ∷ v.closes; handles = hs } in
+      let p : View = record v { closes = walk_of a 0 ∷ v.closes; handles = hs } in
       let is : Fine ≡ shut_stage (r.machine.life a) (r.machine.holds a) = λ j. shut_stage (sym al j) (sym none j) in
       let ok : MayMake (limit_of z) r.machine v.caller es = (refl, (opened, use_it, not_global), is, tt) in
       let other : (b : ArenaId) → r.machine.life b ≡ Closes → b ≢ a = (λ b f e. let q : r.machine.life b ≡ Lives = ap r.machine.life e ∙ al in absurd (cc)) in
@@ -109,7 +109,7 @@ module _ (z : Shape) (me : ℕ) (v : View) (l : v.live ≡ true) (a : ArenaId) (
       (pages_shut z (lent r.history) r.memory.page_bits r.memory.maps r.memory.cells r.owners.berth r.memory.sessions r.machine.life r.machine.word
       r.machine.given r.world.sessions r.pages a al)
       (λ b h. dite (one_arena b a)
-      (λ e. inl (ap (put_at r.owners.closer a me) e ∙ at_here r.owners.closer a me, (l, (close_of a 0, inl refl, sym e))))
+      (λ e. inl (ap (put_at r.owners.closer a me) e ∙ at_here r.owners.closer a me, (l, (walk_of a 0, inl refl, sym e))))
       (λ n. inr (sym (at_other r.machine.life a Closes b n) ∙ h, at_other r.owners.closer a me b n, (λ (y : HasClose b v). (y.0, (y.1.0, inr y.1.1, y.1.2))))))
       (sweeps_still me v p r.memory r.machine r.owners m' (moved_by r.machine es) o' same refl (λ b f. at_other r.owners.closer a me b (ended b f))
       (λ b f h. let y = was_ended b h in (was_shut b y.0 f, y.1)))
@@ -123,8 +123,8 @@ module _ (z : Shape) (me : ℕ) (v : View) (l : v.live ≡ true) (a : ArenaId) (
         inside = k.inside;
         mark = k.mark;
         closes = λ c. ⊎_elim
-            (λ (e : c ≡ close_of a 0). subst (IsClosing (moved_by r.machine es) o' me) (sym e)
-            (record { owner = at_here r.owners.closer a me; life = at_here r.machine.life a Closes; visited = λ j h. absurd (omega arith) }))
+            (λ (e : c ≡ walk_of a 0). subst (IsClosing (moved_by r.machine es) o' me) (sym e)
+            (record { owner = at_here r.owners.closer a me; life = at_here r.machine.life a Closes; passed = λ j h. absurd (omega arith) }))
             (on c);
         once = ((λ c j. other c.arena (k.closes c j).life), k.once);
         sweeps = λ c j.
@@ -160,7 +160,7 @@ module _ (z : Shape) (me : ℕ) (v : View) (l : v.live ≡ true) (a : ArenaId) (
       by true q =
           let none : n ≡ 0 = eqb_true n 0 q in
           let hit : (found == alive_word a 0) ≡ true = eq-eqb found (alive_word a 0) (word ∙ ap (alive_word a) none) in
-          subst (λ (c : Bool). Made z ws vs me v i (either c (closing_word a) found) (record v { closes = close_of a 0 ∷ v.closes })
+          subst (λ (c : Bool). Made z ws vs me v i (either c (closing_word a) found) (record v { closes = walk_of a 0 ∷ v.closes })
           (entry_of v.caller (Shut a) Fine ∷ []) none_noted) (sym hit)
           (shuts v.handles s.0 (sym s.1 ∙ none) (same_handles v l r.machine a Closes (λ k. absurd (let n = by_hand a not_auto in cc))))
       by false q =

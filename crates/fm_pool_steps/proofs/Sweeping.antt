@@ -7,14 +7,14 @@ use lib.ListN.{get_elem?}
 use Rattle.fm_words.specs.declared.shape.Shape.{Shape}
 use Rattle.fm_base.specs.declared.arena_id.ArenaId.{ArenaId}
 use Rattle.fm_base.specs.Calls.{Entry}
-use Rattle.fm_base.specs.Finds.{Close}
+use Rattle.fm_base.specs.Finds.{Sweep}
 use Rattle.fm_depicts.specs.Functions.{Over, Machine}
 use Rattle.fm_depicts.specs.Steps.{moved_by}
 use Rattle.fm_pool_facts.specs.Loans.{lent}
 use Rattle.fm_pool_facts.specs.Parts.{Swept, wiping}
 use Rattle.fm_pool_facts.specs.Views.{View, Fits, In, limit_of}
 use Rattle.fm_pool_facts.specs.Holds.{holds_of, all_holds}
-use Rattle.fm_pool_facts.specs.Closes.{visited_of, visited, one_more}
+use Rattle.fm_pool_facts.specs.Closes.{passed_of, advanced, one_more}
 use Rattle.fm_pool_facts.specs.Steps.{none_noted}
 use Rattle.fm_pool_facts.specs.Facts.{Memory, Owners, shut, Berth, loose, claimed, mapped, unmapped, IsAt, IsOnce, IsNext, HasSwept, HasPage, IsSweeping, HasSweep, Owns, Shows, World, Rule}
 use Rattle.fm_pool_facts.specs.Moves.{MayMake, MayLend, NoEnd, Moved, KeepsPages}
@@ -23,22 +23,22 @@ use Rattle.fm_pool_facts.proofs.Standing.{ended_apart}
 use Rattle.fm_pool_facts.proofs.Retiring.{ended_fits}
 use Rattle.fm_pool_facts.proofs.Keeping.{closing_on}
 use Rattle.fm_pool_facts.proofs.Ruling.{PagesAfter, keeps}
-use Rattle.fm_pool_steps.proofs.Closes.{Found, visited_of-found, count_of, in_visited, visited_in}
+use Rattle.fm_pool_steps.proofs.Closes.{Found, passed_of-found, count_of, in_advanced, advanced_in}
 use Rattle.fm_pool_steps.proofs.Plain.{same_but, own, Made, numbers_stay, number_stays}
 
 -- where the sweep of the arena has come so far
-module _ (z : Shape) (me : ℕ) (v : View) (l : v.live ≡ true) (a : ArenaId) (k : ℕ) (has : visited_of v.sweeps a ≡ Some k)
+module _ (z : Shape) (me : ℕ) (v : View) (l : v.live ≡ true) (a : ArenaId) (k : ℕ) (has : passed_of v.sweeps a ≡ Some k)
     (ws : List ℕ) (vs : List View) (r : Rule z ws vs) (at : get_elem? vs me ≡ some v) where
   abbrev pub mine : Owns z r.history r.memory r.machine r.owners me v
   mine = own z ws vs r me v at l
 
   -- the sweep that was found
   pub its : Found a k v.sweeps
-  its = visited_of-found v.sweeps a k has
+  its = passed_of-found v.sweeps a k has
 
   -- what is known of it
-  pub its_sweep : IsSweeping z r.memory r.machine r.owners me its.close
-  its_sweep = mine.sweeps its.close its.there
+  pub its_sweep : IsSweeping z r.memory r.machine r.owners me its.walk
+  its_sweep = mine.sweeps its.walk its.there
 
   -- its arena has ended
   pub ended_now : r.machine.life a ≡ Over
@@ -64,19 +64,19 @@ module _ (z : Shape) (me : ℕ) (v : View) (l : v.live ≡ true) (a : ArenaId) (
   fit = ended_fits z r.memory r.machine r.world a shut_now ended_now
 
   -- each sweep of the arena is this one
-  pub its_count : (b : Close) → In b v.sweeps → b.arena ≡ a → b.visited ≡ k
+  pub its_count : (b : Sweep) → In b v.sweeps → b.arena ≡ a → b.passed ≡ k
   its_count b j e = count_of v.sweeps a k b j e has mine.swept_once
 
   -- the part is its next one
   pub next_here : IsNext v.sweeps a k
-  next_here = record { close = its.close; there = its.there; arena = its.arena; visited = its.visited }
+  next_here = record { sweep = its.walk; there = its.there; arena = its.arena; passed = its.passed }
 
   -- what is changed of the memory
   abbrev pub memory_of : (bits : ℕ → ℕ) (maps : ℕ → ℕ → Option ℕ) (cells : ℕ → ℕ → ℕ) (given : ℕ → ℕ) → Memory
   memory_of bits maps cells given = record r.memory { page_bits = bits; maps = maps; cells = cells; given = given }
 
   -- what a step of the sweep does, and what the view has of its sweeps then
-  pub record Sweeping (i x : ℕ) (bits : ℕ → ℕ) (maps : ℕ → ℕ → Option ℕ) (cells : ℕ → ℕ → ℕ) (given : ℕ → ℕ) (berth : ℕ → Berth) (cs : List Close) (s : Swept)
+  pub record Sweeping (i x : ℕ) (bits : ℕ → ℕ) (maps : ℕ → ℕ → Option ℕ) (cells : ℕ → ℕ → ℕ) (given : ℕ → ℕ) (berth : ℕ → Berth) (cs : List Sweep) (s : Swept)
       (es : List Entry) : Type 0 where
     pub may : MayMake (limit_of z) r.machine v.caller es
     pub ends : (b : ArenaId) → NoEnd es b
@@ -87,16 +87,16 @@ module _ (z : Shape) (me : ℕ) (v : View) (l : v.live ≡ true) (a : ArenaId) (
     pub claims : (p : ℕ) → r.owners.berth p ≡ claimed me → berth p ≡ claimed me
     pub lends : MayLend z.page_words r.machine (lent r.history) es
     pub pages : PagesAfter z r.history (memory_of bits maps cells given) r.machine (record r.owners { berth = berth }) es
-    pub there : (c : Close) → In c v.sweeps → (d : Close) × In d cs × (d.arena ≡ c.arena)
+    pub there : (c : Sweep) → In c v.sweeps → (d : Sweep) × In d cs × (d.arena ≡ c.arena)
     pub keep : KeepsPages me v (record v { sweeps = cs; swept = s }) r.owners (record r.owners { berth = berth })
     pub shows : Shows z (set ws i x) (memory_of bits maps cells given)
     pub world : World z (memory_of bits maps cells given) r.machine
-    pub sweeps : (c : Close) → In c cs → IsSweeping z (memory_of bits maps cells given) r.machine (record r.owners { berth = berth }) me c
-    pub once : IsOnce (λ (c : Close). c.arena) cs
+    pub sweeps : (c : Sweep) → In c cs → IsSweeping z (memory_of bits maps cells given) r.machine (record r.owners { berth = berth }) me c
+    pub once : IsOnce (λ (c : Sweep). c.arena) cs
     pub of_page : HasSwept z maps cells berth me cs s
 
   -- such a step keeps the rule
-  pub sweep_on : (i x : ℕ) (bits : ℕ → ℕ) (maps : ℕ → ℕ → Option ℕ) (cells : ℕ → ℕ → ℕ) (given : ℕ → ℕ) (berth : ℕ → Berth) (cs : List Close) (s : Swept)
+  pub sweep_on : (i x : ℕ) (bits : ℕ → ℕ) (maps : ℕ → ℕ → Option ℕ) (cells : ℕ → ℕ → ℕ) (given : ℕ → ℕ) (berth : ℕ → Berth) (cs : List Sweep) (s : Swept)
       (es : List Entry)
       → Sweeping i x bits maps cells given berth cs s es → Made z ws vs me v i x (record v { sweeps = cs; swept = s }) es none_noted
   sweep_on i x bits maps cells given berth cs s es q =
@@ -161,7 +161,7 @@ module _ (z : Shape) (me : ℕ) (v : View) (l : v.live ≡ true) (a : ArenaId) (
 
   -- the same sweeps, where parts that had no page have none
   pub sweeps_kept : (bits : ℕ → ℕ) (maps : ℕ → ℕ → Option ℕ) (cells : ℕ → ℕ → ℕ) (berth : ℕ → Berth)
-      → ((b n : ℕ) → r.memory.maps b n ≡ None → maps b n ≡ None) → (c : Close) → In c v.sweeps
+      → ((b n : ℕ) → r.memory.maps b n ≡ None → maps b n ≡ None) → (c : Sweep) → In c v.sweeps
       → IsSweeping z (memory_of bits maps cells r.memory.given) r.machine (record r.owners { berth = berth }) me c
   sweeps_kept bits maps cells berth none c j =
       let y = mine.sweeps c j in
@@ -176,11 +176,11 @@ module _ (z : Shape) (me : ℕ) (v : View) (l : v.live ≡ true) (a : ArenaId) (
 
   -- the sweep has one part more behind it, which has no page
   pub sweeps_more : (bits : ℕ → ℕ) (maps : ℕ → ℕ → Option ℕ) (cells : ℕ → ℕ → ℕ) (berth : ℕ → Berth)
-      → ((b n : ℕ) → r.memory.maps b n ≡ None → maps b n ≡ None) → maps a.slot k ≡ None → k < z.reach → (c : Close) → In c (visited a v.sweeps)
+      → ((b n : ℕ) → r.memory.maps b n ≡ None → maps b n ≡ None) → maps a.slot k ≡ None → k < z.reach → (c : Sweep) → In c (advanced a v.sweeps)
       → IsSweeping z (memory_of bits maps cells r.memory.given) r.machine (record r.owners { berth = berth }) me c
-  sweeps_more bits maps cells berth none here low c j = let w = in_visited a c v.sweeps mine.swept_once j in onward w.before w.there w.how
+  sweeps_more bits maps cells berth none here low c j = let w = in_advanced a c v.sweeps mine.swept_once j in onward w.before w.there w.how
     where
-      onward : (b : Close) → In b v.sweeps → ((b.arena ≡ a) × (c ≡ one_more b)) ⊎ ((c ≡ b) × (c.arena ≢ a))
+      onward : (b : Sweep) → In b v.sweeps → ((b.arena ≡ a) × (c ≡ one_more b)) ⊎ ((c ≡ b) × (c.arena ≢ a))
           → IsSweeping z (memory_of bits maps cells r.memory.given) r.machine (record r.owners { berth = berth }) me c
       onward b i (inr e) = subst (IsSweeping z (memory_of bits maps cells r.memory.given) r.machine (record r.owners { berth = berth }) me) (sym e.0)
           (sweeps_kept bits maps cells berth none b i)
@@ -199,11 +199,11 @@ module _ (z : Shape) (me : ℕ) (v : View) (l : v.live ≡ true) (a : ArenaId) (
           })
 
   -- where one has a part more behind it, the same arenas are swept
-  pub visits : (c : Close) → In c v.sweeps → (d : Close) × In d (visited a v.sweeps) × (d.arena ≡ c.arena)
-  visits c j = let w = visited_in a c v.sweeps j in (w.0, w.1, w.2)
+  pub visits : (c : Sweep) → In c v.sweeps → (d : Sweep) × In d (advanced a v.sweeps) × (d.arena ≡ c.arena)
+  visits c j = let w = advanced_in a c v.sweeps j in (w.0, w.1, w.2)
 
   -- and where nothing changes
-  pub stays_there : (c : Close) → In c v.sweeps → (d : Close) × In d v.sweeps × (d.arena ≡ c.arena)
+  pub stays_there : (c : Sweep) → In c v.sweeps → (d : Sweep) × In d v.sweeps × (d.arena ≡ c.arena)
   stays_there c j = (c, j, refl)
 
   -- no page is in the hand of this sweep

@@ -9,14 +9,14 @@ use Rattle.fm_words.specs.Places.{at as place_at, mark}
 use Rattle.fm_base.specs.declared.caller.Caller.{Caller}
 use Rattle.fm_base.specs.declared.arena_id.ArenaId.{ArenaId}
 use Rattle.fm_base.specs.Calls.{End, Fine, Entry, entry_of}
-use Rattle.fm_base.specs.Finds.{Find, Close, Visits as Visiting}
+use Rattle.fm_base.specs.Finds.{Find, Close, Sweep, Visits as Visiting}
 use Rattle.fm_depicts.specs.Functions.{Closes, Over, put_at}
 use Rattle.fm_depicts.specs.Steps.{moved_by}
 use Rattle.fm_depicts.proofs.Putting.{at_here, at_other, at_cases}
 use Rattle.fm_pool_facts.specs.declared.step.Step.TheVariants.{Visits}
 use Rattle.fm_pool_facts.specs.Views.{View, In, limit_of}
 use Rattle.fm_pool_facts.specs.Words.{mark_of, own_word}
-use Rattle.fm_pool_facts.specs.Closes.{close_of, visited_of, visited, dropped, one_more, visit_by, closes_after, sweeps_after, visit_entries}
+use Rattle.fm_pool_facts.specs.Closes.{walk_of, passed_of, advanced, dropped, one_more, visit_by, closes_after, sweeps_after, visit_entries}
 use Rattle.fm_pool_facts.specs.Steps.{part, entries, noted, note_of}
 use Rattle.fm_pool_facts.specs.Facts.{shut, IsClosing, IsSweeping, HasClose, HasSweep, Owns, Rule, Berth, HasSwept}
 use Rattle.fm_pool_facts.specs.Moves.{MayMake, Moved, Same, MayStep}
@@ -33,24 +33,24 @@ use Rattle.fm_pool_facts.proofs.Ruling.{keeps}
 use Rattle.fm_pool_facts.specs.Holds.{one_alive}
 use Rattle.fm_pool_facts.proofs.Gripping.{same_handles}
 use Rattle.fm_pool_steps.proofs.Reading.{eqb_true, eqb_false}
-use Rattle.fm_pool_steps.proofs.Closes.{Found, visited_of-found, count_of, in_visited, visited_in, once_visited, in_dropped, dropped_in, once_dropped}
+use Rattle.fm_pool_steps.proofs.Closes.{Found, passed_of-found, count_of, in_advanced, advanced_in, once_advanced, in_dropped, dropped_in, once_dropped}
 
 -- a sweep is there still where another one begins
-more_swept : (z : Shape) (maps : ℕ → ℕ → Option ℕ) (cells : ℕ → ℕ → ℕ) (berth : ℕ → Berth) (j : ℕ) (c : Close) (cs : List Close) (s : Swept)
+more_swept : (z : Shape) (maps : ℕ → ℕ → Option ℕ) (cells : ℕ → ℕ → ℕ) (berth : ℕ → Berth) (j : ℕ) (c : Sweep) (cs : List Sweep) (s : Swept)
     → HasSwept z maps cells berth j cs s → HasSwept z maps cells berth j (c ∷ cs) s
 more_swept z maps cells berth j c cs unread h = tt
 more_swept z maps cells berth j c cs (named a i p) h =
-    let n = h.0 in (record { close = n.close; there = inr n.there; arena = n.arena; visited = n.visited }, h.1)
+    let n = h.0 in (record { sweep = n.sweep; there = inr n.there; arena = n.arena; passed = n.passed }, h.1)
 more_swept z maps cells berth j c cs (wiping a i p w) h =
     let n = h.next in
     record {
-      next = record { close = n.close; there = inr n.there; arena = n.arena; visited = n.visited };
+      next = record { sweep = n.sweep; there = inr n.there; arena = n.arena; passed = n.passed };
       owner = h.owner;
       empty = h.empty;
       wiped = h.wiped;
     }
 
-module _ (z : Shape) (me : ℕ) (v : View) (l : v.live ≡ true) (sh : v.shape ≡ z) (a : ArenaId) (k : ℕ) (has : visited_of v.closes a ≡ Some k)
+module _ (z : Shape) (me : ℕ) (v : View) (l : v.live ≡ true) (sh : v.shape ≡ z) (a : ArenaId) (k : ℕ) (has : passed_of v.closes a ≡ Some k)
     (low : k < z.passes)
     (ws : List ℕ) (vs : List View) (r : Rule z ws vs) (at : get_elem? vs me ≡ some v) where
   abbrev i : ℕ
@@ -70,10 +70,10 @@ module _ (z : Shape) (me : ℕ) (v : View) (l : v.live ≡ true) (sh : v.shape �
 
   -- the close of the arena
   its : Found a k v.closes
-  its = visited_of-found v.closes a k has
+  its = passed_of-found v.closes a k has
 
-  its_closing : IsClosing r.machine r.owners me its.close
-  its_closing = mine.closes its.close its.there
+  its_closing : IsClosing r.machine r.owners me its.walk
+  its_closing = mine.closes its.walk its.there
 
   closes_now : r.machine.life a ≡ Closes
   closes_now = ap r.machine.life (sym its.arena) ∙ its_closing.life
@@ -90,9 +90,9 @@ module _ (z : Shape) (me : ℕ) (v : View) (l : v.live ≡ true) (sh : v.shape �
   stays = looks_with z ws vs r me v at l i fs no_draws
 
   -- the close has visited one mark more
-  walks : found ≢ mark_of a → Made z ws vs me v i found (record v { closes = visited a v.closes }) [] fs
+  walks : found ≢ mark_of a → Made z ws vs me v i found (record v { closes = advanced a v.closes }) [] fs
   walks n =
-      let p : View = record v { closes = visited a v.closes } in
+      let p : View = record v { closes = advanced a v.closes } in
       let same : Same v p = same_but in
       let d : Moved me z v.caller r.memory r.machine r.owners [] r.memory r.owners = record {
         allowed = tt;
@@ -111,7 +111,7 @@ module _ (z : Shape) (me : ℕ) (v : View) (l : v.live ≡ true) (sh : v.shape �
       } in
       keeps z ws (set ws i found) vs r me v p [] fs r.memory r.owners at l d same no_draws
       tt r.pages
-      (λ b h. inr (h, refl, (λ (y : HasClose b v). let w = visited_in a y.1.0 v.closes y.1.1 in (y.0, (w.0, w.1, w.2 ∙ y.1.2)))))
+      (λ b h. inr (h, refl, (λ (y : HasClose b v). let w = advanced_in a y.1.0 v.closes y.1.1 in (y.0, (w.0, w.1, w.2 ∙ y.1.2)))))
       (sweeps_still me v p r.memory r.machine r.owners r.memory r.machine r.owners same refl (λ b f. refl) (λ b f h. (f, h)))
       (slots_still z me v p r.memory r.owners r.memory r.owners same refl (λ s. refl) (λ s g f. f) refl)
       (pages_there me r.owners v p same refl refl)
@@ -121,8 +121,8 @@ module _ (z : Shape) (me : ℕ) (v : View) (l : v.live ≡ true) (sh : v.shape �
       (record {
         inside = mine.inside;
         mark = mine.mark;
-        closes = λ c j. let w = in_visited a c v.closes mine.once j in onward c w.before (mine.closes w.before w.there) w.there w.how;
-        once = once_visited a v.closes mine.once;
+        closes = λ c j. let w = in_advanced a c v.closes mine.once j in onward c w.before (mine.closes w.before w.there) w.there w.how;
+        once = once_advanced a v.closes mine.once;
         sweeps = mine.sweeps;
         swept_once = mine.swept_once;
         hand = mine.hand;
@@ -132,7 +132,7 @@ module _ (z : Shape) (me : ℕ) (v : View) (l : v.live ≡ true) (sh : v.shape �
       })
     where
       -- the close of an arena is the one that was found
-      its_count : (b : Close) → In b v.closes → b.arena ≡ a → b.visited ≡ k
+      its_count : (b : Close) → In b v.closes → b.arena ≡ a → b.passed ≡ k
       its_count b j e = count_of v.closes a k b j e has mine.once
 
       onward : (c b : Close) → IsClosing r.machine r.owners me b → In b v.closes → ((b.arena ≡ a) × (c ≡ one_more b)) ⊎ ((c ≡ b) × (c.arena ≢ a))
@@ -141,22 +141,22 @@ module _ (z : Shape) (me : ℕ) (v : View) (l : v.live ≡ true) (sh : v.shape �
       onward c b s j (inl q) = subst (IsClosing r.machine r.owners me) (sym q.1) (record {
         owner = s.owner;
         life = s.life;
-        visited = λ w h. dite (ℕ_discrete w.number k)
+        passed = λ w h. dite (ℕ_discrete w.number k)
             (λ e p. elsewhere n w e (p ∙ ap Some q.0))
-            (λ far. s.visited w (let g = its_count b j q.0 in omega arith));
+            (λ far. s.passed w (let g = its_count b j q.0 in omega arith));
       })
 
   -- it was the last: nobody is under way, and the arena ends
   ends : found ≢ mark_of a → k + 1 ≡ z.passes → Made z ws vs me v i found
-      (record v { closes = dropped a v.closes; sweeps = close_of a 0 ∷ v.sweeps }) (entry_of v.caller (End a) Fine ∷ []) fs
+      (record v { closes = dropped a v.closes; sweeps = walk_of a 0 ∷ v.sweeps }) (entry_of v.caller (End a) Fine ∷ []) fs
   ends n top =
       let nobody : (c : Caller) → r.machine.inside c ≢ Some a = (λ c p.
       let below = (r.world.marked c a p).number in
       dite (ℕ_discrete c.number k)
       (λ e. elsewhere n c e p)
-      (λ far. its_closing.visited c (let g = its.visited in omega arith) (p ∙ ap Some (sym its.arena)))) in
+      (λ far. its_closing.passed c (let g = its.passed in omega arith) (p ∙ ap Some (sym its.arena)))) in
       let es : List Entry = entry_of v.caller (End a) Fine ∷ [] in
-      let p : View = record v { closes = dropped a v.closes; sweeps = close_of a 0 ∷ v.sweeps } in
+      let p : View = record v { closes = dropped a v.closes; sweeps = walk_of a 0 ∷ v.sweeps } in
       let ok : MayMake (limit_of z) r.machine v.caller es = (refl, (closes_now, nobody), refl, tt) in
       let same : Same v p = same_but in
       let d : Moved me z v.caller r.memory r.machine r.owners es r.memory r.owners = record {
@@ -189,7 +189,7 @@ module _ (z : Shape) (me : ℕ) (v : View) (l : v.live ≡ true) (sh : v.shape �
       (λ b f. at_cases r.machine.life a Over b
       (λ x. x ≡ Over → ((r.owners.closer b ≡ me) × HasSweep b p)
       ⊎ ((r.memory.sessions b.slot ≡ shut b) × (r.machine.life b ≡ Over) × (r.owners.closer b ≡ r.owners.closer b) × (HasSweep b v → HasSweep b p)))
-      (λ e q. inl (ap r.owners.closer e ∙ closer_me, (l, (close_of a 0, inl refl, sym e))))
+      (λ e q. inl (ap r.owners.closer e ∙ closer_me, (l, (walk_of a 0, inl refl, sym e))))
       (λ ne q. inr (f, q, refl, (λ y. (y.0, (y.1.0, inr y.1.1, y.1.2))))))
       (slots_still z me v p r.memory r.owners r.memory r.owners same refl (λ s. refl) (λ s g f. f) refl)
       (pages_there me r.owners v p same refl refl)
@@ -205,7 +205,7 @@ module _ (z : Shape) (me : ℕ) (v : View) (l : v.live ≡ true) (sh : v.shape �
             ((λ e. y.1 (sym e)), tt);
         once = once_dropped a v.closes mine.once;
         sweeps = λ c. ⊎_elim
-            (λ (e : c ≡ close_of a 0). subst (IsSweeping z r.memory (moved_by r.machine es) r.owners me) (sym e) (record {
+            (λ (e : c ≡ walk_of a 0). subst (IsSweeping z r.memory (moved_by r.machine es) r.owners me) (sym e) (record {
               owner = closer_me;
               life = at_here r.machine.life a Over;
               session = r.world.sessions.closing_shown a closes_now;
@@ -229,7 +229,7 @@ module _ (z : Shape) (me : ℕ) (v : View) (l : v.live ≡ true) (sh : v.shape �
           read = mine.pages.read;
           claims = mine.pages.claims;
           lone = mine.pages.lone;
-          sweep = more_swept z r.memory.maps r.memory.cells r.owners.berth me (close_of a 0) v.sweeps v.swept mine.pages.sweep;
+          sweep = more_swept z r.memory.maps r.memory.cells r.owners.berth me (walk_of a 0) v.sweeps v.swept mine.pages.sweep;
         };
         number = number_stays z ws vs r me v at l es r.memory r.owners p d same refl (λ k. refl) (λ k. refl) (λ k. refl);
       })
@@ -243,7 +243,7 @@ module _ (z : Shape) (me : ℕ) (v : View) (l : v.live ≡ true) (sh : v.shape �
   visits false true e q = ends (eqb_false found (mark_of a) e) (eqb_true (k + 1) v.shape.passes q ∙ ap (λ (x : Shape). x.passes) sh)
   visits false false e q = walks (eqb_false found (mark_of a) e)
 
-pub visit_steps : (z : Shape) (me : ℕ) (v : View) (a : ArenaId) (k : ℕ) → v.live ≡ true → v.shape ≡ z → visited_of v.closes a ≡ Some k → k < z.passes
+pub visit_steps : (z : Shape) (me : ℕ) (v : View) (a : ArenaId) (k : ℕ) → v.live ≡ true → v.shape ≡ z → passed_of v.closes a ≡ Some k → k < z.passes
     → MayStep z (Visits a k) me v (place_at z (mark k)) (λ n. n)
 unfolding part entries noted
 visit_steps z me v a k l sh has low = record {

@@ -15,7 +15,7 @@ use Rattle.fm_pool_facts.specs.Loans.{lent}
 use Rattle.fm_pool_facts.specs.Parts.{unread, named, wiping}
 use Rattle.fm_pool_facts.specs.Views.{View, IsOver, given_of}
 use Rattle.fm_pool_facts.specs.Pages.{IsBlank}
-use Rattle.fm_pool_facts.specs.Closes.{visited_of, visited}
+use Rattle.fm_pool_facts.specs.Closes.{passed_of, advanced}
 use Rattle.fm_pool_facts.specs.Steps.{part, entries, noted, none_noted, AreAllGiven}
 use Rattle.fm_pool_facts.specs.Facts.{own_map, shut, Berth, loose, claimed, mapped, unmapped, IsAt, IsNext, IsWiped, HasSwept, HasPage, Owns, Rule}
 use Rattle.fm_pool_facts.specs.Moves.{MayStep, MayStore}
@@ -26,7 +26,7 @@ use Rattle.fm_pool_facts.proofs.Living.{pages_wipe}
 use Rattle.fm_pool_facts.proofs.Returning.{pages_back}
 use Rattle.fm_pool_facts.proofs.Shown.{shows_same, shows_map, shows_cell, shows_page_bits}
 use Rattle.fm_pool_facts.proofs.Groups.{set_here, set_else, page_group}
-use Rattle.fm_pool_steps.proofs.Closes.{once_visited}
+use Rattle.fm_pool_steps.proofs.Closes.{once_advanced}
 use Rattle.fm_pool_steps.proofs.Reading.{eqb_true, eqb_false, none_read, page_read, page_back}
 use Rattle.fm_pool_steps.proofs.Plain.{own, given_over, Made}
 use Rattle.fm_pool_steps.proofs.Sweeping.{ended_now, shut_now, fit, next_here, sweep_on, sweeps_kept, sweeps_more, visits, stays_there, not_wiping}
@@ -35,7 +35,7 @@ use Rattle.fm_pool_steps.proofs.Sweeping.{ended_now, shut_now, fit, next_here, s
 none_stays : (f : ℕ → ℕ → Option ℕ) (s i b n : ℕ) → f b n ≡ None → put f s (put (f s) i None) b n ≡ None
 none_stays f s i b n e = two_cases f s i None b n (λ (x : Option ℕ). x ≡ None) (λ p q. refl) (λ p. e)
 
-module _ (z : Shape) (me : ℕ) (v : View) (l : v.live ≡ true) (a : ArenaId) (k : ℕ) (has : visited_of v.sweeps a ≡ Some k)
+module _ (z : Shape) (me : ℕ) (v : View) (l : v.live ≡ true) (a : ArenaId) (k : ℕ) (has : passed_of v.sweeps a ≡ Some k)
     (ws : List ℕ) (vs : List View) (r : Rule z ws vs) (at : get_elem? vs me ≡ some v) where
   abbrev mine : Owns z r.history r.memory r.machine r.owners me v
   mine = own z ws vs r me v at l
@@ -77,9 +77,9 @@ module _ (z : Shape) (me : ℕ) (v : View) (l : v.live ≡ true) (a : ArenaId) (
 
       looks : (b : Bool) → (seen == 0) ≡ b
           → Made z ws vs me v map_at seen
-          (record v { swept = if b then unread else named a k (seen - 1); sweeps = if b then visited a v.sweeps else v.sweeps }) [] none_noted
+          (record v { swept = if b then unread else named a k (seen - 1); sweeps = if b then advanced a v.sweeps else v.sweeps }) [] none_noted
       looks true e = sweep_on z me v l a k has ws vs r at map_at seen r.memory.page_bits r.memory.maps r.memory.cells r.memory.given r.owners.berth
-          (visited a v.sweeps) unread [] (record {
+          (advanced a v.sweeps) unread [] (record {
             may = tt;
             ends = λ b. tt;
             stays = refl;
@@ -90,12 +90,12 @@ module _ (z : Shape) (me : ℕ) (v : View) (l : v.live ≡ true) (a : ArenaId) (
             lends = tt;
             pages = r.pages;
             there = visits z me v l a k has ws vs r at;
-            keep = λ q j b. inr (refl, nothing_held q (r.owners.berth q) (record v { sweeps = visited a v.sweeps; swept = unread }) refl refl);
+            keep = λ q j b. inr (refl, nothing_held q (r.owners.berth q) (record v { sweeps = advanced a v.sweeps; swept = unread }) refl refl);
             shows = shows_same z r.valid ws r.memory r.shows map_at;
             world = r.world;
             sweeps = sweeps_more z me v l a k has ws vs r at r.memory.page_bits r.memory.maps r.memory.cells r.owners.berth (λ b n h. h)
                 (none_read (r.memory.maps a.slot k) (sym is_map ∙ eqb_true seen 0 e)) low;
-            once = once_visited a v.sweeps mine.swept_once;
+            once = once_advanced a v.sweeps mine.swept_once;
             of_page = tt;
           })
       looks false e = sweep_on z me v l a k has ws vs r at map_at seen r.memory.page_bits r.memory.maps r.memory.cells r.memory.given r.owners.berth
@@ -232,7 +232,7 @@ module _ (z : Shape) (me : ℕ) (v : View) (l : v.live ≡ true) (a : ArenaId) (
       -- it is given back, and its loan is taken back
       returns : AreAllGiven v a k w → IsOver v a
           → Made z ws vs me v (place_at z (bits_place (p / 64))) (bit_or (get_or ws (place_at z (bits_place (p / 64))) 0) (2 ^ (p % 64)))
-          (record v { sweeps = visited a v.sweeps; swept = unread })
+          (record v { sweeps = advanced a v.sweeps; swept = unread })
           (entry_of v.caller (Back p) Fine ∷ []) none_noted
       returns all over =
           let i : ℕ = place_at z (bits_place (p / 64)) in
@@ -242,8 +242,8 @@ module _ (z : Shape) (me : ℕ) (v : View) (l : v.live ≡ true) (a : ArenaId) (
           let is : found ≡ r.memory.page_bits (p / 64) = r.shows.page_bits (p / 64) group in
           let bits' : ℕ → ℕ = put r.memory.page_bits (p / 64) word in
           let berth' : ℕ → Berth = put r.owners.berth p loose in
-          let p' : View = record v { sweeps = visited a v.sweeps; swept = unread } in
-          sweep_on z me v l a k has ws vs r at i word bits' r.memory.maps r.memory.cells r.memory.given berth' (visited a v.sweeps) unread
+          let p' : View = record v { sweeps = advanced a v.sweeps; swept = unread } in
+          sweep_on z me v l a k has ws vs r at i word bits' r.memory.maps r.memory.cells r.memory.given berth' (advanced a v.sweeps) unread
           (entry_of v.caller (Back p) Fine ∷ []) (record {
             may = (refl, tt, refl, tt);
             ends = λ b. ((λ h. h), tt);
@@ -266,11 +266,11 @@ module _ (z : Shape) (me : ℕ) (v : View) (l : v.live ≡ true) (a : ArenaId) (
             shows = shows_page_bits z r.valid ws r.memory r.shows (p / 64) word group;
             world = world_pages z r.memory r.machine r.world bits' r.memory.maps r.memory.cells;
             sweeps = sweeps_more z me v l a k has ws vs r at bits' r.memory.maps r.memory.cells berth' (λ b n h. h) held.empty low;
-            once = once_visited a v.sweeps mine.swept_once;
+            once = once_advanced a v.sweeps mine.swept_once;
             of_page = tt;
           })
         where
-          gone : (q : ℕ) → q ≢ p → (b : Berth) → HasPage q b v → HasPage q b (record v { sweeps = visited a v.sweeps; swept = unread })
+          gone : (q : ℕ) → q ≢ p → (b : Berth) → HasPage q b v → HasPage q b (record v { sweeps = advanced a v.sweeps; swept = unread })
           gone q n loose h = h
           gone q n (claimed j) h = h
           gone q n (mapped c i) h = h
@@ -278,7 +278,7 @@ module _ (z : Shape) (me : ℕ) (v : View) (l : v.live ≡ true) (a : ArenaId) (
 
 -- ---- the steps
 
-module _ (z : Shape) (me : ℕ) (v : View) (a : ArenaId) (i : ℕ) (l : v.live ≡ true) (has : visited_of v.sweeps a ≡ Some i) where
+module _ (z : Shape) (me : ℕ) (v : View) (a : ArenaId) (i : ℕ) (l : v.live ≡ true) (has : passed_of v.sweeps a ≡ Some i) where
   -- the map word of the next part is read
   pub look_map_steps : v.shape ≡ z → i < z.reach → v.swept ≡ unread → MayStep z (SweepsMap a i) me v (place_at z (map a.slot i)) (λ n. n)
   unfolding part entries noted

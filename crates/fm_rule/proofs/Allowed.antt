@@ -8,7 +8,7 @@ use Rattle.fm_base.specs.declared.caller.Caller.{Caller}
 use Rattle.fm_base.specs.declared.arena_id.ArenaId.{ArenaId}
 use Rattle.fm_base.specs.Calls.{Entry}
 use Rattle.fm_base.specs.Histories.{made_by}
-use Rattle.fm_base.specs.Finds.{Find, Gathered, Close}
+use Rattle.fm_base.specs.Finds.{Find, Gathered, Close, Sweep}
 use Rattle.fm_pool_facts.specs.declared.step.Step.{Step}
 use Rattle.fm_pool_facts.specs.declared.step.Step.TheVariants.{Draws, Marks, Checks, Loads, Stores, SwapsIf, Adds, Allocates, Holds, Unholds, Backs, Unmarks, Shuts, Visits, TakesSlot, LearnsGeneration, Opens, Claims, Maps, ReadsMap, SweepsGiven, SweepsMap, Unmaps, Wipes, GivesPage, ReturnsPage, ResetsGiven, Retires, GivesSlot, Looks, TakesNumber, LearnsTerm, RaisesTerm, GivesNumber}
 use Rattle.fm_pool_facts.specs.Views.{Met, View, In, IsSound, all_gathered, brought}
@@ -16,7 +16,7 @@ use Rattle.fm_pool_facts.specs.Words.{alive_holds, inside_found, shut_found, hol
 use Rattle.fm_pool_facts.specs.Hands.{Hand, nothing, learnt, takes, hand_taken, hand_retired, Number, no_number, number_learnt, number_left, number_taken_by, number_after, drawn_by}
 use Rattle.fm_pool_facts.specs.Holds.{grips, with_grips, holds_after, handles_with, released}
 use Rattle.fm_pool_facts.specs.Handles.{giving, given_back}
-use Rattle.fm_pool_facts.specs.Closes.{begun, visited, dropped, visit_found, closes_after, sweeps_after}
+use Rattle.fm_pool_facts.specs.Closes.{begun, advanced, dropped, visit_found, closes_after, sweeps_after}
 use Rattle.fm_pool_facts.specs.Steps.{Stepped, part, draws, number_at}
 use Rattle.fm_pool_facts.specs.Facts.{Rule}
 use Rattle.fm_pool_facts.specs.Parts.{Mapping, Swept, unread, wiping, reads_after, reads_mapped, pages_mapped, pages_taken, swept_read}
@@ -74,13 +74,13 @@ alike_number : (v : View) (k : Number) → Alike v (record v { number = k })
 alike_number v k = record { home = refl; shape = refl; live = refl; caller = refl; seen = refl; met = refl; finds = refl; gathered = refl }
 
 -- a step may change these
-alike_but : (v : View) (i m : Option ArenaId) (cs ss : List Close) (hand : Hand) (hs gs : List ArenaId)
+alike_but : (v : View) (i m : Option ArenaId) (cs : List Close) (ss : List Sweep) (hand : Hand) (hs gs : List ArenaId)
     → Alike v (record v { inside = i; mark = m; closes = cs; sweeps = ss; hand = hand; holds = hs; handles = gs })
 alike_but v i m cs ss hand hs gs =
     record { home = refl; shape = refl; live = refl; caller = refl; seen = refl; met = refl; finds = refl; gathered = refl }
 
 -- and these
-alike_pages : (v : View) (i : Option ArenaId) (ss : List Close) (w : Swept) (ps : List ℕ) (ms : List Mapping)
+alike_pages : (v : View) (i : Option ArenaId) (ss : List Sweep) (w : Swept) (ps : List ℕ) (ms : List Mapping)
     → Alike v (record v { inside = i; sweeps = ss; swept = w; pages = ps; reads = ms })
 alike_pages v i ss w ps ms = record { home = refl; shape = refl; live = refl; caller = refl; seen = refl; met = refl; finds = refl; gathered = refl }
 
@@ -111,12 +111,12 @@ same_part (Claims g e b) v x = alike_pages v v.inside v.sweeps v.swept (pages_ta
 same_part (Maps a i p) v x = alike_pages v v.inside v.sweeps v.swept (pages_mapped x v.pages) (reads_mapped i p x v.reads)
 same_part (ReadsMap a i) v x = alike_pages v v.inside v.sweeps v.swept v.pages (reads_after i x v.reads)
 same_part (SweepsGiven a) v x = alike_none v
-same_part (SweepsMap a i) v x = alike_pages v v.inside (if x == 0 then visited a v.sweeps else v.sweeps) (swept_read a i x) v.pages v.reads
+same_part (SweepsMap a i) v x = alike_pages v v.inside (if x == 0 then advanced a v.sweeps else v.sweeps) (swept_read a i x) v.pages v.reads
 same_part (Unmaps a i p) v x = alike_pages v v.inside v.sweeps (wiping a i p 0) v.pages v.reads
 same_part (Wipes a i p w) v x = alike_pages v v.inside v.sweeps (wiping a i p (w + 1)) v.pages v.reads
 same_part (GivesPage p) v x = alike_pages v v.inside v.sweeps v.swept [] v.reads
-same_part (ReturnsPage a p) v x = alike_pages v v.inside (visited a v.sweeps) unread v.pages v.reads
-same_part (ResetsGiven a) v x = alike_but v v.inside v.mark v.closes (visited a v.sweeps) v.hand v.holds v.handles
+same_part (ReturnsPage a p) v x = alike_pages v v.inside (advanced a v.sweeps) unread v.pages v.reads
+same_part (ResetsGiven a) v x = alike_but v v.inside v.mark v.closes (advanced a v.sweeps) v.hand v.holds v.handles
 same_part (Retires a) v x =
     let h = hand_retired (a.generation + 1 == v.shape.generations) a.slot v.hand in
     alike_but v v.inside v.mark v.closes (dropped a v.sweeps) h v.holds v.handles

@@ -7,11 +7,11 @@ use Rattle.fm_words.proofs.Tables.{at-within, words-le}
 use Rattle.fm_base.specs.declared.arena_id.ArenaId.{ArenaId}
 use Rattle.fm_pool_facts.specs.Hands.{Hand, HasSlot}
 use Rattle.fm_pool_facts.specs.Views.{View, Fits, In, IsKnown, IsOver, IsSound}
-use Rattle.fm_pool_facts.specs.Closes.{visited_of}
+use Rattle.fm_pool_facts.specs.Closes.{passed_of}
 use Rattle.fm_pool_facts.specs.Steps.{CanReach, HasPlace, AreAllGiven, number_at, CanDraw, can_draw, can_look}
 use Rattle.fm_pool_facts.specs.Parts.{wiping, mapping_of}
 use Rattle.std.proofs.Math.Nat.{mod-lt}
-use Rattle.fm_pool_steps.proofs.Closes.{visited_of-found}
+use Rattle.fm_pool_steps.proofs.Closes.{passed_of-found}
 use Rattle.fm_rule.specs.declared.pass.Part.{Part}
 use Rattle.std.proofs.lemmas.Nat.{div-mul-add, mod-mul-add}
 use Rattle.atomic_table.specs.Seated.{TableId}
@@ -130,17 +130,17 @@ module _ (now v : View) (home : List ℕ) (z : Shape) (is : homed home v ≡ now
         subst (λ (x : Shape). s < x.slots) shape_is (sound.hand s (subst (HasSlot s) (sym (ap (λ (x : View). x.hand) is ∙ h)) i))
 
     -- an arena that it sweeps fits the pool
-    pub swept_fits : (a : ArenaId) (k : ℕ) → visited_of now.sweeps a ≡ Some k → Fits z a
+    pub swept_fits : (a : ArenaId) (k : ℕ) → passed_of now.sweeps a ≡ Some k → Fits z a
     swept_fits a k at =
-        let f = visited_of-found v.sweeps a k (ap (λ (x : View). visited_of x.sweeps a) is ∙ at) in
+        let f = passed_of-found v.sweeps a k (ap (λ (x : View). passed_of x.sweeps a) is ∙ at) in
         subst (λ (b : ArenaId). Fits z b) f.arena
-        (subst (λ (x : Shape). Fits x f.close.arena) shape_is (sound.fits f.close.arena (sound.swept f.close f.there).known))
+        (subst (λ (x : Shape). Fits x f.walk.arena) shape_is (sound.fits f.walk.arena (sound.swept f.walk f.there).known))
 
     -- and is over
-    pub swept_over : (a : ArenaId) (k : ℕ) → visited_of now.sweeps a ≡ Some k → IsOver v a
+    pub swept_over : (a : ArenaId) (k : ℕ) → passed_of now.sweeps a ≡ Some k → IsOver v a
     swept_over a k at =
-        let f = visited_of-found v.sweeps a k (ap (λ (x : View). visited_of x.sweeps a) is ∙ at) in
-        subst (IsOver v) f.arena (sound.swept f.close f.there)
+        let f = passed_of-found v.sweeps a k (ap (λ (x : View). passed_of x.sweeps a) is ∙ at) in
+        subst (IsOver v) f.arena (sound.swept f.walk f.there)
 
     -- the arena that it is inside has a slot
     pub inside_slot : (a : ArenaId) → now.inside ≡ Some a → a.slot < z.slots

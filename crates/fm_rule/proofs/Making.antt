@@ -15,7 +15,7 @@ use Rattle.fm_pool_facts.specs.declared.step.Step.TheVariants.{Draws, Marks, Che
 use Rattle.fm_pool_facts.specs.Views.{View, In, IsKnown, IsOver, limit_of}
 use Rattle.fm_pool_facts.specs.Words.{alive_word, closing_word, free_word, held_word, mark_of}
 use Rattle.fm_pool_facts.specs.Handles.{back_word}
-use Rattle.fm_pool_facts.specs.Closes.{visited_of}
+use Rattle.fm_pool_facts.specs.Closes.{passed_of}
 use Rattle.fm_pool_facts.specs.Steps.{draw_next, number_at, CanDraw, CanReach, HasParts, AreAllGiven, given_next}
 use Rattle.fm_words.specs.Maps.{map_word}
 use Rattle.fm_pool_facts.specs.Parts.{unread, named, wiping, mapping_of}
@@ -128,7 +128,7 @@ module _ (z : Shape) (id : ℕ) (v : View) (l : v.live ≡ true) (i : ℕ) where
   may_shut a o n k u h g p q r =
       subst (λ (x : ℕ × ℕ × ℕ). MayStep z (Shuts a) id v x.0 (λ y. either (y == x.1) x.2 y)) (λ j. (sym p j, sym q j, sym r j)) (shut_steps z id v a l k u h g)
 
-  pub may_visit : (a : ArenaId) (k : ℕ) → v.shape ≡ z → visited_of v.closes a ≡ Some k → k < z.passes → i ≡ at z (mark k)
+  pub may_visit : (a : ArenaId) (k : ℕ) → v.shape ≡ z → passed_of v.closes a ≡ Some k → k < z.passes → i ≡ at z (mark k)
       → MayStep z (Visits a k) id v i (λ n. n)
   may_visit a k s h low p = subst (λ (x : ℕ). MayStep z (Visits a k) id v x (λ n. n)) (sym p) (visit_steps z id v a k l s h low)
 
@@ -144,31 +144,31 @@ module _ (z : Shape) (id : ℕ) (v : View) (l : v.live ≡ true) (i : ℕ) where
       → MayStore z (Opens a) id v i y
   may_open a y h o p q = subst (λ (x : ℕ × ℕ). MayStore z (Opens a) id v x.0 x.1) (λ j. (sym p j, sym q j)) (open_steps z id v a l h o)
 
-  pub may_sweep_given : (a : ArenaId) → v.shape ≡ z → visited_of v.sweeps a ≡ Some 0 → i ≡ at z (given a.slot)
+  pub may_sweep_given : (a : ArenaId) → v.shape ≡ z → passed_of v.sweeps a ≡ Some 0 → i ≡ at z (given a.slot)
       → MayStep z (SweepsGiven a) id v i (λ n. n)
   may_sweep_given a sh s p = subst (λ (x : ℕ). MayStep z (SweepsGiven a) id v x (λ n. n)) (sym p) (given_steps z id v a 0 l s (omega arith) sh)
 
-  pub may_sweep_map : (a : ArenaId) (k : ℕ) → v.shape ≡ z → visited_of v.sweeps a ≡ Some k → k < z.reach → v.swept ≡ unread → i ≡ at z (map a.slot k)
+  pub may_sweep_map : (a : ArenaId) (k : ℕ) → v.shape ≡ z → passed_of v.sweeps a ≡ Some k → k < z.reach → v.swept ≡ unread → i ≡ at z (map a.slot k)
       → MayStep z (SweepsMap a k) id v i (λ n. n)
   may_sweep_map a k sh s h u p = subst (λ (x : ℕ). MayStep z (SweepsMap a k) id v x (λ n. n)) (sym p) (look_map_steps z id v a k l s sh h u)
 
-  pub may_unmap : (a : ArenaId) (k q : ℕ) → visited_of v.sweeps a ≡ Some k → k < z.reach → v.swept ≡ named a k q → i ≡ at z (map a.slot k)
+  pub may_unmap : (a : ArenaId) (k q : ℕ) → passed_of v.sweeps a ≡ Some k → k < z.reach → v.swept ≡ named a k q → i ≡ at z (map a.slot k)
       → MayStore z (Unmaps a k q) id v i 0
   may_unmap a k q s h u p = subst (λ (x : ℕ). MayStore z (Unmaps a k q) id v x 0) (sym p) (unmap_steps z id v a k l s q h u)
 
-  pub may_wipe : (a : ArenaId) (k q w : ℕ) → visited_of v.sweeps a ≡ Some k → k < z.reach → v.swept ≡ wiping a k q w → w < z.page_words
+  pub may_wipe : (a : ArenaId) (k q w : ℕ) → passed_of v.sweeps a ≡ Some k → k < z.reach → v.swept ≡ wiping a k q w → w < z.page_words
       → i ≡ at z (page_word q w) → MayStore z (Wipes a k q w) id v i 0
   may_wipe a k q w s h u f p = subst (λ (x : ℕ). MayStore z (Wipes a k q w) id v x 0) (sym p) (wipe_steps z id v a k l s q w h u f)
 
-  pub may_return_page : (a : ArenaId) (k q w n : ℕ) → visited_of v.sweeps a ≡ Some k → k < z.reach → v.swept ≡ wiping a k q w → AreAllGiven v a k w
+  pub may_return_page : (a : ArenaId) (k q w n : ℕ) → passed_of v.sweeps a ≡ Some k → k < z.reach → v.swept ≡ wiping a k q w → AreAllGiven v a k w
       → IsOver v a → i ≡ at z (page_bits (q / 64)) → n ≡ 2 ^ (q % 64) → MayStep z (ReturnsPage a q) id v i (λ w. bit_or w n)
   may_return_page a k q w n s h u g o p e =
       subst (λ (x : ℕ × ℕ). MayStep z (ReturnsPage a q) id v x.0 (λ w. bit_or w x.1)) (λ j. (sym p j, sym e j)) (return_steps z id v a k l s q w h u g o)
 
-  pub may_reset : (a : ArenaId) → visited_of v.sweeps a ≡ Some z.reach → v.swept ≡ unread → i ≡ at z (given a.slot) → MayStore z (ResetsGiven a) id v i 0
+  pub may_reset : (a : ArenaId) → passed_of v.sweeps a ≡ Some z.reach → v.swept ≡ unread → i ≡ at z (given a.slot) → MayStore z (ResetsGiven a) id v i 0
   may_reset a s u p = subst (λ (x : ℕ). MayStore z (ResetsGiven a) id v x 0) (sym p) (reset_steps z id v a l s u)
 
-  pub may_retire : (a : ArenaId) (y : ℕ) → v.shape ≡ z → v.hand ≡ nothing → v.swept ≡ unread → visited_of v.sweeps a ≡ Some (z.reach + 1)
+  pub may_retire : (a : ArenaId) (y : ℕ) → v.shape ≡ z → v.hand ≡ nothing → v.swept ≡ unread → passed_of v.sweeps a ≡ Some (z.reach + 1)
       → i ≡ at z (session a.slot) → y ≡ free_word z.generations (a.generation + 1) → MayStore z (Retires a) id v i y
   may_retire a y e h u s p q = subst (λ (x : ℕ × ℕ). MayStore z (Retires a) id v x.0 x.1) (λ j. (sym p j, sym q j)) (retire_steps z id v a l e h u s)
 

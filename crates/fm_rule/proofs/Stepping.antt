@@ -11,7 +11,7 @@ use Rattle.fm_pool_facts.specs.Words.{alive_holds, enter_found, inside_found, ho
 use Rattle.fm_pool_facts.specs.Hands.{nothing, learnt, takes, hand_taken, hand_retired, Number, no_number, number_learnt, number_left, number_taken_by, number_after, drawn_by}
 use Rattle.fm_pool_facts.specs.Holds.{grips, with_grips, holds_after, handles_with, released}
 use Rattle.fm_pool_facts.specs.Handles.{giving, given_back, giving_entries}
-use Rattle.fm_pool_facts.specs.Closes.{begun, visited, dropped, visit_found, closes_after, sweeps_after, visit_entries}
+use Rattle.fm_pool_facts.specs.Closes.{begun, advanced, dropped, visit_found, closes_after, sweeps_after, visit_entries}
 use Rattle.fm_pool_facts.specs.Steps.{Stepped, draws, note_draw, part, entries, noted, acted, none_noted, where_found, note_of, number_at}
 use Rattle.fm_pool_facts.specs.Moves.{LearnsCount, LearnsSlots, Tells, LearnsMap}
 use Rattle.fm_pool_facts.specs.Parts.{unread, wiping, reads_after, reads_mapped, pages_mapped, pages_taken, swept_read}
@@ -212,10 +212,10 @@ module _ (now v w : View) (home home' : List ℕ) (is : homed home v ≡ now) (s
   count_swept a x t = t.learns
 
   pub sweep_map_stepped : (a : ArenaId) (i : ℕ) (x : ℕ) → Tells (SweepsMap a i) v x w
-      → Stepped now (homed home' w) (record now { swept = swept_read a i x; sweeps = if x == 0 then visited a now.sweeps else now.sweeps }) ([]) (none_noted)
+      → Stepped now (homed home' w) (record now { swept = swept_read a i x; sweeps = if x == 0 then advanced a now.sweeps else now.sweeps }) ([]) (none_noted)
   unfolding part entries noted
   sweep_map_stepped a i x t =
-      stepped_as (λ (y : View). record y { swept = swept_read a i x; sweeps = if x == 0 then visited a y.sweeps else y.sweeps }) (λ (y : View). [])
+      stepped_as (λ (y : View). record y { swept = swept_read a i x; sweeps = if x == 0 then advanced a y.sweeps else y.sweeps }) (λ (y : View). [])
       (λ (y : View). none_noted)
       (stepped home v (part (SweepsMap a i) v x) w (entries (SweepsMap a i) v x) (noted (SweepsMap a i) v x) (same_part (SweepsMap a i) v x) met t.gives)
 
@@ -232,10 +232,10 @@ module _ (now v w : View) (home home' : List ℕ) (is : homed home v ≡ now) (s
       (stepped home v (part (Wipes a i p n) v x) w (entries (Wipes a i p n) v x) (noted (Wipes a i p n) v x) (same_part (Wipes a i p n) v x) met t.gives)
 
   pub return_page_stepped : (a : ArenaId) (p : ℕ) (x : ℕ) → Tells (ReturnsPage a p) v x w
-      → Stepped now (homed home' w) (record now { swept = unread; sweeps = visited a now.sweeps }) (entry_of now.caller (Back p) Fine ∷ []) (none_noted)
+      → Stepped now (homed home' w) (record now { swept = unread; sweeps = advanced a now.sweeps }) (entry_of now.caller (Back p) Fine ∷ []) (none_noted)
   unfolding part entries noted
   return_page_stepped a p x t =
-      stepped_as (λ (y : View). record y { swept = unread; sweeps = visited a y.sweeps }) (λ (y : View). entry_of y.caller (Back p) Fine ∷ [])
+      stepped_as (λ (y : View). record y { swept = unread; sweeps = advanced a y.sweeps }) (λ (y : View). entry_of y.caller (Back p) Fine ∷ [])
       (λ (y : View). none_noted)
       (stepped home v (part (ReturnsPage a p) v x) w (entries (ReturnsPage a p) v x) (noted (ReturnsPage a p) v x)
       (same_part (ReturnsPage a p) v x) met t.gives)
@@ -283,9 +283,9 @@ module _ (now v w : View) (home home' : List ℕ) (is : homed home v ≡ now) (s
   count_found given size align x a t ins n = t.learns a (ap (λ (y : View). y.inside) is ∙ ins) n
 
   pub reset_stepped : (a : ArenaId) (x : ℕ) → Tells (ResetsGiven a) v x w
-      → Stepped now (homed home' w) (record now { sweeps = visited a now.sweeps }) [] none_noted
+      → Stepped now (homed home' w) (record now { sweeps = advanced a now.sweeps }) [] none_noted
   unfolding part entries noted
-  reset_stepped a x t = stepped_as (λ (y : View). record y { sweeps = visited a y.sweeps }) (λ y. []) (λ y. none_noted)
+  reset_stepped a x t = stepped_as (λ (y : View). record y { sweeps = advanced a y.sweeps }) (λ y. []) (λ y. none_noted)
       (stepped home v (part (ResetsGiven a) v x) w [] none_noted (same_part (ResetsGiven a) v x) met t.gives)
 
   pub retire_stepped : (a : ArenaId) (x : ℕ) → Tells (Retires a) v x w

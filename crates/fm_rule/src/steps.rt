@@ -7,7 +7,7 @@ ghost use Rattle.fm_base.specs.Finds.{Visits as Visiting};
 ghost use Rattle.fm_pool_facts.specs.Views.{IsKnown};
 ghost use Rattle.fm_pool_facts.specs.Words.{alive_holds, enter_found, inside_found, own_word, shut_found};
 ghost use Rattle.fm_pool_facts.specs.Holds.{handles_with};
-ghost use Rattle.fm_pool_facts.specs.Closes.{begun, visited_of, visit_found, closes_after, sweeps_after, visit_entries};
+ghost use Rattle.fm_pool_facts.specs.Closes.{begun, passed_of, visit_found, closes_after, sweeps_after, visit_entries};
 ghost use Rattle.fm_pool_facts.specs.Steps.{Stepped, CanReach, HasPlace, none_noted, note_of, acted};
 ghost use Rattle.fm_pool_facts.specs.Hands.{nothing, learnt};
 ghost use Rattle.fm_rule.specs.Passes.{IsOf};
@@ -112,7 +112,7 @@ pub fn step_shut(pool: &Pool, pass: &mut Pass, a: ArenaId) -> u64
 /// close has visited it; where it was the last one, nobody is under way, and the arena ends at this step: its sweep is begun.
 pub fn step_visit(pool: &Pool, pass: &mut Pass, a: ArenaId, k: u32) -> u64
     requires of { IsOf pool.now pass.old }
-    requires close { visited_of pass.old.closes a ≡ Some k }
+    requires close { passed_of pass.old.closes a ≡ Some k }
     requires low { k < pass.old.shape.passes }
     ensures own { k ≡ pass.old.caller.number → result ≡ own_word pass.old.mark }
     ensures stepped { Stepped pass.old pass.new

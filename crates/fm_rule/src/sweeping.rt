@@ -3,7 +3,7 @@ ghost use Rattle.std.specs.Prelude.{◌≡◌, ◌<◌, ◌≤◌, ◌+◌, ◌=
 ghost use Rattle.fm_base.specs.Calls as machine;
 ghost use Rattle.fm_base.specs.Calls.{entry_of};
 ghost use Rattle.fm_pool_facts.specs.Parts.{unread, named, wiping, swept_read};
-ghost use Rattle.fm_pool_facts.specs.Closes.{visited_of, visited, dropped};
+ghost use Rattle.fm_pool_facts.specs.Closes.{passed_of, advanced, dropped};
 ghost use Rattle.fm_pool_facts.specs.Hands.{nothing, retired, hand_retired};
 ghost use Rattle.fm_pool_facts.specs.Views.{given_of};
 ghost use Rattle.fm_pool_facts.specs.Steps.{Stepped, AreAllGiven, none_noted};
@@ -20,7 +20,7 @@ use std::marker::Brand;
 /// Answers how many bytes an arena gave that has ended, at the beginning of its sweep. It gives no more.
 pub fn step_sweep_given(pool: &Pool, pass: &mut Pass, a: ArenaId) -> u64
     requires of { IsOf pool.now pass.old }
-    requires sweep { visited_of pass.old.sweeps a ≡ Some 0 }
+    requires sweep { passed_of pass.old.sweeps a ≡ Some 0 }
     ensures count { result ≡ given_of pass.new a }
     ensures stepped { Stepped pass.old pass.new pass.old [] none_noted }
 {
@@ -32,14 +32,14 @@ pub fn step_sweep_given(pool: &Pool, pass: &mut Pass, a: ArenaId) -> u64
 /// Answers the map word of the next part that the sweep of the arena comes to. Where it is 0, the part is behind it.
 pub fn step_sweep_map(pool: &Pool, pass: &mut Pass, a: ArenaId, index: u32) -> u64
     requires of { IsOf pool.now pass.old }
-    requires sweep { visited_of pass.old.sweeps a ≡ Some index }
+    requires sweep { passed_of pass.old.sweeps a ≡ Some index }
     requires low { index < pool.now.shape.reach }
     requires idle { pass.old.swept ≡ unread }
     ensures low { result ≤ pass.old.shape.pages }
     ensures stepped { Stepped pass.old pass.new
         (record pass.old {
           swept = swept_read a index result;
-          sweeps = if result == 0 then visited a pass.old.sweeps else pass.old.sweeps;
+          sweeps = if result == 0 then advanced a pass.old.sweeps else pass.old.sweeps;
         }) [] none_noted }
 {
     let seat = &mut pass.seat;
@@ -50,7 +50,7 @@ pub fn step_sweep_map(pool: &Pool, pass: &mut Pass, a: ArenaId, index: u32) -> u
 /// Makes the map word of this part 0, which named the page.
 pub fn step_unmap(pool: &Pool, pass: &mut Pass, a: ArenaId, index: u32, page: u32)
     requires of { IsOf pool.now pass.old }
-    requires sweep { visited_of pass.old.sweeps a ≡ Some index }
+    requires sweep { passed_of pass.old.sweeps a ≡ Some index }
     requires low { index < pool.now.shape.reach }
     requires named { pass.old.swept ≡ named a index page }
     ensures { Stepped pass.old pass.new (record pass.old { swept = wiping a index page 0 }) [] none_noted }
@@ -63,7 +63,7 @@ pub fn step_unmap(pool: &Pool, pass: &mut Pass, a: ArenaId, index: u32, page: u3
 /// Makes the word of this index of the page 0, the next one that the sweep wipes. Nobody else uses the page.
 pub fn step_wipe(pool: &Pool, pass: &mut Pass, a: ArenaId, index: u32, page: u32, word: u32)
     requires of { IsOf pool.now pass.old }
-    requires sweep { visited_of pass.old.sweeps a ≡ Some index }
+    requires sweep { passed_of pass.old.sweeps a ≡ Some index }
     requires low { index < pool.now.shape.reach }
     requires wiped { pass.old.swept ≡ wiping a index page word }
     requires word { word < pool.now.shape.page_words }
@@ -78,11 +78,11 @@ pub fn step_wipe(pool: &Pool, pass: &mut Pass, a: ArenaId, index: u32, page: u32
 /// be claimed from this step on. Words without a given byte are 0 as they stand.
 pub fn step_return_page(pool: &Pool, pass: &mut Pass, a: ArenaId, index: u32, page: u32, words: u32)
     requires of { IsOf pool.now pass.old }
-    requires sweep { visited_of pass.old.sweeps a ≡ Some index }
+    requires sweep { passed_of pass.old.sweeps a ≡ Some index }
     requires low { index < pool.now.shape.reach }
     requires wiped { pass.old.swept ≡ wiping a index page words }
     requires all { AreAllGiven pass.old a index words }
-    ensures { Stepped pass.old pass.new (record pass.old { swept = unread; sweeps = visited a pass.old.sweeps })
+    ensures { Stepped pass.old pass.new (record pass.old { swept = unread; sweeps = advanced a pass.old.sweeps })
         (entry_of pass.old.caller (machine.Back page) machine.Fine ∷ []) none_noted }
 {
     let _ = (index, words);
@@ -95,9 +95,9 @@ pub fn step_return_page(pool: &Pool, pass: &mut Pass, a: ArenaId, index: u32, pa
 /// Makes the count of bytes 0 that the arena has given. None of its parts has a page any more.
 pub fn step_reset_given(pool: &Pool, pass: &mut Pass, a: ArenaId)
     requires of { IsOf pool.now pass.old }
-    requires sweep { visited_of pass.old.sweeps a ≡ Some pool.now.shape.reach }
+    requires sweep { passed_of pass.old.sweeps a ≡ Some pool.now.shape.reach }
     requires idle { pass.old.swept ≡ unread }
-    ensures { Stepped pass.old pass.new (record pass.old { sweeps = visited a pass.old.sweeps }) [] none_noted }
+    ensures { Stepped pass.old pass.new (record pass.old { sweeps = advanced a pass.old.sweeps }) [] none_noted }
 {
     let seat = &mut pass.seat;
     let place = pool.shape.given_place(a.slot);
@@ -109,7 +109,7 @@ pub fn step_reset_given(pool: &Pool, pass: &mut Pass, a: ArenaId)
 pub fn step_retire(pool: &Pool, pass: &mut Pass, a: ArenaId)
     requires of { IsOf pool.now pass.old }
     requires none { pass.old.hand ≡ nothing }
-    requires sweep { visited_of pass.old.sweeps a ≡ Some (pool.now.shape.reach + 1) }
+    requires sweep { passed_of pass.old.sweeps a ≡ Some (pool.now.shape.reach + 1) }
     requires idle { pass.old.swept ≡ unread }
     ensures { Stepped pass.old pass.new
         (record pass.old {

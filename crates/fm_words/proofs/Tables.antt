@@ -6,7 +6,7 @@ use Rattle.std.proofs.lemmas.Bool.{cases_lt}
 use Rattle.std.proofs.lemmas.Nat.{mul-add-lt, same_from_place, div-add-mod', mod_below, div_below}
 use Rattle.fm_words.specs.declared.shape.Shape.{Shape}
 use Rattle.fm_words.specs.Shapes.{IsValid}
-use Rattle.fm_words.specs.Places.{Place, front, draw, slot_bits, mark, page_bits, session, given, map, number_bits, term, page_word, IsPlace, page_groups, groups, marks_from, sessions_from, given_from, maps_from, numbers_from, terms_from, pages_from, at, words, NamesEachWordOnce}
+use Rattle.fm_words.specs.Places.{Place, front, draw, slot_bits, mark, page_bits, session, given, map, number_bits, term, page_word, IsPlace, page_groups, groups, marks_from, sessions_from, given_from, maps_from, pages_from, page_bits_from, numbers_from, terms_from, at, words, NamesEachWordOnce}
 
 -- Places lie within the table.
 pub at-within : (z : Shape) (p : Place) → IsPlace z p → at z p < words z
@@ -14,7 +14,6 @@ unfolding at words
 at-within z front h = omega arith
 at-within z draw h = omega arith
 at-within z slot_bits h = omega arith
-at-within z (page_bits g) h = let n : ℕ = page_groups z in let l : g < n = h in omega arith
 at-within z (mark k) h = omega arith
 at-within z (session s) h = omega arith
 at-within z (given s) h = omega arith
@@ -22,18 +21,26 @@ at-within z (map s i) h =
     let row = mul-add-lt s z.reach i z.slots h.0 h.1 in
     let below : s * z.reach + i < z.slots * z.reach = omega (arith, row) in
     omega arith
-at-within z (number_bits g) h = let n : ℕ = groups z in let l : g < n = h in omega arith
-at-within z (term k) h = let n : ℕ = groups z in omega arith
 at-within z (page_word k w) h =
     let row = mul-add-lt k z.page_words w z.pages h.0 h.1 in
     let below : k * z.page_words + w < z.pages * z.page_words = omega (arith, row) in
     omega arith
+at-within z (page_bits g) h = let n : ℕ = page_groups z in let l : g < n = h in omega arith
+at-within z (number_bits g) h = let n : ℕ = groups z in let l : g < n = h in omega arith
+at-within z (term k) h = let n : ℕ = groups z in omega arith
 
 -- A map word stands before what follows the maps.
-map-below : (z : Shape) (s i : ℕ) → IsPlace z (map s i) → maps_from z + (s * z.reach + i) < numbers_from z
+map-below : (z : Shape) (s i : ℕ) → IsPlace z (map s i) → maps_from z + (s * z.reach + i) < pages_from z
 map-below z s i h =
     let row = mul-add-lt s z.reach i z.slots h.0 h.1 in
     let below : s * z.reach + i < z.slots * z.reach = omega (arith, row) in
+    omega arith
+
+-- A word of a page stands before what follows the pages.
+page-below : (z : Shape) (k w : ℕ) → IsPlace z (page_word k w) → pages_from z + (k * z.page_words + w) < page_bits_from z
+page-below z k w h =
+    let row = mul-add-lt k z.page_words w z.pages h.0 h.1 in
+    let below : k * z.page_words + w < z.pages * z.page_words = omega (arith, row) in
     omega arith
 
 -- Two places are never one word.
@@ -42,7 +49,6 @@ unfolding at
 at-apart z front front a b e = refl
 at-apart z draw draw a b e = refl
 at-apart z slot_bits slot_bits a b e = refl
-at-apart z (page_bits g) (page_bits h) a b e = let q : g ≡ h = omega arith in ap page_bits q
 at-apart z (mark k) (mark i) a b e = let h : k ≡ i = omega arith in ap mark h
 at-apart z (session s) (session t) a b e = let h : s ≡ t = omega arith in ap session h
 at-apart z (given s) (given t) a b e = let h : s ≡ t = omega arith in ap given h
@@ -50,18 +56,27 @@ at-apart z (map s i) (map t j) a b e =
     let place : s * z.reach + i ≡ t * z.reach + j = omega arith in
     let same = same_from_place s i t j z.reach a.1 b.1 place in
     λ n. map (same.0 n) (same.1 n)
+at-apart z (map s i) (page_word k w) a b e = absurd (omega (arith, map-below z s i a))
+at-apart z (page_word k w) (map s i) a b e = absurd (omega (arith, map-below z s i b))
+at-apart z (map s i) (page_bits g) a b e = absurd (omega (arith, map-below z s i a))
+at-apart z (page_bits g) (map s i) a b e = absurd (omega (arith, map-below z s i b))
 at-apart z (map s i) (number_bits g) a b e = absurd (omega (arith, map-below z s i a))
 at-apart z (number_bits g) (map s i) a b e = absurd (omega (arith, map-below z s i b))
 at-apart z (map s i) (term k) a b e = absurd (omega (arith, map-below z s i a))
 at-apart z (term k) (map s i) a b e = absurd (omega (arith, map-below z s i b))
-at-apart z (map s i) (page_word k w) a b e = absurd (omega (arith, map-below z s i a))
-at-apart z (page_word k w) (map s i) a b e = absurd (omega (arith, map-below z s i b))
-at-apart z (number_bits g) (number_bits h) a b e = let q : g ≡ h = omega arith in ap number_bits q
-at-apart z (term k) (term i) a b e = let h : k ≡ i = omega arith in ap term h
 at-apart z (page_word k w) (page_word i v) a b e =
     let place : k * z.page_words + w ≡ i * z.page_words + v = omega arith in
     let same = same_from_place k w i v z.page_words a.1 b.1 place in
     λ j. page_word (same.0 j) (same.1 j)
+at-apart z (page_word k w) (page_bits g) a b e = absurd (omega (arith, page-below z k w a))
+at-apart z (page_bits g) (page_word k w) a b e = absurd (omega (arith, page-below z k w b))
+at-apart z (page_word k w) (number_bits g) a b e = absurd (omega (arith, page-below z k w a))
+at-apart z (number_bits g) (page_word k w) a b e = absurd (omega (arith, page-below z k w b))
+at-apart z (page_word k w) (term i) a b e = absurd (omega (arith, page-below z k w a))
+at-apart z (term i) (page_word k w) a b e = absurd (omega (arith, page-below z k w b))
+at-apart z (page_bits g) (page_bits h) a b e = let q : g ≡ h = omega arith in ap page_bits q
+at-apart z (number_bits g) (number_bits h) a b e = let q : g ≡ h = omega arith in ap number_bits q
+at-apart z (term k) (term i) a b e = let h : k ≡ i = omega arith in ap term h
 at-apart z _ _ a b e = absurd (omega arith)
 
 -- A product above a number has no factor 0.
@@ -74,22 +89,9 @@ abbrev pub PlaceAt : Shape → ℕ → Type 0
 PlaceAt z i = (p : Place) × IsPlace z p × (at z p ≡ i)
 
 -- Where each kind of words begins, a word is of this kind or of a later one.
-named_from_pages : (z : Shape) (i : ℕ) → pages_from z ≤ i → i < words z → PlaceAt z i
-unfolding at words
-named_from_pages z i h below =
-    let n = i - pages_from z in
-    let inside : i - pages_from z < z.pages * z.page_words = omega arith in
-    let some : 0 < z.page_words = positive z.pages z.page_words n inside in
-    let whole = div-add-mod' n z.page_words in
-    let page = div_below n z.page_words z.pages some inside in
-    (page_word (n / z.page_words) (n % z.page_words), (page, mod_below n z.page_words some), omega (arith, whole))
-
 named_from_terms : (z : Shape) (i : ℕ) → terms_from z ≤ i → i < words z → PlaceAt z i
-unfolding at
-named_from_terms z i h below = elim (cases_lt i (pages_from z)) [
-  | inl l ↦ (term (i - terms_from z), omega arith, omega arith)
-  | inr l ↦ named_from_pages z i l below
-]
+unfolding at words
+named_from_terms z i h below = (term (i - terms_from z), omega arith, omega arith)
 
 named_from_numbers : (z : Shape) (i : ℕ) → numbers_from z ≤ i → i < words z → PlaceAt z i
 unfolding at
@@ -98,9 +100,29 @@ named_from_numbers z i h below = elim (cases_lt i (terms_from z)) [
   | inr l ↦ named_from_terms z i l below
 ]
 
+named_from_page_bits : (z : Shape) (i : ℕ) → page_bits_from z ≤ i → i < words z → PlaceAt z i
+unfolding at
+named_from_page_bits z i h below = elim (cases_lt i (numbers_from z)) [
+  | inl l ↦ (page_bits (i - page_bits_from z), omega arith, omega arith)
+  | inr l ↦ named_from_numbers z i l below
+]
+
+named_from_pages : (z : Shape) (i : ℕ) → pages_from z ≤ i → i < words z → PlaceAt z i
+unfolding at
+named_from_pages z i h below = elim (cases_lt i (page_bits_from z)) [
+  | inl l ↦ (
+      let n = i - pages_from z in
+      let inside : i - pages_from z < z.pages * z.page_words = omega arith in
+      let some : 0 < z.page_words = positive z.pages z.page_words n inside in
+      let whole = div-add-mod' n z.page_words in
+      let page = div_below n z.page_words z.pages some inside in
+      (page_word (n / z.page_words) (n % z.page_words), (page, mod_below n z.page_words some), omega (arith, whole)))
+  | inr l ↦ named_from_page_bits z i l below
+]
+
 named_from_maps : (z : Shape) (i : ℕ) → maps_from z ≤ i → i < words z → PlaceAt z i
 unfolding at
-named_from_maps z i h below = elim (cases_lt i (numbers_from z)) [
+named_from_maps z i h below = elim (cases_lt i (pages_from z)) [
   | inl l ↦ (
       let n = i - maps_from z in
       let inside : i - maps_from z < z.slots * z.reach = omega arith in
@@ -108,7 +130,7 @@ named_from_maps z i h below = elim (cases_lt i (numbers_from z)) [
       let whole = div-add-mod' n z.reach in
       let slot = div_below n z.reach z.slots some inside in
       (map (n / z.reach) (n % z.reach), (slot, mod_below n z.reach some), omega (arith, whole)))
-  | inr l ↦ named_from_numbers z i l below
+  | inr l ↦ named_from_pages z i l below
 ]
 
 named_from_given : (z : Shape) (i : ℕ) → given_from z ≤ i → i < words z → PlaceAt z i
@@ -125,18 +147,11 @@ named_from_sessions z i h below = elim (cases_lt i (given_from z)) [
   | inr l ↦ named_from_given z i l below
 ]
 
-named_from_marks : (z : Shape) (i : ℕ) → marks_from z ≤ i → i < words z → PlaceAt z i
+named_from_marks : (z : Shape) (i : ℕ) → marks_from ≤ i → i < words z → PlaceAt z i
 unfolding at
 named_from_marks z i h below = elim (cases_lt i (sessions_from z)) [
-  | inl l ↦ (mark (i - marks_from z), omega arith, omega arith)
+  | inl l ↦ (mark (i - marks_from), omega arith, omega arith)
   | inr l ↦ named_from_sessions z i l below
-]
-
-named_from_page_bits : (z : Shape) (i : ℕ) → 3 ≤ i → i < words z → PlaceAt z i
-unfolding at
-named_from_page_bits z i h below = elim (cases_lt i (marks_from z)) [
-  | inl l ↦ (page_bits (i - 3), omega arith, omega arith)
-  | inr l ↦ named_from_marks z i l below
 ]
 
 -- Each word of the table has a place.
@@ -145,7 +160,7 @@ unfolding at
 at-named z zero h = (front, tt, refl)
 at-named z (suc zero) h = (draw, tt, refl)
 at-named z (suc (suc zero)) h = (slot_bits, tt, refl)
-at-named z (suc (suc (suc i))) h = named_from_page_bits z (suc (suc (suc i))) (omega arith) h
+at-named z (suc (suc (suc i))) h = named_from_marks z (suc (suc (suc i))) (omega arith) h
 
 -- So the places name each word once.
 pub every_word : (z : Shape) → NamesEachWordOnce z

@@ -10,8 +10,6 @@ pub data Place : Type 0 where
   draw : Place
   -- bit k is 1 where slot k can be lent
   slot_bits : Place
-  -- a word of page bits: bit k of word g is 1 where the page 64 g + k can be claimed
-  page_bits : ℕ → Place
   -- the mark of a pass
   mark : ℕ → Place
   -- the session of a slot
@@ -20,12 +18,14 @@ pub data Place : Type 0 where
   given : ℕ → Place
   -- of a slot, the map word of a part
   map : ℕ → ℕ → Place
+  -- of a page, one of its words
+  page_word : ℕ → ℕ → Place
+  -- a word of page bits: bit k of word g is 1 where the page 64 g + k can be claimed
+  page_bits : ℕ → Place
   -- a word of number bits: bit k of word g is 1 where the number 64 g + k can be drawn
   number_bits : ℕ → Place
   -- the term of a number
   term : ℕ → Place
-  -- of a page, one of its words
-  page_word : ℕ → ℕ → Place
 
 -- how many words of page bits there are
 abbrev pub page_groups : Shape → ℕ
@@ -40,21 +40,21 @@ abbrev pub IsPlace : Shape → Place → Type 0
 IsPlace z front = Unit {0}
 IsPlace z draw = Unit {0}
 IsPlace z slot_bits = Unit {0}
-IsPlace z (page_bits g) = g < page_groups z
 IsPlace z (mark k) = k < z.passes
 IsPlace z (session s) = s < z.slots
 IsPlace z (given s) = s < z.slots
 IsPlace z (map s i) = (s < z.slots) × (i < z.reach)
+IsPlace z (page_word k w) = (k < z.pages) × (w < z.page_words)
+IsPlace z (page_bits g) = g < page_groups z
 IsPlace z (number_bits g) = g < groups z
 IsPlace z (term k) = k < z.passes
-IsPlace z (page_word k w) = (k < z.pages) × (w < z.page_words)
 
--- where the words of each kind begin: where those of the kind before end
-abbrev pub marks_from : Shape → ℕ
-marks_from z = 3 + page_groups z
+-- where the words of each kind begin: where those of the kind before end. What a visit looks at comes first, at the shortest sums.
+abbrev pub marks_from : ℕ
+marks_from = 3
 
 abbrev pub sessions_from : Shape → ℕ
-sessions_from z = marks_from z + z.passes
+sessions_from z = marks_from + z.passes
 
 abbrev pub given_from : Shape → ℕ
 given_from z = sessions_from z + z.slots
@@ -62,32 +62,35 @@ given_from z = sessions_from z + z.slots
 abbrev pub maps_from : Shape → ℕ
 maps_from z = given_from z + z.slots
 
+abbrev pub pages_from : Shape → ℕ
+pages_from z = maps_from z + z.slots * z.reach
+
+abbrev pub page_bits_from : Shape → ℕ
+page_bits_from z = pages_from z + z.pages * z.page_words
+
 abbrev pub numbers_from : Shape → ℕ
-numbers_from z = maps_from z + z.slots * z.reach
+numbers_from z = page_bits_from z + page_groups z
 
 abbrev pub terms_from : Shape → ℕ
 terms_from z = numbers_from z + groups z
 
-abbrev pub pages_from : Shape → ℕ
-pages_from z = terms_from z + z.passes
-
 -- how many words the table has
 unfoldable pub words : Shape → ℕ
-words z = pages_from z + z.pages * z.page_words
+words z = terms_from z + z.passes
 
 -- the word at which a place lies
 unfoldable pub at : Shape → Place → ℕ
 at z front = 0
 at z draw = 1
 at z slot_bits = 2
-at z (page_bits g) = 3 + g
-at z (mark k) = marks_from z + k
+at z (mark k) = marks_from + k
 at z (session s) = sessions_from z + s
 at z (given s) = given_from z + s
 at z (map s i) = maps_from z + (s * z.reach + i)
+at z (page_word k w) = pages_from z + (k * z.page_words + w)
+at z (page_bits g) = page_bits_from z + g
 at z (number_bits g) = numbers_from z + g
 at z (term k) = terms_from z + k
-at z (page_word k w) = pages_from z + (k * z.page_words + w)
 
 -- each place lies in the table, no two at the same word, and each word of the table has a place
 pub record NamesEachWordOnce (z : Shape) : Type 0 where

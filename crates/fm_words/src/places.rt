@@ -1,11 +1,13 @@
 use crate::shape::Shape;
 
-/// The words before the page bits: front, draw and slot bits.
+/// The words before the marks: front, draw and slot bits.
 const SINGLE_WORDS: u64 = 3;
 
-/// Places of words in the table, from 0. It has the single words first, then the words of page bits, a mark for each
-/// pass, a session for each slot, a count of given bytes for each slot, the map words of each slot, the words of number
-/// bits, a term for each number, and last the pages, one after another.
+/// Places of words in the table, from 0. It has the single words first, then a mark for each pass, a session for each
+/// slot, a count of given bytes for each slot, the map words of each slot, and the pages, one after another; then the
+/// words of page bits, the words of number bits, and last a term for each number.
+///
+/// What a visit looks at comes first, since its places are computed at each visit.
 impl Shape {
     ghost use Rattle.std.specs.Prelude.{◌≡◌};
     ghost use Rattle.fm_words.specs.Shapes.{IsValid};
@@ -26,13 +28,13 @@ impl Shape {
       words,
       page_groups,
       groups,
-      marks_from,
       sessions_from,
       given_from,
       maps_from,
+      pages_from,
+      page_bits_from,
       numbers_from,
       terms_from,
-      pages_from,
     };
 
     /// How many words the table has.
@@ -40,7 +42,7 @@ impl Shape {
         requires { IsValid self.now }
         ensures { result ≡ words self.now }
     {
-        self.pages_from() + u64::from(self.pages) * u64::from(self.page_words)
+        self.terms_from() + u64::from(self.passes)
     }
 
     /// The place of the front word, which is always 0.
@@ -74,10 +76,11 @@ impl Shape {
 
     /// The place of the word whose bit k is 1 where the page `64 * group + k` can be claimed.
     pub fn page_bits_place(&self, group: u32) -> u64
-        requires { IsPlace self.now (page_bits group) }
+        requires valid { IsValid self.now }
+        requires place { IsPlace self.now (page_bits group) }
         ensures { result ≡ at self.now (page_bits group) }
     {
-        SINGLE_WORDS + u64::from(group)
+        self.page_bits_from() + u64::from(group)
     }
 
     /// The place of a pass's mark.
@@ -85,7 +88,7 @@ impl Shape {
         requires { IsPlace self.now (mark pass) }
         ensures { result ≡ at self.now (mark pass) }
     {
-        self.marks_from() + u64::from(pass)
+        SINGLE_WORDS + u64::from(pass)
     }
 
     /// The place of a slot's session.
@@ -148,16 +151,10 @@ impl Shape {
         self.pages_from() + u64::from(page) * u64::from(self.page_words) + u64::from(word)
     }
 
-    fn marks_from(&self) -> u64
-        ensures { result ≡ marks_from self.now }
-    {
-        SINGLE_WORDS + (u64::from(self.pages) + 63) / 64
-    }
-
     fn sessions_from(&self) -> u64
         ensures { result ≡ sessions_from self.now }
     {
-        self.marks_from() + u64::from(self.passes)
+        SINGLE_WORDS + u64::from(self.passes)
     }
 
     fn given_from(&self) -> u64
@@ -172,11 +169,25 @@ impl Shape {
         self.given_from() + u64::from(self.slots)
     }
 
+    fn pages_from(&self) -> u64
+        requires { IsValid self.now }
+        ensures { result ≡ pages_from self.now }
+    {
+        self.maps_from() + u64::from(self.slots) * u64::from(self.reach)
+    }
+
+    fn page_bits_from(&self) -> u64
+        requires { IsValid self.now }
+        ensures { result ≡ page_bits_from self.now }
+    {
+        self.pages_from() + u64::from(self.pages) * u64::from(self.page_words)
+    }
+
     fn numbers_from(&self) -> u64
         requires { IsValid self.now }
         ensures { result ≡ numbers_from self.now }
     {
-        self.maps_from() + u64::from(self.slots) * u64::from(self.reach)
+        self.page_bits_from() + u64::from(self.page_groups())
     }
 
     fn terms_from(&self) -> u64
@@ -184,12 +195,5 @@ impl Shape {
         ensures { result ≡ terms_from self.now }
     {
         self.numbers_from() + u64::from(self.groups())
-    }
-
-    fn pages_from(&self) -> u64
-        requires { IsValid self.now }
-        ensures { result ≡ pages_from self.now }
-    {
-        self.terms_from() + u64::from(self.passes)
     }
 }

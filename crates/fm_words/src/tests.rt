@@ -158,37 +158,38 @@ fn the_least_shape_has_one_of_each(rt: HostRuntime) {
     assert_eq!(rt; LEAST.front_place(), 0);
     assert_eq!(rt; LEAST.draw_place(), 1);
     assert_eq!(rt; LEAST.slot_bits_place(), 2);
-    assert_eq!(rt; LEAST.page_bits_place(0), 3);
-    assert_eq!(rt; LEAST.mark_place(0), 4);
-    assert_eq!(rt; LEAST.session_place(0), 5);
-    assert_eq!(rt; LEAST.given_place(0), 6);
-    assert_eq!(rt; LEAST.map_place(0, 0), 7);
+    assert_eq!(rt; LEAST.mark_place(0), 3);
+    assert_eq!(rt; LEAST.session_place(0), 4);
+    assert_eq!(rt; LEAST.given_place(0), 5);
+    assert_eq!(rt; LEAST.map_place(0, 0), 6);
+    assert_eq!(rt; LEAST.page_place(0, 0), 7);
+    assert_eq!(rt; LEAST.page_bits_place(0), 8);
     assert_eq!(rt; LEAST.groups(), 1);
-    assert_eq!(rt; LEAST.number_bits_place(0), 8);
-    assert_eq!(rt; LEAST.term_place(0), 9);
-    assert_eq!(rt; LEAST.page_place(0, 0), 10);
+    assert_eq!(rt; LEAST.number_bits_place(0), 9);
+    assert_eq!(rt; LEAST.term_place(0), 10);
     assert_eq!(rt; LEAST.words(), 11);
 }
 
 #[test]
 fn the_greatest_shape_has_128_mebibytes(rt: HostRuntime) {
     assert!(rt; GREATEST.is_valid());
+    assert_eq!(rt; GREATEST.mark_place(4_095), 4_098);
+    assert_eq!(rt; GREATEST.session_place(0), 4_099);
+    assert_eq!(rt; GREATEST.session_place(63), 4_162);
+    assert_eq!(rt; GREATEST.given_place(0), 4_163);
+    assert_eq!(rt; GREATEST.given_place(63), 4_226);
+    assert_eq!(rt; GREATEST.map_place(0, 0), 4_227);
+    assert_eq!(rt; GREATEST.map_place(63, 4_095), 266_370);
+    assert_eq!(rt; GREATEST.page_place(0, 0), 266_371);
+    assert_eq!(rt; GREATEST.page_place(4_095, 4_095), 17_043_586);
     assert_eq!(rt; GREATEST.page_groups(), 64);
-    assert_eq!(rt; GREATEST.page_bits_place(63), 66);
-    assert_eq!(rt; GREATEST.mark_place(4_095), 4_162);
-    assert_eq!(rt; GREATEST.session_place(0), 4_163);
-    assert_eq!(rt; GREATEST.session_place(63), 4_226);
-    assert_eq!(rt; GREATEST.given_place(0), 4_227);
-    assert_eq!(rt; GREATEST.given_place(63), 4_290);
-    assert_eq!(rt; GREATEST.map_place(0, 0), 4_291);
-    assert_eq!(rt; GREATEST.map_place(63, 4_095), 266_434);
+    assert_eq!(rt; GREATEST.page_bits_place(0), 17_043_587);
+    assert_eq!(rt; GREATEST.page_bits_place(63), 17_043_650);
     assert_eq!(rt; GREATEST.groups(), 64);
-    assert_eq!(rt; GREATEST.number_bits_place(0), 266_435);
-    assert_eq!(rt; GREATEST.number_bits_place(63), 266_498);
-    assert_eq!(rt; GREATEST.term_place(0), 266_499);
-    assert_eq!(rt; GREATEST.term_place(4_095), 270_594);
-    assert_eq!(rt; GREATEST.page_place(0, 0), 270_595);
-    assert_eq!(rt; GREATEST.page_place(4_095, 4_095), 17_047_810);
+    assert_eq!(rt; GREATEST.number_bits_place(0), 17_043_651);
+    assert_eq!(rt; GREATEST.number_bits_place(63), 17_043_714);
+    assert_eq!(rt; GREATEST.term_place(0), 17_043_715);
+    assert_eq!(rt; GREATEST.term_place(4_095), 17_047_810);
     assert_eq!(rt; GREATEST.words(), 17_047_811);
 }
 
@@ -196,17 +197,18 @@ fn the_greatest_shape_has_128_mebibytes(rt: HostRuntime) {
 fn words_of_each_kind_lie_one_after_another(rt: HostRuntime) {
     every_word_has_one_place();
     assert!(rt; SMALL.is_valid());
-    assert_eq!(rt; SMALL.mark_place(2), 6);
-    assert_eq!(rt; SMALL.session_place(1), 8);
-    assert_eq!(rt; SMALL.given_place(1), 10);
-    assert_eq!(rt; SMALL.map_place(0, 3), 14);
-    assert_eq!(rt; SMALL.map_place(1, 0), 15);
-    assert_eq!(rt; SMALL.map_place(1, 3), 18);
-    assert_eq!(rt; SMALL.number_bits_place(0), 19);
-    assert_eq!(rt; SMALL.term_place(2), 22);
-    assert_eq!(rt; SMALL.page_place(0, 15), 38);
-    assert_eq!(rt; SMALL.page_place(1, 0), 39);
-    assert_eq!(rt; SMALL.page_place(7, 15), 150);
+    assert_eq!(rt; SMALL.mark_place(2), 5);
+    assert_eq!(rt; SMALL.session_place(1), 7);
+    assert_eq!(rt; SMALL.given_place(1), 9);
+    assert_eq!(rt; SMALL.map_place(0, 3), 13);
+    assert_eq!(rt; SMALL.map_place(1, 0), 14);
+    assert_eq!(rt; SMALL.map_place(1, 3), 17);
+    assert_eq!(rt; SMALL.page_place(0, 15), 33);
+    assert_eq!(rt; SMALL.page_place(1, 0), 34);
+    assert_eq!(rt; SMALL.page_place(7, 15), 145);
+    assert_eq!(rt; SMALL.page_bits_place(0), 146);
+    assert_eq!(rt; SMALL.number_bits_place(0), 147);
+    assert_eq!(rt; SMALL.term_place(2), 150);
     assert_eq!(rt; SMALL.words(), 151);
 }
 

@@ -8,8 +8,8 @@ use Rattle.fm_rule.proofs.Stepping.{give_page_stepped}
 use Rattle.fm_rule.proofs.Keeping.{give_page_keeps}
 use Rattle.fm_rule.proofs.paging.step_give_page.Goals as goal
 
-pub page_bits_place-place-requires : goal.page_bits_place-place-requires
-page_bits_place-place-requires c = page_group c.args.pool.now.shape c.args.page
+pub page_bits_place-place-requires-clause-place : goal.page_bits_place-place-requires-clause-place
+page_bits_place-place-requires-clause-place c = page_group c.args.pool.now.shape c.args.page
     (page_in_hand _ c.pass.inside.seat.me.0 _ _ c.pass.view_is c.requires.of.1 c.pass.invariant.sound c.args.page c.requires.page)
 
 pub or_as-requires-clause-can : goal.or_as-requires-clause-can

@@ -8,8 +8,8 @@ use Rattle.fm_rule.proofs.Stepping.{take_page_stepped}
 use Rattle.fm_rule.proofs.Keeping.{take_page_keeps}
 use Rattle.fm_rule.proofs.paging.step_take_page.Goals as goal
 
-pub page_bits_place-place-requires : goal.page_bits_place-place-requires
-page_bits_place-place-requires c = group_of_page c.args.pool.now.shape _ _ c.requires.fits
+pub page_bits_place-place-requires-clause-place : goal.page_bits_place-place-requires-clause-place
+page_bits_place-place-requires-clause-place c = group_of_page c.args.pool.now.shape _ _ c.requires.fits
 
 pub exchange_as-requires-clause-can : goal.exchange_as-requires-clause-can
 exchange_as-requires-clause-can c = record {

@@ -1,7 +1,7 @@
 use Rattle.std.proofs.Common.{ap, ◌∙◌, ◌<◌, sym, subst}
 use Rattle.fm_words.specs.declared.shape.Shape.{Shape}
 use Rattle.fm_pool_facts.specs.Views.{View}
-use Rattle.fm_pool_facts.specs.Closes.{visited_of}
+use Rattle.fm_pool_facts.specs.Closes.{passed_of}
 use Rattle.fm_pool_facts.specs.Words.{own_word}
 use Rattle.fm_rule.specs.Views.{numbers_of}
 use Rattle.fm_rule.proofs.Knowing.{in_pool, mark_below, shape_is}
@@ -15,7 +15,7 @@ load_as-requires-clause-can c = record {
   table = in_pool _ c.pass.inside.seat.me.0 _ c.args.pool.now c.pass.view_is c.requires.of;
   place = mark_below _ _ _ (subst (λ (x : Shape). c.args.k < x.passes) c.requires.of.1 c.requires.low) c.mark_place-place.ensures;
   may = may_visit _ _ c.pass.inside.seat.me.0 c.pass.invariant.live _ c.args.a c.args.k (shape_is _ c.pass.inside.seat.me.0 _ _ c.pass.view_is c.requires.of.1)
-      (ap (λ (x : View). visited_of x.closes c.args.a) c.pass.view_is
+      (ap (λ (x : View). passed_of x.closes c.args.a) c.pass.view_is
       ∙ c.requires.close) (subst (λ (x : Shape). c.args.k < x.passes) c.requires.of.1 c.requires.low) c.mark_place-place.ensures;
 }
 

@@ -1,6 +1,6 @@
 use Rattle.std.proofs.Common.{ap, ◌∙◌}
 use Rattle.fm_pool_facts.specs.Views.{View}
-use Rattle.fm_pool_facts.specs.Closes.{visited_of}
+use Rattle.fm_pool_facts.specs.Closes.{passed_of}
 use Rattle.fm_rule.specs.Views.{numbers_of}
 use Rattle.fm_rule.proofs.Knowing.{in_pool, given_below, swept_fits}
 use Rattle.fm_rule.proofs.Making.{may_reset}
@@ -19,7 +19,7 @@ store_as-requires-clause-can c = record {
       (swept_fits _ c.pass.inside.seat.me.0 _ _ c.pass.view_is c.requires.of.1 c.pass.invariant.sound c.args.a _ c.requires.sweep).slot
       c.given_place-place.ensures;
   may = may_reset _ _ c.pass.inside.seat.me.0 c.pass.invariant.live _ c.args.a
-      (ap (λ (x : View). visited_of x.sweeps c.args.a) c.pass.view_is ∙ c.requires.sweep)
+      (ap (λ (x : View). passed_of x.sweeps c.args.a) c.pass.view_is ∙ c.requires.sweep)
       (ap (λ (x : View). x.swept) c.pass.view_is ∙ c.requires.idle) c.given_place-place.ensures;
 }
 

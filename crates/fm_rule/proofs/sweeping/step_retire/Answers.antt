@@ -1,6 +1,6 @@
 use Rattle.std.proofs.Common.{ap, ◌∙◌}
 use Rattle.fm_pool_facts.specs.Views.{View}
-use Rattle.fm_pool_facts.specs.Closes.{visited_of}
+use Rattle.fm_pool_facts.specs.Closes.{passed_of}
 use Rattle.fm_rule.specs.Views.{numbers_of}
 use Rattle.fm_rule.proofs.Knowing.{in_pool, session_below, shape_is, swept_fits}
 use Rattle.fm_rule.proofs.Making.{may_retire}
@@ -25,7 +25,7 @@ store_as-requires-clause-can c = record {
   may = may_retire _ _ c.pass.inside.seat.me.0 c.pass.invariant.live _ c.args.a _
       (shape_is _ c.pass.inside.seat.me.0 _ _ c.pass.view_is c.requires.of.1) (ap (λ (x : View). x.hand) c.pass.view_is ∙ c.requires.none)
       (ap (λ (x : View). x.swept) c.pass.view_is ∙ c.requires.idle)
-      (ap (λ (x : View). visited_of x.sweeps c.args.a) c.pass.view_is ∙ c.requires.sweep) c.session_place-place.ensures c.retired_word-free.ensures;
+      (ap (λ (x : View). passed_of x.sweeps c.args.a) c.pass.view_is ∙ c.requires.sweep) c.session_place-place.ensures c.retired_word-free.ensures;
 }
 
 pub invariant_of-pass : goal.invariant_of-pass

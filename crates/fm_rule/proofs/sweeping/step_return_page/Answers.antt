@@ -1,6 +1,6 @@
 use Rattle.std.proofs.Common.{ap, ◌∙◌}
 use Rattle.fm_pool_facts.specs.Views.{View}
-use Rattle.fm_pool_facts.specs.Closes.{visited_of}
+use Rattle.fm_pool_facts.specs.Closes.{passed_of}
 use Rattle.fm_pool_facts.proofs.Groups.{page_group}
 use Rattle.fm_rule.specs.Views.{numbers_of}
 use Rattle.fm_rule.proofs.Knowing.{in_pool, page_bits_below, all_swept, swept_over, page_in_sweep}
@@ -9,8 +9,8 @@ use Rattle.fm_rule.proofs.Stepping.{return_page_stepped}
 use Rattle.fm_rule.proofs.Keeping.{return_page_keeps}
 use Rattle.fm_rule.proofs.sweeping.step_return_page.Goals as goal
 
-pub page_bits_place-place-requires : goal.page_bits_place-place-requires
-page_bits_place-place-requires c = page_group c.args.pool.now.shape c.args.page
+pub page_bits_place-place-requires-clause-place : goal.page_bits_place-place-requires-clause-place
+page_bits_place-place-requires-clause-place c = page_group c.args.pool.now.shape c.args.page
     (page_in_sweep _ c.pass.inside.seat.me.0 _ _ c.pass.view_is c.requires.of.1 c.pass.invariant.sound c.args.a c.args.index c.args.page _ c.requires.wiped)
 
 pub or_as-requires-clause-can : goal.or_as-requires-clause-can
@@ -20,7 +20,7 @@ or_as-requires-clause-can c = record {
       (page_in_sweep _ c.pass.inside.seat.me.0 _ _ c.pass.view_is c.requires.of.1 c.pass.invariant.sound c.args.a c.args.index c.args.page _ c.requires.wiped))
       c.page_bits_place-place.ensures;
   may = may_return_page _ _ c.pass.inside.seat.me.0 c.pass.invariant.live _ c.args.a c.args.index c.args.page c.args.words _
-      (ap (λ (x : View). visited_of x.sweeps c.args.a) c.pass.view_is ∙ c.requires.sweep) c.requires.low
+      (ap (λ (x : View). passed_of x.sweeps c.args.a) c.pass.view_is ∙ c.requires.sweep) c.requires.low
       (ap (λ (x : View). x.swept) c.pass.view_is ∙ c.requires.wiped)
       (all_swept _ c.pass.inside.seat.me.0 _ _ c.pass.view_is c.requires.of.1 c.args.a c.args.index c.args.words c.requires.all)
       (swept_over _ c.pass.inside.seat.me.0 _ _ c.pass.view_is c.requires.of.1 c.pass.invariant.sound c.args.a _ c.requires.sweep)

@@ -1,6 +1,6 @@
 use Rattle.std.proofs.Common.{ap, ◌∙◌}
 use Rattle.fm_pool_facts.specs.Views.{View}
-use Rattle.fm_pool_facts.specs.Closes.{visited_of}
+use Rattle.fm_pool_facts.specs.Closes.{passed_of}
 use Rattle.fm_rule.specs.Views.{numbers_of}
 use Rattle.fm_rule.proofs.Knowing.{in_pool, given_below, swept_fits, shape_is}
 use Rattle.fm_rule.proofs.Making.{may_sweep_given}
@@ -20,7 +20,7 @@ load_as-requires-clause-can c = record {
       c.given_place-place.ensures;
   may = may_sweep_given _ _ c.pass.inside.seat.me.0 c.pass.invariant.live _ c.args.a
       (shape_is _ c.pass.inside.seat.me.0 _ _ c.pass.view_is c.requires.of.1)
-      (ap (λ (x : View). visited_of x.sweeps c.args.a) c.pass.view_is ∙ c.requires.sweep) c.given_place-place.ensures;
+      (ap (λ (x : View). passed_of x.sweeps c.args.a) c.pass.view_is ∙ c.requires.sweep) c.given_place-place.ensures;
 }
 
 pub invariant_of-pass : goal.invariant_of-pass

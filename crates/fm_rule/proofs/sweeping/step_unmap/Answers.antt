@@ -1,6 +1,6 @@
 use Rattle.std.proofs.Common.{ap, ◌∙◌}
 use Rattle.fm_pool_facts.specs.Views.{View}
-use Rattle.fm_pool_facts.specs.Closes.{visited_of}
+use Rattle.fm_pool_facts.specs.Closes.{passed_of}
 use Rattle.fm_rule.specs.Views.{numbers_of}
 use Rattle.fm_rule.proofs.Knowing.{in_pool, map_below, swept_fits, valid}
 use Rattle.fm_rule.proofs.Making.{may_unmap}
@@ -21,7 +21,7 @@ store_as-requires-clause-can c = record {
   place = map_below _ _ _ _ (swept_fits _ c.pass.inside.seat.me.0 _ _ c.pass.view_is c.requires.of.1 c.pass.invariant.sound c.args.a _
       c.requires.sweep).slot c.requires.low c.map_place-place.ensures;
   may = may_unmap _ _ c.pass.inside.seat.me.0 c.pass.invariant.live _ c.args.a c.args.index c.args.page
-      (ap (λ (x : View). visited_of x.sweeps c.args.a) c.pass.view_is ∙ c.requires.sweep) c.requires.low
+      (ap (λ (x : View). passed_of x.sweeps c.args.a) c.pass.view_is ∙ c.requires.sweep) c.requires.low
       (ap (λ (x : View). x.swept) c.pass.view_is ∙ c.requires.named) c.map_place-place.ensures;
 }
 

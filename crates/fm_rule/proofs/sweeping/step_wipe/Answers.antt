@@ -1,6 +1,6 @@
 use Rattle.std.proofs.Common.{ap, ◌∙◌}
 use Rattle.fm_pool_facts.specs.Views.{View}
-use Rattle.fm_pool_facts.specs.Closes.{visited_of}
+use Rattle.fm_pool_facts.specs.Closes.{passed_of}
 use Rattle.fm_rule.specs.Views.{numbers_of}
 use Rattle.fm_rule.proofs.Knowing.{in_pool, page_below, page_in_sweep, valid}
 use Rattle.fm_rule.proofs.Making.{may_wipe}
@@ -24,7 +24,7 @@ store_as-requires-clause-can c = record {
   place = page_below _ _ _ _ (page_in_sweep _ c.pass.inside.seat.me.0 _ _ c.pass.view_is c.requires.of.1 c.pass.invariant.sound c.args.a c.args.index
       c.args.page _ c.requires.wiped) c.requires.word c.page_place-place.ensures;
   may = may_wipe _ _ c.pass.inside.seat.me.0 c.pass.invariant.live _ c.args.a c.args.index c.args.page c.args.word
-      (ap (λ (x : View). visited_of x.sweeps c.args.a) c.pass.view_is ∙ c.requires.sweep) c.requires.low
+      (ap (λ (x : View). passed_of x.sweeps c.args.a) c.pass.view_is ∙ c.requires.sweep) c.requires.low
       (ap (λ (x : View). x.swept) c.pass.view_is ∙ c.requires.wiped) c.requires.word c.page_place-place.ensures;
 }
 

@@ -4,4 +4,4 @@ use Rattle.fm_words.proofs.shape.Shape.words.Goals as goal
 
 pub returns : goal.returns
 unfolding words
-returns c = rw (c.from.ensures, c.from-2.ensures) (omega arith)
+returns c = rw c.terms_from.ensures (omega arith)
