@@ -4,7 +4,7 @@ use Rattle.fm_base.specs.declared.arena_id.ArenaId.{ArenaId}
 use Rattle.fm_base.specs.declared.refusal.Refusal.{Refusal}
 use Rattle.fm_base.specs.Calls.{Entry, Enter, Fine, entry_of}
 use Rattle.fm_base.specs.Histories.{made_by}
-use Rattle.fm_pool_facts.specs.Views.{View, In}
+use Rattle.fm_rule_facts.specs.Views.{View, In}
 use Rattle.fm_rule.specs.declared.pool.Pool.{Pool}
 use Rattle.fm_gate.specs.Learnt.{AfterAllocate}
 use Rattle.fm_arena.specs.Allocating.{AllocatesExactly}

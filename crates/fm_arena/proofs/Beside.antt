@@ -6,9 +6,9 @@ use Rattle.fm_base.specs.declared.refusal.Refusal.{Refusal}
 use Rattle.fm_base.specs.Arenas.{same_id}
 use Rattle.fm_base.specs.Finds.{Rest}
 use Rattle.fm_base.proofs.Names.{same_id-self}
-use Rattle.fm_pool_facts.specs.Views.{View, In}
-use Rattle.fm_pool_facts.specs.Holds.{how_many, one_if, released}
-use Rattle.fm_pool_facts.proofs.Summing.{some_hold, one_less}
+use Rattle.fm_rule_facts.specs.Views.{View, In}
+use Rattle.fm_rule_facts.specs.Holds.{how_many, one_if, released}
+use Rattle.fm_rule_facts.proofs.Summing.{some_hold, one_less}
 use Rattle.fm_gate.specs.declared.held.Hold.{Hold}
 use Rattle.fm_gate.specs.Learnt.{holds_taken, handles_opened, handles_again}
 use Rattle.fm_gate.proofs.Counted.{some_in, in_released}

@@ -17,11 +17,11 @@ use Rattle.fm_base.specs.Learnt as memory_calls
 use Rattle.fm_base.proofs.Making.{IsLegal-split}
 use Rattle.fm_base.proofs.Learning.{after_enter, after_act, after_patch, after_leave, after_open, after_allocate, after_close}
 use Rattle.fm_words.specs.declared.shape.Shape.{Shape}
-use Rattle.fm_pool_facts.specs.Views.{View, limit_of}
+use Rattle.fm_rule_facts.specs.Views.{View, limit_of}
 use Rattle.fm_rule.specs.declared.pool.Pool.{Pool}
-use Rattle.fm_calls.specs.Kept.{Goes, Kept, rest_of}
-use Rattle.fm_calls.specs.Told.{view_of_pass}
-use Rattle.fm_calls.proofs.Telling.{did_of}
+use Rattle.fm_rule_calls.specs.Kept.{Goes, Kept, rest_of}
+use Rattle.fm_rule_calls.specs.Told.{view_of_pass}
+use Rattle.fm_rule_calls.proofs.Telling.{did_of}
 use Rattle.fm_gate.specs.Learnt as gate
 use Rattle.fm_gate.proofs.Scarce.{one_empty}
 use Rattle.fm_close.specs.Learnt as closing

@@ -1,12 +1,12 @@
 -- What is told of a pass tells whether it has anything.
 use Rattle.std.proofs.Common.{◌≡◌, ◌∙◌, ap, subst, sym}
 use Rattle.fm_base.specs.Finds.{Rest}
-use Rattle.fm_pool_facts.specs.Views.{View}
+use Rattle.fm_rule_facts.specs.Views.{View}
 use Rattle.fm_rule.specs.declared.pool.Pool.{Pool}
 use Rattle.fm_rule.specs.Passes.{IsOf}
 use Rattle.fm_rule.specs.Draws.{CanGather}
-use Rattle.fm_calls.specs.Kept.{rest_of}
-use Rattle.fm_calls.proofs.Sweeps.{no_sweeps}
+use Rattle.fm_rule_calls.specs.Kept.{rest_of}
+use Rattle.fm_rule_calls.proofs.Sweeps.{no_sweeps}
 use Rattle.fm_gate.specs.Crews.{HasNothing}
 use Rattle.fm_arena.specs.Learnt.{AfterIntoPass}
 use Rattle.fm_arena.specs.Gathering.{WorkerLasts}

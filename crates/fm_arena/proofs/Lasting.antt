@@ -6,11 +6,11 @@ use Rattle.fm_base.specs.Finds.{Rest}
 use Rattle.fm_base.specs.View.{Makes}
 use Rattle.fm_base.proofs.Outcomes.{Makes-lasts}
 use Rattle.fm_words.specs.declared.shape.Shape.{Shape}
-use Rattle.fm_pool_facts.specs.Views.{View, In, IsKnown}
+use Rattle.fm_rule_facts.specs.Views.{View, In, IsKnown}
 use Rattle.fm_gate.specs.declared.held.Hold.{Hold}
 use Rattle.fm_gate.specs.Makers.{made_by_pass}
-use Rattle.fm_calls.specs.Kept.{shape_numbers}
-use Rattle.fm_calls.specs.Told.{view_of_pass}
+use Rattle.fm_rule_calls.specs.Kept.{shape_numbers}
+use Rattle.fm_rule_calls.specs.Told.{view_of_pass}
 use Rattle.fm_arena.specs.declared.handle.AutoHandle.{AutoHandle}
 use Rattle.fm_arena.specs.Learnt.{CanUnhold}
 use Rattle.fm_arena.specs.Handles.{HasHandle, IsHandled}

@@ -5,11 +5,11 @@ use Rattle.fm_base.specs.Calls.{Entry}
 use Rattle.fm_base.specs.Histories.{IsLegal, state_after}
 use Rattle.fm_base.proofs.Growing.{Grows, Grows-state_after}
 use Rattle.fm_base.proofs.Making.{state_after-append, IsLegal-split}
-use Rattle.fm_pool_facts.specs.Views.{View, limit_of}
-use Rattle.fm_pool_facts.specs.Steps.{Stepped, none_noted}
+use Rattle.fm_rule_facts.specs.Views.{View, limit_of}
+use Rattle.fm_rule_facts.specs.Steps.{Stepped, none_noted}
 use Rattle.fm_rule.specs.Passes.{GoesOnFrom}
-use Rattle.fm_calls.specs.Kept.{Goes}
-use Rattle.fm_calls.proofs.Going.{goes_of, no_draws, rest_is, inside_is, lasts_on}
+use Rattle.fm_rule_calls.specs.Kept.{Goes}
+use Rattle.fm_rule_calls.proofs.Going.{goes_of, no_draws, rest_is, inside_is, lasts_on}
 use Rattle.fm_arena.specs.Learnt.{AfterMeet}
 
 -- From the beginning of a legal history to its end arenas and what they gave are never fewer.

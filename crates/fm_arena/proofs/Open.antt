@@ -5,8 +5,8 @@ use Rattle.fm_base.specs.Arenas.{State, arena_of}
 use Rattle.fm_base.specs.Calls.{Enter, Closed, Entry}
 use Rattle.fm_base.specs.Finds.{Rest}
 use Rattle.fm_base.specs.View.{Makes}
-use Rattle.fm_pool_facts.specs.Views.{View, In, IsSound, grips, limit_of, state_in}
-use Rattle.fm_calls.specs.Told.{view_of_pass}
+use Rattle.fm_rule_facts.specs.Views.{View, In, IsSound, grips, limit_of, state_in}
+use Rattle.fm_rule_calls.specs.Told.{view_of_pass}
 use Rattle.fm_gate.proofs.Living.{none_shut_out, grips_are}
 use Rattle.fm_arena.specs.Open.{HeldIsOpen}
 

@@ -5,10 +5,10 @@ use Rattle.fm_base.specs.declared.kind.Kind.{Kind}
 use Rattle.fm_base.specs.declared.kind.Kind.TheVariants.{Automatic}
 use Rattle.fm_base.specs.declared.refusal.Refusal.{Refusal}
 use Rattle.fm_base.specs.Finds.{Sweep}
-use Rattle.fm_pool_facts.specs.Hands.{Hand, nothing}
-use Rattle.fm_pool_facts.specs.Views.{View}
+use Rattle.fm_rule_facts.specs.Hands.{Hand, nothing}
+use Rattle.fm_rule_facts.specs.Views.{View}
 use Rattle.fm_rule.specs.declared.pool.Pool.{Pool}
-use Rattle.fm_calls.specs.Kept.{slots_told}
+use Rattle.fm_rule_calls.specs.Kept.{slots_told}
 use Rattle.fm_gate.specs.Learnt.{AfterOpen}
 use Rattle.fm_arena.specs.Handles.{AfterStart}
 use Rattle.fm_arena.specs.Opening.{HasNoSlot, OpensExactly}

@@ -6,7 +6,7 @@ use Rattle.fm_base.specs.declared.refusal.Refusal.TheVariants.{PoolFull}
 use Rattle.fm_base.specs.Calls.{Entry, Enter, Fine, entry_of}
 use Rattle.fm_base.specs.Histories.{made_by}
 use Rattle.fm_base.specs.View.{is_loan}
-use Rattle.fm_pool_facts.specs.Views.{View, In}
+use Rattle.fm_rule_facts.specs.Views.{View, In}
 use Rattle.fm_gate.specs.Pages.{FoundNoPage, FullExactly, LendsInRange}
 use Rattle.fm_arena.specs.Opening.{HasNoSlot}
 

@@ -6,9 +6,9 @@ use Rattle.fm_base.specs.declared.refusal.Refusal.{Refusal}
 use Rattle.fm_base.specs.declared.refusal.Refusal.TheVariants.{NoSlot}
 use Rattle.fm_base.specs.Does.{DoesOpen, DoesAgain, DoesGiveBack}
 use Rattle.fm_base.specs.View.{but_loans}
-use Rattle.fm_pool_facts.specs.Views.{View, In, IsKnown}
-use Rattle.fm_pool_facts.specs.Holds.{released}
-use Rattle.fm_calls.specs.Kept.{KeptHandling, HasEnded, HasNoWords, Lasts}
+use Rattle.fm_rule_facts.specs.Views.{View, In, IsKnown}
+use Rattle.fm_rule_facts.specs.Holds.{released}
+use Rattle.fm_rule_calls.specs.Kept.{KeptHandling, HasEnded, HasNoWords, Lasts}
 use Rattle.fm_gate.specs.Makers.{made_by_pass}
 use Rattle.fm_gate.specs.Learnt.{IsNew, handles_opened, handles_again}
 use Rattle.fm_close.specs.Does.{others_left}

@@ -8,11 +8,11 @@ use Rattle.fm_base.specs.Arenas.{has_arena, arena_of}
 use Rattle.fm_base.specs.Calls.{Entry}
 use Rattle.fm_base.specs.Histories.{state_after}
 use Rattle.fm_base.specs.Does.{DoesIsAlive, DoesUnhold}
-use Rattle.fm_pool_facts.specs.Views.{View, In, IsKnown, IsSound, given_of, grips, limit_of}
-use Rattle.fm_pool_facts.specs.Holds.{released}
+use Rattle.fm_rule_facts.specs.Views.{View, In, IsKnown, IsSound, given_of, grips, limit_of}
+use Rattle.fm_rule_facts.specs.Holds.{released}
 use Rattle.fm_rule.specs.declared.pool.Pool.{Pool}
 use Rattle.fm_rule.specs.Passes.{IsOf, GoesOnFrom}
-use Rattle.fm_calls.specs.Kept.{Kept, KeptHolding, Lasts}
+use Rattle.fm_rule_calls.specs.Kept.{Kept, KeptHolding, Lasts}
 use Rattle.fm_gate.specs.declared.held.Hold.{Hold}
 use Rattle.fm_gate.specs.Makers.{made_by_pass}
 use Rattle.fm_gate.specs.Standing.{IsOutside}

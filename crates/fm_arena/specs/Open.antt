@@ -3,8 +3,8 @@ use Rattle.std.specs.Prelude.{◌≡◌, ◌≢◌, List, All}
 use Rattle.fm_base.specs.declared.arena_id.ArenaId.{ArenaId}
 use Rattle.fm_base.specs.Calls.{Enter, Closed, Entry}
 use Rattle.fm_base.specs.View.{Makes}
-use Rattle.fm_pool_facts.specs.Views.{View, In, IsAlive, IsSound, grips}
-use Rattle.fm_calls.specs.Told.{view_of_pass}
+use Rattle.fm_rule_facts.specs.Views.{View, In, IsAlive, IsSound, grips}
+use Rattle.fm_rule_calls.specs.Told.{view_of_pass}
 
 -- none of the caller's own entries is a visit to it that was answered Closed: so no call that is refused `Closed` by such a visit is
 abbrev pub NeverShutOut : Type 0

@@ -2,8 +2,8 @@
 use Rattle.std.specs.Prelude.{◌≡◌, ◌≤◌, true, [], length, Result, IfOk, IfErr}
 use Rattle.fm_base.specs.declared.refusal.Refusal.{Refusal}
 use Rattle.fm_base.specs.Finds.{FoundNothing, is_slot}
-use Rattle.fm_pool_facts.specs.Views.{View}
-use Rattle.fm_calls.specs.Kept.{rest_of}
+use Rattle.fm_rule_facts.specs.Views.{View}
+use Rattle.fm_rule_calls.specs.Kept.{rest_of}
 use Rattle.fm_gate.specs.Learnt.{AllBusy}
 
 -- no slot in its hand, nor that of an arena that it ended and hasn't swept

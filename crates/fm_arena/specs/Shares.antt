@@ -2,11 +2,11 @@
 use Rattle.std.specs.Prelude.{◌≡◌, true, false, [], None}
 use Rattle.fm_base.specs.declared.arena_id.ArenaId.{ArenaId}
 use Rattle.fm_base.specs.Outcomes.{Nature}
-use Rattle.fm_pool_facts.specs.Views.{View}
-use Rattle.fm_pool_facts.specs.Hands.{nothing, no_number}
-use Rattle.fm_pool_facts.specs.Parts.{unread}
+use Rattle.fm_rule_facts.specs.Views.{View}
+use Rattle.fm_rule_facts.specs.Hands.{nothing, no_number}
+use Rattle.fm_rule_facts.specs.Parts.{unread}
 use Rattle.fm_rule.specs.declared.pool.Pool.{Pool}
-use Rattle.fm_calls.specs.Kept.{HasEnded, HasNoWords}
+use Rattle.fm_rule_calls.specs.Kept.{HasEnded, HasNoWords}
 use Rattle.fm_gate.specs.Standing.{IsOutside}
 use Rattle.fm_rule.specs.Passes.{IsOf}
 

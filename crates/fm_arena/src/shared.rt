@@ -24,7 +24,7 @@ pub struct Shared<'a> {
 }
 
 impl<'a> Model for Shared<'a> {
-    ghost use Rattle.fm_pool_facts.specs.Views.{View};
+    ghost use Rattle.fm_rule_facts.specs.Views.{View};
     ghost use Rattle.fm_arena.specs.Shares.{IsHeld};
 
     ghost Value = { View };
@@ -36,7 +36,7 @@ impl<'a> Model for Shared<'a> {
 
 impl<'a> Shared<'a> {
     ghost use Rattle.fm_base.specs.Learnt.{AfterOpen, CanOpen, CanVisit};
-    ghost use Rattle.fm_calls.specs.Told.{view_of_pass};
+    ghost use Rattle.fm_rule_calls.specs.Told.{view_of_pass};
     ghost use Rattle.fm_arena.specs.Allocating.{AllocatesExactly};
     ghost use Rattle.fm_arena.specs.Arenas.{AfterAllocate, placed, started};
     ghost use Rattle.fm_arena.specs.Learnt.{AfterHold, AfterIntoPass, AfterIsAlive, AfterMeet, AfterUnhold, CanUnhold};
@@ -145,9 +145,9 @@ impl<'a> Memory for Shared<'a> {
     ghost use Rattle.fm_base.specs.declared.refusal.Refusal.TheVariants.{Closed};
     ghost use Rattle.fm_base.specs.Learnt.{AfterAllocate, AfterClose, AfterEnter, AfterOpen, CanOpen, CanVisit};
     ghost use Rattle.fm_base.specs.View.{IsSound};
-    ghost use Rattle.fm_pool_facts.specs.Views as views;
-    ghost use Rattle.fm_pool_facts.specs.Views.{In, grips};
-    ghost use Rattle.fm_calls.specs.Told.{view_of_pass};
+    ghost use Rattle.fm_rule_facts.specs.Views as views;
+    ghost use Rattle.fm_rule_facts.specs.Views.{In, grips};
+    ghost use Rattle.fm_rule_calls.specs.Told.{view_of_pass};
     ghost use Rattle.fm_arena.specs.Allocating.{AllocatesExactly};
     ghost use Rattle.fm_arena.specs.Opening.{OpensExactly};
     ghost use Rattle.fm_arena.specs.Shares.{IsGone, nature_of_shared};

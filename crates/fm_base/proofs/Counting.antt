@@ -4,8 +4,8 @@ use Rattle.std.specs.Prelude.{cond, ⊤}
 use Rattle.std.proofs.lemmas.Bool.Decides.{nat_tests}
 use Rattle.std.proofs.lemmas.List.{get_or-set_same, get_or-set_other}
 use Rattle.std.specs.List.{AllByRecursion}
-use Rattle.fm_lists.specs.Among.{IsAmong, AreApart}
-use Rattle.fm_lists.proofs.Each.{all_weaker}
+use Rattle.fm_base_lists.specs.Among.{IsAmong, AreApart}
+use Rattle.fm_base_lists.proofs.Each.{all_weaker}
 use Rattle.fm_base.specs.declared.caller.Caller.{Caller}
 use Rattle.fm_base.specs.declared.arena_id.ArenaId.{ArenaId}
 use Rattle.fm_base.specs.Arenas.{State, Arena, arena_of, same_id, word_in, are_one}

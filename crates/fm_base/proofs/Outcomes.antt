@@ -1,7 +1,7 @@
 -- What stands after calls that were answered so.
 use Rattle.std.proofs.Common.{◌≡◌, ℕ, ◌+◌, Bool, true, false, List, [], ◌∷◌, ◌++◌, refl, ap, sym, ◌∙◌, subst, arith, inl, inr}
-use Rattle.fm_lists.specs.Among.{IsAmong}
-use Rattle.fm_lists.proofs.Among.{among_kept}
+use Rattle.fm_base_lists.specs.Among.{IsAmong}
+use Rattle.fm_base_lists.proofs.Among.{among_kept}
 use Rattle.fm_base.specs.declared.caller.Caller.{Caller}
 use Rattle.fm_base.specs.declared.arena_id.ArenaId.{ArenaId}
 use Rattle.fm_base.specs.Arenas.{State, Arena, Ended, has_arena, arena_of, changed}

@@ -1,6 +1,6 @@
 -- Histories: lists of entries in order. Which are legal and which tidy, and what state one leaves.
 use Rattle.std.specs.Prelude.{◌≡◌, ℕ, ◌+◌, ◌*◌, ◌%◌, ◌^◌, ◌<◌, ◌≤◌, List, [], ◌∷◌, length, filter, ⊤}
-use Rattle.fm_bytes.specs.Words.{AreWords, byte_of}
+use Rattle.fm_base_bytes.specs.Words.{AreWords, byte_of}
 use Rattle.fm_base.specs.declared.caller.Caller.{Caller}
 use Rattle.fm_base.specs.Arenas.{Arena, State, arena_of, word_in, are_one}
 use Rattle.fm_base.specs.Calls.{Call, Write, SwapIf, Add, Entry}

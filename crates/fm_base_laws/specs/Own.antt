@@ -1,7 +1,7 @@
 -- What one caller's entries leave of a byte, where all other callers spare it.
 use Rattle.std.specs.Prelude.{◌≡◌, ◌≢◌, ◌+◌, ℕ, ◌/◌, ◌%◌, ◌^◌, ◌==◌, if◌then◌else◌, List, [], ◌∷◌}
 use Rattle.std.specs.List.{AllByRecursion}
-use Rattle.fm_bytes.specs.Words.{byte_of, byte_at}
+use Rattle.fm_base_bytes.specs.Words.{byte_of, byte_at}
 use Rattle.fm_base.specs.declared.arena_id.ArenaId.{ArenaId}
 use Rattle.fm_base.specs.declared.caller.Caller.{Caller}
 use Rattle.fm_base.specs.Arenas.{State, arena_of, same_id}

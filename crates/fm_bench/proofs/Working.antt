@@ -2,11 +2,11 @@
 use Rattle.std.proofs.Common.{ℕ, List, arith}
 use Rattle.fm_base.specs.declared.arena_id.ArenaId.{ArenaId}
 use Rattle.fm_base.specs.Calls.{Call, Reply, Entry}
-use Rattle.fm_calls.specs.Kept.{Kept, Lasts}
+use Rattle.fm_rule_calls.specs.Kept.{Kept, Lasts}
 use Rattle.fm_gate.specs.Crews.{CrewStands, HasNothing}
 use Rattle.fm_gate.specs.Learnt.{AfterAct}
 use Rattle.fm_gate.specs.Standing.{CanReach, IsInside, IsOutside}
-use Rattle.fm_pool_facts.specs.Views.{View}
+use Rattle.fm_rule_facts.specs.Views.{View}
 use Rattle.fm_rule.specs.declared.pool.Pool.{Pool}
 use Rattle.fm_bench.specs.Ready.{CanWork, IsOpen}
 

@@ -5,7 +5,7 @@ use Rattle.fm_base.specs.Arenas.{arena_of}
 use Rattle.fm_gate.specs.Crews.{HasNothing}
 use Rattle.fm_gate.specs.Standing.{IsOutside}
 use Rattle.fm_mono.specs.Shown.{Arenas, IsKnown, view_of}
-use Rattle.fm_pool_facts.specs.Views.{View, IsKnown as IsKnownTo, given_of}
+use Rattle.fm_rule_facts.specs.Views.{View, IsKnown as IsKnownTo, given_of}
 use Rattle.fm_rule.specs.declared.pool.Pool.{Pool}
 use Rattle.fm_segment.specs.Access as access
 use Rattle.fm_segment.specs.Region.{Region}

@@ -1,6 +1,6 @@
 ghost use Rattle.std.specs.Prelude.{◌≡◌, ◌*◌, ◌<◌, ◌≤◌, length, IfOk};
-ghost use Rattle.fm_pool_facts.specs.Views.{given_of};
-ghost use Rattle.fm_calls.specs.Kept.{Lasts};
+ghost use Rattle.fm_rule_facts.specs.Views.{given_of};
+ghost use Rattle.fm_rule_calls.specs.Kept.{Lasts};
 ghost use Rattle.fm_gate.specs.Standing.{CanVisit, IsOutside};
 ghost use Rattle.fm_bench.specs.Ready.{AreOpen, IsFree, IsOpen};
 

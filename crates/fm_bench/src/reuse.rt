@@ -1,8 +1,8 @@
 //! Slots that are used again and again by some threads, while others read in an arena that is closed among them.
 ghost use Rattle.std.specs.Prelude.{◌≡◌, ◌<◌, ◌≤◌, All, IfOk, Some};
-ghost use Rattle.fm_calls.specs.Kept.{Lasts};
+ghost use Rattle.fm_rule_calls.specs.Kept.{Lasts};
 ghost use Rattle.fm_gate.specs.Standing.{IsInside};
-ghost use Rattle.fm_pool_facts.specs.Views.{given_of};
+ghost use Rattle.fm_rule_facts.specs.Views.{given_of};
 ghost use Rattle.fm_bench.specs.Ready.{CanRead, IsFree, IsOpen};
 
 use crate::gates::{given, visit};

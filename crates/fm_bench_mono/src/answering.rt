@@ -1,10 +1,10 @@
 use fm_base::Kind;
 use fm_io::{Files, Sink};
 use fm_ljson::layout_from_json;
-use fm_load::{LAYOUT_FILE_LIMIT, RECORD_FILE_LIMIT, load_into, open_held, read_whole};
 use fm_mono::Mono;
-use fm_query::{check_record, parse_query};
 use fm_records::{query_segment, write_answer};
+use fm_records_query::{check_record, parse_query};
+use fm_top_load::{LAYOUT_FILE_LIMIT, RECORD_FILE_LIMIT, load_into, open_held, read_whole};
 use std::alloc::Global;
 use std::sync::Wait;
 

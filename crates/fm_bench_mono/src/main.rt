@@ -8,7 +8,7 @@ mod answering;
 
 use crate::answering::print_answered;
 use fm_io::{Files, HostFiles, HostSink, HostSystem, Sink, write_text};
-use fm_load::load;
+use fm_top_load::load;
 use std::alloc::Global;
 use std::env;
 use std::process::ExitCode;

@@ -6,17 +6,17 @@ use Rattle.fm_base.specs.Calls.{Unhold, Shut, End, Fine, Entry, entry_of}
 use Rattle.fm_base.specs.Finds.{Close, Rest}
 use Rattle.fm_base.specs.declared.kind.Kind.TheVariants.{Automatic}
 use Rattle.fm_base.specs.Arenas.{Alive, Ended}
-use Rattle.fm_pool_facts.specs.Views.{View, In}
-use Rattle.fm_pool_facts.proofs.Gripping.{handles_are}
-use Rattle.fm_pool_facts.specs.Words.{alive_holds}
-use Rattle.fm_pool_facts.specs.Holds.{released}
-use Rattle.fm_pool_facts.specs.Handles.{Giving, Missed, Kept, Last, last_if, giving_by, giving, given_back, giving_entries}
-use Rattle.fm_pool_facts.specs.Closes.{walk_of, passed_of, dropped}
-use Rattle.fm_pool_facts.specs.Steps.{Stepped, none_noted}
+use Rattle.fm_rule_facts.specs.Views.{View, In}
+use Rattle.fm_rule_facts.proofs.Gripping.{handles_are}
+use Rattle.fm_rule_facts.specs.Words.{alive_holds}
+use Rattle.fm_rule_facts.specs.Holds.{released}
+use Rattle.fm_rule_facts.specs.Handles.{Giving, Missed, Kept, Last, last_if, giving_by, giving, given_back, giving_entries}
+use Rattle.fm_rule_facts.specs.Closes.{walk_of, passed_of, dropped}
+use Rattle.fm_rule_facts.specs.Steps.{Stepped, none_noted}
 use Rattle.fm_rule.specs.declared.pool.Pool.{Pool}
-use Rattle.fm_calls.specs.Kept.{Goes, rest_of, HasEnded, HasNoWords}
-use Rattle.fm_calls.proofs.Going.{goes_of, goes_then, no_draws, made_by-one, rest_is, hand_is, inside_is, mark_is, known_on, lasts_on}
-use Rattle.fm_calls.proofs.Waiting.{Waited, waits_by, waits_on}
+use Rattle.fm_rule_calls.specs.Kept.{Goes, rest_of, HasEnded, HasNoWords}
+use Rattle.fm_rule_calls.proofs.Going.{goes_of, goes_then, no_draws, made_by-one, rest_is, hand_is, inside_is, mark_is, known_on, lasts_on}
+use Rattle.fm_rule_calls.proofs.Waiting.{Waited, waits_by, waits_on}
 use Rattle.fm_gate.specs.Makers.{Made, made_by_pass}
 use Rattle.fm_gate.specs.Standing.{IsOutside}
 use Rattle.fm_gate.proofs.Standing.{made_on, stands_outside, swept_is}

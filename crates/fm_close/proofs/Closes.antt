@@ -4,7 +4,7 @@ use Rattle.fm_base.specs.declared.arena_id.ArenaId.{ArenaId}
 use Rattle.fm_base.specs.Arenas.{same_id}
 use Rattle.fm_base.specs.Finds.{Stretch, Walk}
 use Rattle.fm_base.proofs.Names.{same_id-self}
-use Rattle.fm_pool_facts.specs.Closes.{walk_of, passed_of, one_more, advanced, dropped}
+use Rattle.fm_rule_facts.specs.Closes.{walk_of, passed_of, one_more, advanced, dropped}
 
 module _ {over : Stretch} where
   -- A walk that has passed one more has passed one more than it had.

@@ -7,13 +7,13 @@ use Rattle.fm_base.specs.Arenas.{same_id}
 use Rattle.fm_base.specs.Calls.{Entry}
 use Rattle.fm_base.specs.Finds.{Stretch, Walk, Close, Sweep, Rest}
 use Rattle.fm_base.proofs.Names.{same_id-true}
-use Rattle.fm_depicts.proofs.Putting.{same_id-not}
-use Rattle.fm_pool_facts.specs.Hands.{nothing}
-use Rattle.fm_pool_facts.specs.Views.{View}
-use Rattle.fm_pool_facts.specs.Closes.{passed_of, one_more, advanced, dropped}
-use Rattle.fm_calls.specs.Kept.{Goes, rest_of}
-use Rattle.fm_calls.proofs.Going.{known_on}
-use Rattle.fm_calls.proofs.Sweeps.{same_sweeps}
+use Rattle.fm_base_machine.proofs.Putting.{same_id-not}
+use Rattle.fm_rule_facts.specs.Hands.{nothing}
+use Rattle.fm_rule_facts.specs.Views.{View}
+use Rattle.fm_rule_facts.specs.Closes.{passed_of, one_more, advanced, dropped}
+use Rattle.fm_rule_calls.specs.Kept.{Goes, rest_of}
+use Rattle.fm_rule_calls.proofs.Going.{known_on}
+use Rattle.fm_rule_calls.proofs.Sweeps.{same_sweeps}
 use Rattle.fm_gate.specs.Makers.{made_by_pass}
 use Rattle.fm_gate.proofs.Standing.{made_on}
 use Rattle.fm_close.specs.declared.shutting.Shutting.{Shutting}

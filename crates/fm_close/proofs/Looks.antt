@@ -8,16 +8,16 @@ use Rattle.fm_base.specs.Calls.{End, Fine, Entry, entry_of}
 use Rattle.fm_base.specs.Finds.{Visits, is_draw}
 use Rattle.fm_base.proofs.Outcomes.{closed_ended}
 use Rattle.fm_words.specs.Marks.{mark_word}
-use Rattle.fm_pool_facts.specs.Views.{View}
-use Rattle.fm_pool_facts.specs.Words.{mark_of, own_word}
-use Rattle.fm_pool_facts.specs.Closes as closes
-use Rattle.fm_pool_facts.specs.Closes.{visit_by, visit_found, closes_after, sweeps_after, visit_entries, passed_of, advanced}
-use Rattle.fm_pool_facts.specs.Steps.{Stepped, note_of, is_clear}
+use Rattle.fm_rule_facts.specs.Views.{View}
+use Rattle.fm_rule_facts.specs.Words.{mark_of, own_word}
+use Rattle.fm_rule_facts.specs.Closes as closes
+use Rattle.fm_rule_facts.specs.Closes.{visit_by, visit_found, closes_after, sweeps_after, visit_entries, passed_of, advanced}
+use Rattle.fm_rule_facts.specs.Steps.{Stepped, note_of, is_clear}
 use Rattle.fm_rule.specs.declared.pool.Pool.{Pool}
-use Rattle.fm_calls.specs.Kept.{Goes, HasEnded}
-use Rattle.fm_calls.specs.Told.{silent_view}
-use Rattle.fm_calls.proofs.Going.{goes_of, made_by-one, NoDraws, rest_is, hand_is, inside_is, mark_is, closes_is, sweeps_is, known_on, lasts_on}
-use Rattle.fm_calls.proofs.Telling.{silent_makes}
+use Rattle.fm_rule_calls.specs.Kept.{Goes, HasEnded}
+use Rattle.fm_rule_calls.specs.Told.{silent_view}
+use Rattle.fm_rule_calls.proofs.Going.{goes_of, made_by-one, NoDraws, rest_is, hand_is, inside_is, mark_is, closes_is, sweeps_is, known_on, lasts_on}
+use Rattle.fm_rule_calls.proofs.Telling.{silent_makes}
 use Rattle.fm_gate.specs.Standing.{IsOutside}
 use Rattle.fm_gate.proofs.Standing.{made_on, stands_outside, swept_is}
 use Rattle.fm_close.specs.declared.shutting.Shutting.{Shutting}

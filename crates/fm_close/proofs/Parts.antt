@@ -8,16 +8,16 @@ use Rattle.fm_base.specs.Calls.{Back, Fine, Entry, entry_of}
 use Rattle.fm_base.specs.Finds.{Sweep}
 use Rattle.fm_base.specs.Histories.{made_by}
 use Rattle.fm_base.specs.View.{inside_after}
-use Rattle.fm_pool_facts.specs.Parts.{Swept, unread, named, wiping, swept_read}
-use Rattle.fm_pool_facts.specs.Views.{View, IsOver, IsSound, given_of}
-use Rattle.fm_pool_facts.specs.Closes.{passed_of, advanced, dropped}
-use Rattle.fm_pool_facts.specs.Steps.{Stepped, AreAllGiven, none_noted}
-use Rattle.fm_pool_facts.proofs.Ending.{all_given}
-use Rattle.fm_pool_steps.proofs.Closes.{passed_of-found}
+use Rattle.fm_rule_facts.specs.Parts.{Swept, unread, named, wiping, swept_read}
+use Rattle.fm_rule_facts.specs.Views.{View, IsOver, IsSound, given_of}
+use Rattle.fm_rule_facts.specs.Closes.{passed_of, advanced, dropped}
+use Rattle.fm_rule_facts.specs.Steps.{Stepped, AreAllGiven, none_noted}
+use Rattle.fm_rule_facts.proofs.Ending.{all_given}
+use Rattle.fm_rule_steps.proofs.Closes.{passed_of-found}
 use Rattle.fm_rule.specs.declared.pool.Pool.{Pool}
 use Rattle.fm_rule.specs.Passes.{IsOf}
-use Rattle.fm_calls.proofs.Going.{goes_of, goes_none, goes_then, no_draws, made_by-one}
-use Rattle.fm_calls.proofs.Unlent.{given_on}
+use Rattle.fm_rule_calls.proofs.Going.{goes_of, goes_none, goes_then, no_draws, made_by-one}
+use Rattle.fm_rule_calls.proofs.Unlent.{given_on}
 use Rattle.fm_close.specs.Does.{IsBack, AreBacks}
 use Rattle.fm_close.specs.Sweeps.{SweepsOn, PartTaken, PartsTaken}
 use Rattle.fm_close.proofs.Closes.{passed_of-advanced, dropped-advanced}

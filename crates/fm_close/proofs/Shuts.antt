@@ -8,14 +8,14 @@ use Rattle.fm_base.specs.Arenas.{MayUse}
 use Rattle.fm_base.specs.Calls.{Shut, Reply, Fine, Closed, Held, Entry, entry_of}
 use Rattle.fm_base.specs.Does.{IsClosable}
 use Rattle.fm_base.specs.Finds.{Close}
-use Rattle.fm_pool_facts.specs.Views.{View, IsSound}
-use Rattle.fm_pool_facts.specs.Words.{alive_holds, shut_found, shut_by}
-use Rattle.fm_pool_facts.specs.Closes.{begun, passed_of}
-use Rattle.fm_pool_facts.specs.Steps.{Stepped, none_noted}
+use Rattle.fm_rule_facts.specs.Views.{View, IsSound}
+use Rattle.fm_rule_facts.specs.Words.{alive_holds, shut_found, shut_by}
+use Rattle.fm_rule_facts.specs.Closes.{begun, passed_of}
+use Rattle.fm_rule_facts.specs.Steps.{Stepped, none_noted}
 use Rattle.fm_rule.specs.declared.pool.Pool.{Pool}
 use Rattle.fm_rule.specs.Passes.{IsOf}
-use Rattle.fm_calls.specs.Kept.{Goes}
-use Rattle.fm_calls.proofs.Going.{goes_of, goes_none, kept_none, made_by-one, no_draws, rest_is, hand_is, inside_is, mark_is, closes_is, sweeps_is, known_on, lasts_on}
+use Rattle.fm_rule_calls.specs.Kept.{Goes}
+use Rattle.fm_rule_calls.proofs.Going.{goes_of, goes_none, kept_none, made_by-one, no_draws, rest_is, hand_is, inside_is, mark_is, closes_is, sweeps_is, known_on, lasts_on}
 use Rattle.fm_gate.specs.Makers.{Made, made_by_pass}
 use Rattle.fm_gate.specs.Standing.{IsOutside, CanVisit}
 use Rattle.fm_gate.proofs.Standing.{made_on, stands_outside, swept_is}

@@ -6,16 +6,16 @@ use Rattle.fm_base.specs.declared.caller.Caller.{Caller}
 use Rattle.fm_base.specs.declared.arena_id.ArenaId.{ArenaId}
 use Rattle.fm_base.specs.Calls.{Entry}
 use Rattle.fm_base.specs.Finds.{Sweep}
-use Rattle.fm_pool_facts.specs.Hands.{Hand, nothing, retired, hand_retired}
-use Rattle.fm_pool_facts.specs.Parts.{Swept, unread}
-use Rattle.fm_pool_facts.specs.Views.{View, IsOver}
-use Rattle.fm_pool_facts.specs.Closes.{passed_of, advanced, dropped}
-use Rattle.fm_pool_facts.specs.Steps.{Stepped, none_noted}
-use Rattle.fm_pool_steps.proofs.Closes.{passed_of-found}
+use Rattle.fm_rule_facts.specs.Hands.{Hand, nothing, retired, hand_retired}
+use Rattle.fm_rule_facts.specs.Parts.{Swept, unread}
+use Rattle.fm_rule_facts.specs.Views.{View, IsOver}
+use Rattle.fm_rule_facts.specs.Closes.{passed_of, advanced, dropped}
+use Rattle.fm_rule_facts.specs.Steps.{Stepped, none_noted}
+use Rattle.fm_rule_steps.proofs.Closes.{passed_of-found}
 use Rattle.fm_rule.specs.declared.pool.Pool.{Pool}
-use Rattle.fm_calls.specs.Kept.{Goes, rest_of, slots_told, HasNoWords}
-use Rattle.fm_calls.proofs.Going.{goes_of, goes_then, no_draws, lasts_on}
-use Rattle.fm_calls.proofs.Unlent.{over_on, no_words_on, no_words_swept, has_ended}
+use Rattle.fm_rule_calls.specs.Kept.{Goes, rest_of, slots_told, HasNoWords}
+use Rattle.fm_rule_calls.proofs.Going.{goes_of, goes_then, no_draws, lasts_on}
+use Rattle.fm_rule_calls.proofs.Unlent.{over_on, no_words_on, no_words_swept, has_ended}
 use Rattle.fm_gate.proofs.Standing.{stands_outside}
 use Rattle.fm_close.specs.declared.shutting.Shutting.{Shutting}
 use Rattle.fm_close.specs.Does.{AreBacks}

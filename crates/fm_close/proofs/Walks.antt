@@ -10,12 +10,12 @@ use Rattle.fm_base.specs.Calls.{Shut, End, Fine, Entry, entry_of}
 use Rattle.fm_base.specs.Finds.{Close, Sweep, Rest}
 use Rattle.fm_base.specs.Does.{DoesClose}
 use Rattle.fm_base.specs.View.{but_loans}
-use Rattle.fm_pool_facts.specs.Hands.{Hand, nothing}
-use Rattle.fm_pool_facts.specs.Views.{View}
-use Rattle.fm_pool_facts.specs.Closes.{walk_of, advanced, dropped}
+use Rattle.fm_rule_facts.specs.Hands.{Hand, nothing}
+use Rattle.fm_rule_facts.specs.Views.{View}
+use Rattle.fm_rule_facts.specs.Closes.{walk_of, advanced, dropped}
 use Rattle.fm_rule.specs.declared.pool.Pool.{Pool}
-use Rattle.fm_calls.specs.Kept.{Goes, rest_of, sweep_numbers, slots_told, HasEnded, HasNoWords}
-use Rattle.fm_calls.proofs.Going.{goes_then, lasts_on}
+use Rattle.fm_rule_calls.specs.Kept.{Goes, rest_of, sweep_numbers, slots_told, HasEnded, HasNoWords}
+use Rattle.fm_rule_calls.proofs.Going.{goes_then, lasts_on}
 use Rattle.fm_gate.specs.Makers.{Made, made_by_pass}
 use Rattle.fm_gate.specs.Standing.{IsOutside}
 use Rattle.fm_close.specs.declared.shutting.Shutting.{Shutting}

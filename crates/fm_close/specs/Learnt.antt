@@ -8,14 +8,14 @@ use Rattle.fm_base.specs.Calls.{End, Fine, Entry, entry_of}
 use Rattle.fm_base.specs.Does.{DoesClose, DoesGiveBack}
 use Rattle.fm_base.specs.Finds.{Close, Sweep, Find, Visits}
 use Rattle.fm_base.specs.View.{but_loans}
-use Rattle.fm_pool_facts.specs.Views.{View, In, IsKnown}
-use Rattle.fm_pool_facts.specs.Closes.{walk_of, passed_of, advanced, dropped}
-use Rattle.fm_pool_facts.specs.Steps.{is_clear}
-use Rattle.fm_pool_facts.specs.Words.{mark_of, alive_holds}
-use Rattle.fm_pool_facts.specs.Holds.{released}
-use Rattle.fm_pool_facts.specs.Handles.{giving_by, given_back, giving_entries}
+use Rattle.fm_rule_facts.specs.Views.{View, In, IsKnown}
+use Rattle.fm_rule_facts.specs.Closes.{walk_of, passed_of, advanced, dropped}
+use Rattle.fm_rule_facts.specs.Steps.{is_clear}
+use Rattle.fm_rule_facts.specs.Words.{mark_of, alive_holds}
+use Rattle.fm_rule_facts.specs.Holds.{released}
+use Rattle.fm_rule_facts.specs.Handles.{giving_by, given_back, giving_entries}
 use Rattle.fm_rule.specs.declared.pool.Pool.{Pool}
-use Rattle.fm_calls.specs.Kept.{Goes, KeptAs, KeptBut, KeptHandling, Kept, rest_of, slots_told, HasEnded, HasNoWords, Lasts}
+use Rattle.fm_rule_calls.specs.Kept.{Goes, KeptAs, KeptBut, KeptHandling, Kept, rest_of, slots_told, HasEnded, HasNoWords, Lasts}
 use Rattle.fm_gate.specs.Makers.{made_by_pass}
 use Rattle.fm_gate.specs.Standing.{IsOutside, HasHandle}
 use Rattle.fm_close.specs.declared.gave_back.GaveBack.{GaveBack}

@@ -3,10 +3,10 @@ use Rattle.std.specs.Prelude.{◌≡◌, ℕ, List, Some}
 use Rattle.fm_base.specs.declared.arena_id.ArenaId.{ArenaId}
 use Rattle.fm_base.specs.Calls.{Entry}
 use Rattle.fm_base.specs.Finds.{Sweep}
-use Rattle.fm_pool_facts.specs.Parts.{Swept, unread}
-use Rattle.fm_pool_facts.specs.Views.{View}
-use Rattle.fm_pool_facts.specs.Closes.{passed_of, advanced, dropped}
-use Rattle.fm_calls.specs.Kept.{Goes}
+use Rattle.fm_rule_facts.specs.Parts.{Swept, unread}
+use Rattle.fm_rule_facts.specs.Views.{View}
+use Rattle.fm_rule_facts.specs.Closes.{passed_of, advanced, dropped}
+use Rattle.fm_rule_calls.specs.Kept.{Goes}
 use Rattle.fm_close.specs.Does.{AreBacks}
 
 -- the pass has these sweeps now, and has come so far with the next part; it is else as it was, but for what it has seen

@@ -1,7 +1,7 @@
 ghost use Rattle.std.specs.Prelude.{◌≡◌, ◌⊎◌, ◌<◌, ◌≤◌, ◌+◌, ◌*◌, [], Some};
-ghost use Rattle.fm_pool_facts.specs.Parts.{unread, wiping};
-ghost use Rattle.fm_pool_facts.specs.Views.{IsSound, given_of};
-ghost use Rattle.fm_pool_facts.specs.Closes.{passed_of};
+ghost use Rattle.fm_rule_facts.specs.Parts.{unread, wiping};
+ghost use Rattle.fm_rule_facts.specs.Views.{IsSound, given_of};
+ghost use Rattle.fm_rule_facts.specs.Closes.{passed_of};
 ghost use Rattle.fm_rule.specs.Passes.{IsOf};
 ghost use Rattle.fm_close.specs.Learnt.{AfterSweep, CanSweep};
 ghost use Rattle.fm_close.specs.Sweeps.{SweepsOn, PartTaken, PartsTaken};

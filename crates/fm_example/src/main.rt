@@ -9,7 +9,7 @@ ghost use Rattle.std.specs.Prelude.{◌≡◌, IfOk, None, [], length};
 ghost use Rattle.fm_base.specs.Learnt.{AfterClose, CanVisit};
 ghost use Rattle.fm_arena.specs.Lasting.{SamePool};
 ghost use Rattle.fm_arena.specs.Shares.{CanShare};
-ghost use Rattle.fm_calls.specs.Told.{view_of_pass};
+ghost use Rattle.fm_rule_calls.specs.Told.{view_of_pass};
 ghost use Rattle.fm_gate.specs.Crews.{HasNothing};
 ghost use Rattle.fm_handle.specs.Learnt.{CanPut};
 

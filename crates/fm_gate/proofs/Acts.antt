@@ -7,13 +7,13 @@ use Rattle.fm_base.specs.View.{inside_after, inside_next}
 use Rattle.fm_base.specs.Does.{DoesAct}
 use Rattle.fm_words.specs.declared.shape.Shape.{Shape}
 use Rattle.fm_words.specs.Places.{at, page_word}
-use Rattle.fm_pool_facts.specs.Parts.{Mapping, mapping_of}
-use Rattle.fm_pool_facts.specs.Views.{View, In}
-use Rattle.fm_pool_facts.specs.Steps.{Stepped, CanReach as HasGiven, HasPlace, none_noted, acted}
+use Rattle.fm_rule_facts.specs.Parts.{Mapping, mapping_of}
+use Rattle.fm_rule_facts.specs.Views.{View, In}
+use Rattle.fm_rule_facts.specs.Steps.{Stepped, CanReach as HasGiven, HasPlace, none_noted, acted}
 use Rattle.fm_rule.specs.declared.pool.Pool.{Pool}
 use Rattle.fm_rule.specs.Passes.{IsOf}
-use Rattle.fm_calls.specs.Kept.{Goes, rest_of}
-use Rattle.fm_calls.proofs.Going.{goes_of, goes_then, made_by-acted, no_draws, rest_is, hand_is, inside_is, mark_is, lasts_on}
+use Rattle.fm_rule_calls.specs.Kept.{Goes, rest_of}
+use Rattle.fm_rule_calls.proofs.Going.{goes_of, goes_then, made_by-acted, no_draws, rest_is, hand_is, inside_is, mark_is, lasts_on}
 use Rattle.fm_pages.specs.Places.{CanFind, Placed}
 use Rattle.fm_gate.specs.Standing.{CanReach, CanLeave}
 use Rattle.fm_gate.specs.Learnt.{AfterAct, AfterLeave}

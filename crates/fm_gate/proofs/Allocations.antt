@@ -13,10 +13,10 @@ use Rattle.fm_base.specs.Does.{DoesEnter, DoesAllocate}
 use Rattle.fm_base.specs.Machine.{IsPower}
 use Rattle.fm_base.specs.View.{but_loans, is_loan}
 use Rattle.fm_base.specs.Visits.{refused_visit}
-use Rattle.fm_pool_facts.specs.Loans.{lent}
-use Rattle.fm_pool_facts.specs.Views.{View, In, IsSound, given_of}
+use Rattle.fm_rule_facts.specs.Loans.{lent}
+use Rattle.fm_rule_facts.specs.Views.{View, In, IsSound, given_of}
 use Rattle.fm_rule.specs.declared.pool.Pool.{Pool}
-use Rattle.fm_calls.proofs.Going.{goes_none, lasts_on}
+use Rattle.fm_rule_calls.proofs.Going.{goes_none, lasts_on}
 use Rattle.fm_gate.specs.Giving.{DoesGive, LendsTo}
 use Rattle.fm_gate.specs.Learnt.{AfterEnter, AfterAllocate}
 use Rattle.fm_gate.specs.Pages.{FullExactly}

@@ -16,16 +16,16 @@ use Rattle.fm_base.specs.Calls.{Entry, Open, Fine, entry_of}
 use Rattle.fm_base.specs.Histories.{state_after}
 use Rattle.fm_base.specs.Finds.{Find, FindsMore, TakesSlot, is_draw}
 use Rattle.fm_base.proofs.Making.{FindsMore-none}
-use Rattle.fm_pool_facts.specs.Hands.{Hand, nothing, taken, learnt, takes, hand_taken}
-use Rattle.fm_pool_facts.specs.Views.{View, IsBusy, IsBusyIn, limit_of}
-use Rattle.fm_pool_facts.specs.Holds.{handles_with}
-use Rattle.fm_pool_facts.specs.Steps.{Stepped, none_noted, note_of, is_clear}
-use Rattle.fm_pool_facts.specs.Moves.{LearnsSlots}
-use Rattle.fm_pool_steps.proofs.Reading.{eqb_true}
+use Rattle.fm_rule_facts.specs.Hands.{Hand, nothing, taken, learnt, takes, hand_taken}
+use Rattle.fm_rule_facts.specs.Views.{View, IsBusy, IsBusyIn, limit_of}
+use Rattle.fm_rule_facts.specs.Holds.{handles_with}
+use Rattle.fm_rule_facts.specs.Steps.{Stepped, none_noted, note_of, is_clear}
+use Rattle.fm_rule_facts.specs.Moves.{LearnsSlots}
+use Rattle.fm_rule_steps.proofs.Reading.{eqb_true}
 use Rattle.fm_rule.specs.declared.pool.Pool.{Pool}
 use Rattle.fm_rule.specs.Passes.{IsOf}
-use Rattle.fm_calls.specs.Kept.{Goes}
-use Rattle.fm_calls.proofs.Going.{NoDraws, IsOn, goes_of, goes_then, no_draws, made_by-one}
+use Rattle.fm_rule_calls.specs.Kept.{Goes}
+use Rattle.fm_rule_calls.proofs.Going.{NoDraws, IsOn, goes_of, goes_then, no_draws, made_by-one}
 use Rattle.fm_gate.specs.Slots.{Went, SlotTaken, NoneTaken, OpenedIn}
 
 -- ---- the exchanges

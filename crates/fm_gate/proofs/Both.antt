@@ -6,12 +6,12 @@ use Rattle.fm_base.specs.Arenas.{same_id}
 use Rattle.fm_base.specs.Calls.{Entry}
 use Rattle.fm_base.specs.Finds.{Rest}
 use Rattle.fm_base.proofs.Names.{same_id-self}
-use Rattle.fm_pool_facts.specs.Views.{View, In}
-use Rattle.fm_pool_facts.specs.Holds.{released, one_if, how_many}
-use Rattle.fm_pool_facts.proofs.Summing.{some_hold, one_less}
+use Rattle.fm_rule_facts.specs.Views.{View, In}
+use Rattle.fm_rule_facts.specs.Holds.{released, one_if, how_many}
+use Rattle.fm_rule_facts.proofs.Summing.{some_hold, one_less}
 use Rattle.fm_rule.specs.declared.pool.Pool.{Pool}
-use Rattle.fm_calls.specs.Kept.{Goes}
-use Rattle.fm_calls.proofs.Going.{known_on}
+use Rattle.fm_rule_calls.specs.Kept.{Goes}
+use Rattle.fm_rule_calls.proofs.Going.{known_on}
 use Rattle.fm_gate.specs.declared.held.Hold.{Hold}
 use Rattle.fm_gate.specs.Standing.{CanUnhold}
 use Rattle.fm_gate.specs.Learnt.{holds_taken}

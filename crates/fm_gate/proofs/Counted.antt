@@ -3,8 +3,8 @@ use Rattle.std.proofs.Common.{◌≡◌, ◌≢◌, ◌+◌, ◌<◌, Bool, true
 use Rattle.fm_base.specs.declared.arena_id.ArenaId.{ArenaId}
 use Rattle.fm_base.specs.Arenas.{same_id}
 use Rattle.fm_base.proofs.Names.{same_id-true}
-use Rattle.fm_pool_facts.specs.Views.{In}
-use Rattle.fm_pool_facts.specs.Holds.{released, one_if, how_many}
+use Rattle.fm_rule_facts.specs.Views.{In}
+use Rattle.fm_rule_facts.specs.Holds.{released, one_if, how_many}
 
 -- An arena that is counted in a list is there.
 pub some_in : (a : ArenaId) (hs : List ArenaId) → 0 < how_many a hs → In a hs

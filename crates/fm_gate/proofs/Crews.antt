@@ -3,14 +3,14 @@ use Rattle.std.proofs.Common.{◌≡◌, ◌∙◌, ◌++◌, List, sym, ap, sub
 use Rattle.fm_base.specs.declared.arena_id.ArenaId.{ArenaId}
 use Rattle.fm_base.specs.Calls.{Entry}
 use Rattle.fm_base.specs.Finds.{Find, Rest}
-use Rattle.fm_pool_facts.specs.Views.{View, In, IsSound}
-use Rattle.fm_pool_facts.specs.Hands.{no_number}
+use Rattle.fm_rule_facts.specs.Views.{View, In, IsSound}
+use Rattle.fm_rule_facts.specs.Hands.{no_number}
 use Rattle.fm_rule.specs.declared.pool.Pool.{Pool}
 use Rattle.fm_rule.specs.Passes.{IsOf}
 use Rattle.fm_rule.specs.Draws.{Asked, Gathers}
-use Rattle.fm_calls.specs.Kept.{Lasts}
-use Rattle.fm_calls.proofs.Going.{lasts_by, reached_by}
-use Rattle.fm_calls.proofs.Sweeps.{no_sweeps}
+use Rattle.fm_rule_calls.specs.Kept.{Lasts}
+use Rattle.fm_rule_calls.proofs.Going.{lasts_by, reached_by}
+use Rattle.fm_rule_calls.proofs.Sweeps.{no_sweeps}
 use Rattle.fm_gate.specs.Crews.{StandsOn, StandAtDraw, StandsAtNoPass, StandsAtLook, StandsAtGather, StandsAtMeeting, SeenIsKnown, NothingStays, NothingIsGathered, CrewStands}
 
 -- what stays of a pass that stands where it stood

@@ -8,13 +8,13 @@ use Rattle.fm_base.specs.Arenas.{MayUse}
 use Rattle.fm_base.specs.Calls.{Enter, Leave, Fine, Closed, entry_of}
 use Rattle.fm_base.specs.Histories.{made_by}
 use Rattle.fm_base.specs.View.{inside_after}
-use Rattle.fm_pool_facts.specs.Parts.{unread}
-use Rattle.fm_pool_facts.specs.Views.{View, IsSound}
-use Rattle.fm_pool_facts.specs.Words.{alive_holds, enter_found, inside_found}
-use Rattle.fm_pool_facts.specs.Steps.{Stepped, none_noted, acted}
+use Rattle.fm_rule_facts.specs.Parts.{unread}
+use Rattle.fm_rule_facts.specs.Views.{View, IsSound}
+use Rattle.fm_rule_facts.specs.Words.{alive_holds, enter_found, inside_found}
+use Rattle.fm_rule_facts.specs.Steps.{Stepped, none_noted, acted}
 use Rattle.fm_rule.specs.declared.pool.Pool.{Pool}
-use Rattle.fm_calls.specs.Kept.{Goes, rest_of}
-use Rattle.fm_calls.proofs.Going.{IsOn, goes_of, goes_then, goes_none, kept_none, made_by-one, no_draws, rest_is, hand_is, inside_is, mark_is, lasts_on}
+use Rattle.fm_rule_calls.specs.Kept.{Goes, rest_of}
+use Rattle.fm_rule_calls.proofs.Going.{IsOn, goes_of, goes_then, goes_none, kept_none, made_by-one, no_draws, rest_is, hand_is, inside_is, mark_is, lasts_on}
 use Rattle.fm_gate.specs.Standing.{CanVisit}
 use Rattle.fm_gate.specs.Learnt.{AfterEnter}
 use Rattle.fm_gate.proofs.Standing.{swept_is, stands_outside, stands_inside}

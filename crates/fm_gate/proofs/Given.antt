@@ -10,9 +10,9 @@ use Rattle.fm_base.specs.Calls.{Allocate, Reply, Given, NoRoom, Entry, entry_of}
 use Rattle.fm_base.specs.Histories.{made_by}
 use Rattle.fm_base.specs.Machine.{allocate_reply, rounded_up}
 use Rattle.fm_base.specs.View.{is_loan}
-use Rattle.fm_pool_facts.specs.Steps.{where_found, room}
-use Rattle.fm_pool_facts.specs.Views.{View, In, limit_of}
-use Rattle.fm_pool_facts.proofs.Keeping.{in_append}
+use Rattle.fm_rule_facts.specs.Steps.{where_found, room}
+use Rattle.fm_rule_facts.specs.Views.{View, In, limit_of}
+use Rattle.fm_rule_facts.proofs.Keeping.{in_append}
 use Rattle.fm_rule.specs.declared.pool.Pool.{Pool}
 use Rattle.fm_pages.specs.Gives.{Unpaged}
 use Rattle.fm_pages.specs.Maps.{Way}

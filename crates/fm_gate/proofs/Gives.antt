@@ -10,11 +10,11 @@ use Rattle.fm_base.specs.Calls.{Allocate, Fine, Lend, Reply, Entry, entry_of}
 use Rattle.fm_base.specs.Histories.{state_after}
 use Rattle.fm_base.specs.Machine.{after, allocate_reply, rounded_up}
 use Rattle.fm_base.proofs.Making.{state_after-append}
-use Rattle.fm_pool_facts.specs.Scarcity.{IsScarce}
-use Rattle.fm_pool_facts.specs.Steps.{Stepped, none_noted, acted, where_found}
-use Rattle.fm_pool_facts.specs.Views.{View, given_of, limit_of, state_in}
+use Rattle.fm_rule_facts.specs.Scarcity.{IsScarce}
+use Rattle.fm_rule_facts.specs.Steps.{Stepped, none_noted, acted, where_found}
+use Rattle.fm_rule_facts.specs.Views.{View, given_of, limit_of, state_in}
 use Rattle.fm_rule.specs.declared.pool.Pool.{Pool}
-use Rattle.fm_calls.specs.Kept.{Goes, rest_of}
+use Rattle.fm_rule_calls.specs.Kept.{Goes, rest_of}
 use Rattle.fm_pages.specs.Covers.{LendsIn}
 use Rattle.fm_pages.specs.Gives.{Tried, allocates}
 use Rattle.fm_pages.specs.Maps.{Way}

@@ -9,13 +9,13 @@ use Rattle.fm_base.specs.Arenas.{MayUse}
 use Rattle.fm_base.specs.Calls.{Hold, Reply, Fine, TooManyHolds, entry_of}
 use Rattle.fm_base.specs.Machine.{most_holds}
 use Rattle.fm_base.specs.Finds.{Rest}
-use Rattle.fm_pool_facts.specs.Views.{View, In, IsKnown, IsSound}
-use Rattle.fm_pool_facts.specs.Words.{alive_holds, hold_found}
-use Rattle.fm_pool_facts.specs.Holds.{grips, holds_after}
-use Rattle.fm_pool_facts.proofs.Gripping.{handles_are, with_handles}
+use Rattle.fm_rule_facts.specs.Views.{View, In, IsKnown, IsSound}
+use Rattle.fm_rule_facts.specs.Words.{alive_holds, hold_found}
+use Rattle.fm_rule_facts.specs.Holds.{grips, holds_after}
+use Rattle.fm_rule_facts.proofs.Gripping.{handles_are, with_handles}
 use Rattle.fm_rule.specs.declared.pool.Pool.{Pool}
-use Rattle.fm_calls.specs.Kept.{Goes, rest_of}
-use Rattle.fm_calls.proofs.Going.{known_on, lasts_on}
+use Rattle.fm_rule_calls.specs.Kept.{Goes, rest_of}
+use Rattle.fm_rule_calls.proofs.Going.{known_on, lasts_on}
 use Rattle.fm_gate.specs.Standing.{IsOutside, IsInside, HasHandle}
 use Rattle.fm_gate.specs.Learnt.{AfterTake, AfterAgain}
 use Rattle.fm_gate.proofs.Standing.{of_on, stands_outside, stands_inside}

@@ -8,14 +8,14 @@ use Rattle.fm_base.specs.Arenas.{MayUse}
 use Rattle.fm_base.specs.Calls.{Hold, Unhold, Reply, Fine, Closed, TooManyHolds, entry_of}
 use Rattle.fm_base.specs.Machine.{most_holds}
 use Rattle.fm_base.specs.Finds.{Rest}
-use Rattle.fm_pool_facts.specs.Views.{View, In, IsKnown, IsSound}
-use Rattle.fm_pool_facts.specs.Words.{alive_holds, hold_found}
-use Rattle.fm_pool_facts.specs.Holds.{grips, holds_after, released}
-use Rattle.fm_pool_facts.specs.Steps.{Stepped, none_noted}
-use Rattle.fm_pool_facts.proofs.Gripping.{holds_are, with_holds}
+use Rattle.fm_rule_facts.specs.Views.{View, In, IsKnown, IsSound}
+use Rattle.fm_rule_facts.specs.Words.{alive_holds, hold_found}
+use Rattle.fm_rule_facts.specs.Holds.{grips, holds_after, released}
+use Rattle.fm_rule_facts.specs.Steps.{Stepped, none_noted}
+use Rattle.fm_rule_facts.proofs.Gripping.{holds_are, with_holds}
 use Rattle.fm_rule.specs.declared.pool.Pool.{Pool}
-use Rattle.fm_calls.specs.Kept.{Goes, rest_of}
-use Rattle.fm_calls.proofs.Going.{goes_of, goes_none, no_draws, made_by-one, rest_is, hand_is, inside_is, mark_is, known_on, lasts_on}
+use Rattle.fm_rule_calls.specs.Kept.{Goes, rest_of}
+use Rattle.fm_rule_calls.proofs.Going.{goes_of, goes_none, no_draws, made_by-one, rest_is, hand_is, inside_is, mark_is, known_on, lasts_on}
 use Rattle.fm_gate.specs.declared.held.Hold.{Hold as TheHold}
 use Rattle.fm_gate.specs.Makers.{made_by_pass}
 use Rattle.fm_gate.specs.Standing.{IsOutside, CanVisit, CanUnhold}

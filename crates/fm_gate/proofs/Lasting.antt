@@ -2,8 +2,8 @@
 use Rattle.std.proofs.Common.{◌∙◌, sym, ap, subst, List}
 use Rattle.fm_base.specs.declared.arena_id.ArenaId.{ArenaId}
 use Rattle.fm_base.specs.Finds.{Rest}
-use Rattle.fm_pool_facts.specs.Views.{In}
-use Rattle.fm_calls.proofs.Going.{known_on}
+use Rattle.fm_rule_facts.specs.Views.{In}
+use Rattle.fm_rule_calls.proofs.Going.{known_on}
 use Rattle.fm_gate.specs.Lasting.{HoldStands}
 use Rattle.fm_gate.proofs.Standing.{made_on, of_on}
 

@@ -11,8 +11,8 @@ use Rattle.fm_base.specs.Finds.{Rest}
 use Rattle.fm_base.proofs.Lookup.{changed_lookup, arena_of-append}
 use Rattle.fm_base.proofs.Growing.{Grows-after}
 use Rattle.fm_base.proofs.Making.{IsLegal-split, state_after-append}
-use Rattle.fm_pool_facts.specs.Views.{View, In, IsAlive, grips, is_automatic, limit_of}
-use Rattle.fm_calls.specs.Kept.{Goes, rest_of}
+use Rattle.fm_rule_facts.specs.Views.{View, In, IsAlive, grips, is_automatic, limit_of}
+use Rattle.fm_rule_calls.specs.Kept.{Goes, rest_of}
 
 -- ---- one entry
 

@@ -8,17 +8,17 @@ use Rattle.fm_base.specs.declared.kind.Kind.TheVariants as kind
 use Rattle.fm_base.specs.declared.refusal.Refusal.TheVariants as refusal
 use Rattle.fm_base.specs.Calls.{Entry, Open, Fine, entry_of}
 use Rattle.fm_base.proofs.Outcomes.{opened_new}
-use Rattle.fm_pool_facts.specs.Hands.{Hand, nothing}
-use Rattle.fm_pool_facts.specs.Loans.{lent, loans_after}
-use Rattle.fm_pool_facts.specs.Views.{View, In}
-use Rattle.fm_pool_facts.specs.Holds.{is_automatic, handles_with}
-use Rattle.fm_pool_facts.proofs.Gripping.{automatic}
-use Rattle.fm_pool_facts.proofs.Lending.{loans_after-append}
+use Rattle.fm_rule_facts.specs.Hands.{Hand, nothing}
+use Rattle.fm_rule_facts.specs.Loans.{lent, loans_after}
+use Rattle.fm_rule_facts.specs.Views.{View, In}
+use Rattle.fm_rule_facts.specs.Holds.{is_automatic, handles_with}
+use Rattle.fm_rule_facts.proofs.Gripping.{automatic}
+use Rattle.fm_rule_facts.proofs.Lending.{loans_after-append}
 use Rattle.fm_rule.specs.declared.pool.Pool.{Pool}
-use Rattle.fm_calls.specs.Kept.{Goes, rest_of, slots_told}
-use Rattle.fm_calls.specs.Told.{silent_view}
-use Rattle.fm_calls.proofs.Going.{goes_then, lasts_on}
-use Rattle.fm_calls.proofs.Telling.{silent_makes}
+use Rattle.fm_rule_calls.specs.Kept.{Goes, rest_of, slots_told}
+use Rattle.fm_rule_calls.specs.Told.{silent_view}
+use Rattle.fm_rule_calls.proofs.Going.{goes_then, lasts_on}
+use Rattle.fm_rule_calls.proofs.Telling.{silent_makes}
 use Rattle.fm_gate.specs.Standing.{IsOutside}
 use Rattle.fm_gate.specs.Slots.{SlotTaken, NoneTaken, OpenedIn}
 use Rattle.fm_gate.specs.Learnt.{IsNew, handles_opened, AfterOpen}

@@ -8,12 +8,12 @@ use Rattle.fm_base.specs.Arenas.{same_id}
 use Rattle.fm_base.specs.Calls.{Entry}
 use Rattle.fm_base.specs.Finds.{Rest}
 use Rattle.fm_base.proofs.Names.{same_id-self}
-use Rattle.fm_pool_facts.specs.Views.{View, In}
-use Rattle.fm_pool_facts.specs.Holds.{one_if, how_many}
-use Rattle.fm_pool_facts.proofs.Summing.{some_hold}
+use Rattle.fm_rule_facts.specs.Views.{View, In}
+use Rattle.fm_rule_facts.specs.Holds.{one_if, how_many}
+use Rattle.fm_rule_facts.proofs.Summing.{some_hold}
 use Rattle.fm_rule.specs.declared.pool.Pool.{Pool}
-use Rattle.fm_calls.specs.Kept.{Goes}
-use Rattle.fm_calls.proofs.Going.{known_on}
+use Rattle.fm_rule_calls.specs.Kept.{Goes}
+use Rattle.fm_rule_calls.proofs.Going.{known_on}
 use Rattle.fm_gate.specs.Standing.{HasHandle}
 use Rattle.fm_gate.specs.Learnt.{handles_opened, handles_again}
 use Rattle.fm_gate.specs.Handling.{HandleLasts}

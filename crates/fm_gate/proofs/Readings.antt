@@ -2,15 +2,15 @@
 use Rattle.std.proofs.Common.{◌≡◌, ◌≢◌, ℕ, ◌+◌, ◌-◌, ◌*◌, ◌/◌, ◌==◌, ◌<◌, ◌≤◌, Bool, true, false, if◌then◌else◌, [], ◌∷◌, sym, refl, ap, subst, arith, inl, ne_eqb}
 use Rattle.std.proofs.Math.Nat.{mul-le-mul_right, lt_of_not-le}
 use Rattle.fm_words.specs.declared.shape.Shape.{Shape}
-use Rattle.fm_pool_facts.specs.Parts.{mapping_of, reads_after}
-use Rattle.fm_pool_facts.specs.Steps.{Stepped, none_noted}
-use Rattle.fm_pool_facts.specs.Views.{View, In, IsSound}
-use Rattle.fm_calls.proofs.Going.{goes_none}
+use Rattle.fm_rule_facts.specs.Parts.{mapping_of, reads_after}
+use Rattle.fm_rule_facts.specs.Steps.{Stepped, none_noted}
+use Rattle.fm_rule_facts.specs.Views.{View, In, IsSound}
+use Rattle.fm_rule_calls.proofs.Going.{goes_none}
 use Rattle.fm_pages.specs.Covers.{page_bytes}
 use Rattle.fm_pages.specs.Maps.{Way}
 use Rattle.fm_pages.proofs.Finding.{parts_cover}
 use Rattle.fm_pages.proofs.Parts.{way_then, way_read, pages_way}
-use Rattle.fm_pool_steps.proofs.Reading.{eqb_true, eqb_false}
+use Rattle.fm_rule_steps.proofs.Reading.{eqb_true, eqb_false}
 use Rattle.fm_gate.specs.Giving.{HasRead}
 
 -- the pass made no entry, and has read a page for all parts of the range before the next one

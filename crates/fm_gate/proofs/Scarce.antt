@@ -6,12 +6,12 @@ use Rattle.fm_base.specs.Arenas.{arena_of}
 use Rattle.fm_base.specs.Calls.{Entry}
 use Rattle.fm_base.specs.Histories.{state_after}
 use Rattle.fm_base.specs.Machine.{rounded_up}
-use Rattle.fm_pool_facts.specs.Hands.{nothing, slots_in}
-use Rattle.fm_pool_facts.specs.Loans.{Loan, lent}
-use Rattle.fm_pool_facts.specs.Scarcity.{IsScarce, parts_before, lacking}
-use Rattle.fm_pool_facts.specs.Steps.{is_clear, is_empty}
-use Rattle.fm_pool_facts.specs.Views.{View, given_of, limit_of, unlent}
-use Rattle.fm_calls.specs.Kept.{Goes}
+use Rattle.fm_rule_facts.specs.Hands.{nothing, slots_in}
+use Rattle.fm_rule_facts.specs.Loans.{Loan, lent}
+use Rattle.fm_rule_facts.specs.Scarcity.{IsScarce, parts_before, lacking}
+use Rattle.fm_rule_facts.specs.Steps.{is_clear, is_empty}
+use Rattle.fm_rule_facts.specs.Views.{View, given_of, limit_of, unlent}
+use Rattle.fm_rule_calls.specs.Kept.{Goes}
 use Rattle.fm_pages.specs.Claims.{AllFoundEmpty, FoundEmpty}
 
 -- They are so in two views alike, where the arena has given the same bytes and the same blocks are lent.

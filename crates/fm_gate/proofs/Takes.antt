@@ -7,14 +7,14 @@ use Rattle.fm_rule.specs.declared.pool.Pool.{Pool}
 use Rattle.fm_rule.specs.Passes.{IsOf}
 use Rattle.fm_base.specs.Calls.{Hold, Reply, Fine, TooManyHolds, entry_of}
 use Rattle.fm_base.specs.Machine.{most_holds}
-use Rattle.fm_pool_facts.specs.Views.{View, In}
-use Rattle.fm_pool_facts.specs.Words.{alive_holds, hold_found}
-use Rattle.fm_pool_facts.specs.Holds.{grips, with_grips, holds_after}
-use Rattle.fm_pool_facts.specs.Steps.{Stepped, none_noted, where_found}
-use Rattle.fm_pool_facts.proofs.Gripping.{with_same}
-use Rattle.fm_calls.specs.Kept.{Goes, rest_of}
-use Rattle.fm_calls.proofs.Going.{goes_of, no_draws, made_by-one, rest_is, hand_is, inside_is, mark_is}
-use Rattle.fm_calls.proofs.Waiting.{Waited, waits_on}
+use Rattle.fm_rule_facts.specs.Views.{View, In}
+use Rattle.fm_rule_facts.specs.Words.{alive_holds, hold_found}
+use Rattle.fm_rule_facts.specs.Holds.{grips, with_grips, holds_after}
+use Rattle.fm_rule_facts.specs.Steps.{Stepped, none_noted, where_found}
+use Rattle.fm_rule_facts.proofs.Gripping.{with_same}
+use Rattle.fm_rule_calls.specs.Kept.{Goes, rest_of}
+use Rattle.fm_rule_calls.proofs.Going.{goes_of, no_draws, made_by-one, rest_is, hand_is, inside_is, mark_is}
+use Rattle.fm_rule_calls.proofs.Waiting.{Waited, waits_on}
 use Rattle.fm_gate.specs.Learnt.{AfterTake}
 use Rattle.fm_gate.proofs.Standing.{swept_is}
 

@@ -5,10 +5,10 @@ use Rattle.fm_base.specs.declared.arena_id.ArenaId.{ArenaId}
 use Rattle.fm_base.specs.Calls.{Call, Read, SwapIf, Reply, Found, Entry, entry_of}
 use Rattle.fm_base.specs.Does.{DoesAct, DoesPatch, patched}
 use Rattle.fm_base.specs.Visits.{Acts, entries_of, Tries, looked, missed, hit}
-use Rattle.fm_pool_facts.specs.Views.{View, given_of}
+use Rattle.fm_rule_facts.specs.Views.{View, given_of}
 use Rattle.fm_rule.specs.declared.pool.Pool.{Pool}
-use Rattle.fm_calls.specs.Kept.{Goes, rest_of, Lasts}
-use Rattle.fm_calls.proofs.Going.{goes_then, lasts_on}
+use Rattle.fm_rule_calls.specs.Kept.{Goes, rest_of, Lasts}
+use Rattle.fm_rule_calls.proofs.Going.{goes_then, lasts_on}
 use Rattle.fm_gate.specs.Standing.{IsInside, CanReach}
 use Rattle.fm_gate.specs.Learnt.{AfterAct, AfterPatch}
 

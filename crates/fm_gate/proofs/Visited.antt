@@ -15,16 +15,16 @@ use Rattle.fm_base.specs.View.{but_loans, is_loan}
 use Rattle.fm_base.proofs.Learning.{allocate_gives}
 use Rattle.fm_base.proofs.Lookup.{changed_lookup}
 use Rattle.fm_base.proofs.Making.{state_after-append}
-use Rattle.fm_pool_facts.specs.Loans.{lent}
-use Rattle.fm_pool_facts.specs.Views.{View, In, given_of, limit_of, state_in}
-use Rattle.fm_pool_facts.proofs.Keeping.{in_append}
-use Rattle.fm_pool_facts.proofs.Lending.{loans_after-append}
+use Rattle.fm_rule_facts.specs.Loans.{lent}
+use Rattle.fm_rule_facts.specs.Views.{View, In, given_of, limit_of, state_in}
+use Rattle.fm_rule_facts.proofs.Keeping.{in_append}
+use Rattle.fm_rule_facts.proofs.Lending.{loans_after-append}
 use Rattle.fm_rule.specs.declared.pool.Pool.{Pool}
-use Rattle.fm_calls.specs.Kept.{Goes, Kept}
-use Rattle.fm_calls.specs.Told.{view_of_pass}
-use Rattle.fm_calls.proofs.Going.{goes_then, lasts_on}
-use Rattle.fm_calls.proofs.Sweeps.{no_sweeps}
-use Rattle.fm_calls.proofs.Telling.{did_of}
+use Rattle.fm_rule_calls.specs.Kept.{Goes, Kept}
+use Rattle.fm_rule_calls.specs.Told.{view_of_pass}
+use Rattle.fm_rule_calls.proofs.Going.{goes_then, lasts_on}
+use Rattle.fm_rule_calls.proofs.Sweeps.{no_sweeps}
+use Rattle.fm_rule_calls.proofs.Telling.{did_of}
 use Rattle.fm_pages.proofs.Looking.{all_earlier, found_later}
 use Rattle.fm_gate.specs.Giving.{AfterGive, DoesGive, NonePaged}
 use Rattle.fm_gate.specs.Learnt.{AfterEnter, AfterLeave, AfterAllocate}

@@ -8,11 +8,11 @@ use Rattle.fm_base.specs.Calls.{Lend, Allocate, Reply, Fine, Given, NoRoom, Entr
 use Rattle.fm_base.specs.Histories.{made_by}
 use Rattle.fm_base.specs.Machine.{rounded_up}
 use Rattle.fm_base.specs.View.{is_loan}
-use Rattle.fm_pool_facts.specs.Loans.{HasPart, lent}
-use Rattle.fm_pool_facts.specs.Views.{View, In, limit_of}
-use Rattle.fm_pool_facts.specs.Steps.{HasParts}
+use Rattle.fm_rule_facts.specs.Loans.{HasPart, lent}
+use Rattle.fm_rule_facts.specs.Views.{View, In, limit_of}
+use Rattle.fm_rule_facts.specs.Steps.{HasParts}
 use Rattle.fm_rule.specs.declared.pool.Pool.{Pool}
-use Rattle.fm_calls.specs.Kept.{Kept}
+use Rattle.fm_rule_calls.specs.Kept.{Kept}
 use Rattle.fm_pages.specs.Claims.{AllFoundEmpty}
 use Rattle.fm_pages.specs.Maps.{Way}
 use Rattle.fm_gate.specs.Pages.{IsDuring, IsInRange, FullExactly, LendsInRange, given_after}

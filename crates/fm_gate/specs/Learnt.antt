@@ -12,13 +12,13 @@ use Rattle.fm_base.specs.Finds.{FoundNothing, is_slot}
 use Rattle.fm_base.specs.Does.{DoesEnter, DoesAct, DoesPatch, DoesOpen, DoesAllocate, DoesIsAlive, DoesHold, DoesUnhold, DoesAgain}
 use Rattle.fm_base.specs.Outcomes.{Gives}
 use Rattle.fm_base.specs.View.{but_loans, is_loan}
-use Rattle.fm_pool_facts.specs.Views.{View, In, IsKnown, IsBusy}
-use Rattle.fm_pool_facts.specs.Loans.{lent}
-use Rattle.fm_pool_facts.specs.Holds.{grips, with_grips, holds_after, released}
-use Rattle.fm_pool_facts.specs.Words.{alive_holds, hold_found}
+use Rattle.fm_rule_facts.specs.Views.{View, In, IsKnown, IsBusy}
+use Rattle.fm_rule_facts.specs.Loans.{lent}
+use Rattle.fm_rule_facts.specs.Holds.{grips, with_grips, holds_after, released}
+use Rattle.fm_rule_facts.specs.Words.{alive_holds, hold_found}
 use Rattle.fm_rule.specs.declared.pool.Pool.{Pool}
-use Rattle.fm_calls.specs.Kept.{Goes, Kept, KeptHolding, KeptHandling, Lasts, rest_of}
-use Rattle.fm_calls.specs.Told.{view_of_pass}
+use Rattle.fm_rule_calls.specs.Kept.{Goes, Kept, KeptHolding, KeptHandling, Lasts, rest_of}
+use Rattle.fm_rule_calls.specs.Told.{view_of_pass}
 use Rattle.fm_gate.specs.Pages.{FoundNoPage, FullExactly, LendsInRange}
 use Rattle.fm_gate.specs.Standing.{IsOutside, IsInside, CanUnhold, HasHandle}
 use Rattle.fm_gate.specs.declared.held.Hold.{Hold}

@@ -1,7 +1,7 @@
 -- Which pass made a hold, a handle or a close.
 use Rattle.std.specs.Prelude.{ℕ, List}
 use Rattle.fm_base.specs.declared.caller.Caller.{Caller}
-use Rattle.fm_pool_facts.specs.Views.{View}
+use Rattle.fm_rule_facts.specs.Views.{View}
 
 pub record Made : Type 0 where
   -- numbers that tell the pool

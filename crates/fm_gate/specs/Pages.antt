@@ -7,9 +7,9 @@ use Rattle.fm_base.specs.Arenas.{arena_of}
 use Rattle.fm_base.specs.Calls.{Entry, Lend, Leave, Fine, entry_of}
 use Rattle.fm_base.specs.Histories.{made_by, state_after}
 use Rattle.fm_base.specs.Machine.{rounded_up}
-use Rattle.fm_pool_facts.specs.Loans.{HasPart, lent}
-use Rattle.fm_pool_facts.specs.Scarcity.{IsScarce}
-use Rattle.fm_pool_facts.specs.Views.{View, Begins, limit_of}
+use Rattle.fm_rule_facts.specs.Loans.{HasPart, lent}
+use Rattle.fm_rule_facts.specs.Scarcity.{IsScarce}
+use Rattle.fm_rule_facts.specs.Views.{View, Begins, limit_of}
 use Rattle.fm_pages.specs.Claims.{AllFoundEmpty}
 
 -- how many bytes the arena had given after these entries

@@ -5,10 +5,10 @@ use Rattle.fm_base.specs.declared.kind.Kind.{Kind}
 use Rattle.fm_base.specs.Arenas.{owner_of}
 use Rattle.fm_base.specs.Calls.{Open, Fine, entry_of}
 use Rattle.fm_base.specs.Finds.{FoundNothing, is_slot}
-use Rattle.fm_pool_facts.specs.Hands.{Hand, nothing, taken}
-use Rattle.fm_pool_facts.specs.Views.{View, IsBusy}
-use Rattle.fm_pool_facts.specs.Holds.{handles_with}
-use Rattle.fm_calls.specs.Kept.{Goes}
+use Rattle.fm_rule_facts.specs.Hands.{Hand, nothing, taken}
+use Rattle.fm_rule_facts.specs.Views.{View, IsBusy}
+use Rattle.fm_rule_facts.specs.Holds.{handles_with}
+use Rattle.fm_rule_calls.specs.Kept.{Goes}
 use Rattle.fm_gate.specs.Learnt.{AllBusy}
 
 -- the pass went on without entries of its own, found words of slot bits, and has this in its hand

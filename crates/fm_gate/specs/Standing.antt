@@ -2,9 +2,9 @@
 use Rattle.std.specs.Prelude.{◌≡◌, ◌≢◌, ◌<◌, ◌*◌, ℕ, [], bit_and, Some, None}
 use Rattle.fm_base.specs.declared.arena_id.ArenaId.{ArenaId}
 use Rattle.fm_base.specs.declared.kind.Kind.TheVariants.{Automatic}
-use Rattle.fm_pool_facts.specs.Hands.{nothing, no_number}
-use Rattle.fm_pool_facts.specs.Parts.{unread}
-use Rattle.fm_pool_facts.specs.Views.{View, In, IsKnown, given_of}
+use Rattle.fm_rule_facts.specs.Hands.{nothing, no_number}
+use Rattle.fm_rule_facts.specs.Parts.{unread}
+use Rattle.fm_rule_facts.specs.Views.{View, In, IsKnown, given_of}
 use Rattle.fm_rule.specs.declared.pool.Pool.{Pool}
 use Rattle.fm_rule.specs.Passes.{IsOf}
 use Rattle.fm_gate.specs.declared.held.Hold.{Hold}

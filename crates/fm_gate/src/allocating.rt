@@ -1,6 +1,6 @@
 ghost use Rattle.std.specs.Prelude.{◌≡◌, ◌≤◌, [], Some};
 ghost use Rattle.fm_base.specs.Machine.{IsPower};
-ghost use Rattle.fm_pool_facts.specs.Views.{IsSound, limit_of};
+ghost use Rattle.fm_rule_facts.specs.Views.{IsSound, limit_of};
 ghost use Rattle.fm_rule.specs.Passes.{IsOf};
 ghost use Rattle.fm_gate.specs.Standing.{CanAllocate, IsInside};
 ghost use Rattle.fm_gate.specs.Learnt.{AfterAllocate};

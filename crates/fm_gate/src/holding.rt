@@ -1,5 +1,5 @@
 ghost use Rattle.fm_base.specs.Arenas.{MayUse};
-ghost use Rattle.fm_pool_facts.specs.Views.{IsKnown};
+ghost use Rattle.fm_rule_facts.specs.Views.{IsKnown};
 ghost use Rattle.fm_rule.specs.Passes.{IsOf};
 ghost use Rattle.fm_gate.specs.Standing.{CanVisit, CanUnhold};
 ghost use Rattle.fm_gate.specs.Learnt.{AfterHold, AfterTake, AfterUnhold};

@@ -1,15 +1,15 @@
 ghost use Rattle.std.specs.Prelude.{◌≡◌, ◌≢◌, ◌<◌, ◌≤◌, IfOk, IfErr};
 ghost use Rattle.std.specs.Int.{bit_at};
 ghost use Rattle.fm_base.specs.declared.refusal.Refusal.TheVariants.{NoSlot};
-ghost use Rattle.fm_pool_facts.specs.Hands.{nothing, taken};
+ghost use Rattle.fm_rule_facts.specs.Hands.{nothing, taken};
 ghost use Rattle.fm_rule.specs.Passes.{IsOf};
 ghost use Rattle.fm_gate.specs.Learnt.{AfterOpen};
 ghost use Rattle.fm_gate.specs.Slots.{NoneTaken, OpenedIn, SlotTaken};
 ghost use Rattle.fm_gate.specs.Standing.{IsOutside};
 
 use fm_base::{ArenaId, Kind, Refusal};
-use fm_pool_facts::Slot;
 use fm_rule::{Pass, Pool, step_generation, step_open, step_take_slot};
+use fm_rule_facts::Slot;
 use fm_words::{lowest_bit, session_of};
 use std::sync::Wait;
 

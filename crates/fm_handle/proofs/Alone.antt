@@ -4,7 +4,7 @@ use Rattle.fm_base.specs.declared.refusal.Refusal.{Refusal}
 use Rattle.fm_base.specs.declared.refusal.Refusal.TheVariants.{IndexOut, ReadOnly, Unsupported}
 use Rattle.fm_path.specs.declared.value_spec.ValueSpec.{ValueSpec}
 use Rattle.fm_path.specs.Resolution.{Resolution}
-use Rattle.fm_access.proofs.Causes.{never}
+use Rattle.fm_segment_access.proofs.Causes.{never}
 use Rattle.fm_segment.specs.Region.{Region}
 use Rattle.fm_handle.specs.Place.{if_rooted, if_supported, if_writable, place_of, writable_place_of, update_place_of, value_place}
 use Rattle.fm_handle.proofs.Causes.{tested}

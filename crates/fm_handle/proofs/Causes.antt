@@ -10,7 +10,7 @@ use Rattle.fm_path.specs.Resolution.{Resolution}
 use Rattle.fm_path_meaning.specs.declared.dim.Dim.{Dim}
 use Rattle.fm_path_meaning.specs.Found.{IsFirstOut}
 use Rattle.fm_path_meaning.specs.Walk.{AreAdmitted}
-use Rattle.fm_access.proofs.Causes.{Causes, place_causes, placed_causes, placed_ok, write_causes, support_causes, tested_causes}
+use Rattle.fm_segment_access.proofs.Causes.{Causes, place_causes, placed_causes, placed_ok, write_causes, support_causes, tested_causes}
 use Rattle.fm_segment.specs.Region.{Region}
 use Rattle.fm_handle.specs.Causes.{RootFits, RootIsAligned, RootCause, IndexCause, GetCause, SetCause, UpdateCause}
 use Rattle.fm_handle.specs.Place.{if_admitted, if_rooted, value_place, place_of, writable_place_of, update_place_of}

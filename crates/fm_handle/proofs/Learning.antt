@@ -12,11 +12,11 @@ use Rattle.fm_lanes.specs.declared.value.Value.{Value}
 use Rattle.fm_lanes.specs.Value.{kind_of}
 use Rattle.fm_path.specs.declared.value_spec.ValueSpec.{ValueSpec}
 use Rattle.fm_path.specs.Resolution.{Resolution}
-use Rattle.fm_access.specs.Found.{DoesAt}
-use Rattle.fm_access.proofs.Causes.{entering}
-use Rattle.fm_access.proofs.Learning.{IsCall, after_at, after_get_at, after_put_at, after_said}
-use Rattle.fm_access.proofs.Outside.{EndsOutside, enter_outside}
-use Rattle.fm_access.proofs.Values.{kind_of-decoded}
+use Rattle.fm_segment_access.specs.Found.{DoesAt}
+use Rattle.fm_segment_access.proofs.Causes.{entering}
+use Rattle.fm_segment_access.proofs.Learning.{IsCall, after_at, after_get_at, after_put_at, after_said}
+use Rattle.fm_segment_access.proofs.Outside.{EndsOutside, enter_outside}
+use Rattle.fm_segment_access.proofs.Values.{kind_of-decoded}
 use Rattle.fm_segment.specs.Access.{IsKnown}
 use Rattle.fm_segment.specs.Learnt.{KnowsSegment}
 use Rattle.fm_segment.specs.Region.{Region}

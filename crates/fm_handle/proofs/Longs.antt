@@ -11,10 +11,10 @@ use Rattle.fm_base.specs.View.{View, Did, IsByItself}
 use Rattle.fm_base.specs.Visits.{Acts}
 use Rattle.fm_base.proofs.Lookup.{swapped_hit, swapped_miss}
 use Rattle.fm_base.proofs.Placing.{there_by_way}
-use Rattle.fm_bytes.specs.Bytes.{number_of, lane}
-use Rattle.fm_bytes.specs.Signed.{unsigned_of}
-use Rattle.fm_bytes.proofs.Bytes.{lane-lt, lane-whole, number_of-bytes_of_mod}
-use Rattle.fm_bytes.proofs.Signed.{unsigned_of-signed_of, unsigned_of-eight}
+use Rattle.fm_base_bytes.specs.Bytes.{number_of, lane}
+use Rattle.fm_base_bytes.specs.Signed.{unsigned_of}
+use Rattle.fm_base_bytes.proofs.Bytes.{lane-lt, lane-whole, number_of-bytes_of_mod}
+use Rattle.fm_base_bytes.proofs.Signed.{unsigned_of-signed_of, unsigned_of-eight}
 use Rattle.fm_lanes.specs.declared.order.Order.{Order}
 use Rattle.fm_lanes.specs.declared.order.Order.TheVariants.{Little}
 use Rattle.fm_lanes.specs.declared.value.Value.{Value}
@@ -25,7 +25,7 @@ use Rattle.fm_lanes.specs.Coding.{encoded, turned, bytes_of_value}
 use Rattle.fm_lanes.proofs.Meaning.{value_of-lane}
 use Rattle.fm_lanes.proofs.Turning.{turned_number, turned-lt_width, turned-turned}
 use Rattle.fm_path.specs.declared.value_spec.ValueSpec.{ValueSpec}
-use Rattle.fm_access.proofs.Visits.{VisitPuts, ActsPut, acts_visit, visit_stays, whole_word, not_same}
+use Rattle.fm_segment_access.proofs.Visits.{VisitPuts, ActsPut, acts_visit, visit_stays, whole_word, not_same}
 use Rattle.fm_handle.specs.Access.{DoesVisit}
 use Rattle.fm_handle.specs.Acts.{ExchangesLong, AddsLong, value_in, word_of, sum_of}
 use Rattle.fm_handle.specs.Alone.{value_at, ExchangesValue, AddsValue}

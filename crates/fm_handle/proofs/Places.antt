@@ -18,7 +18,7 @@ use Rattle.fm_path_meaning.specs.declared.dim.Dim.{Dim}
 use Rattle.fm_path_meaning.specs.Found.{IsFirstOut}
 use Rattle.fm_path_meaning.specs.Walk.{AreAdmitted, offset_at}
 use Rattle.fm_path_meaning.proofs.Inside.{divides_from, divides_gives, divides_add, divides_trans, divides_powers}
-use Rattle.fm_access.proofs.Causes.{placed_ok}
+use Rattle.fm_segment_access.proofs.Causes.{placed_ok}
 use Rattle.fm_segment.specs.Region.{Region}
 use Rattle.fm_handle.specs.Place.{if_admitted, if_rooted, root_place, place_of, writable_place_of, value_place, can_update, fills_word, is_word, is_int_or_long, is_long, is_little, RootStands, ValueStands}
 

@@ -9,7 +9,7 @@ use Rattle.fm_segment.specs.Region.{Region}
 use Rattle.fm_path_text.specs.declared.step.PathStep.{PathStep}
 use Rattle.fm_handle.specs.Place.{if_rooted, place_of, writable_place_of, value_place}
 use Rattle.fm_handle.specs.Touched.{StandsAtPath, ComesTo, reads, writes, updates}
-use Rattle.fm_access.proofs.Causes.{never}
+use Rattle.fm_segment_access.proofs.Causes.{never}
 use Rattle.fm_handle.proofs.Causes.{tested, rooted}
 use Rattle.fm_handle.proofs.Alone.{supported, written}
 use Rattle.fm_handle.proofs.Places.{rooted_is}

@@ -4,7 +4,7 @@ use Rattle.fm_base.specs.View.{View}
 use Rattle.fm_lanes.specs.Kind.{width_of}
 use Rattle.fm_lanes.proofs.Meaning.{width_of-bounds}
 use Rattle.fm_path.specs.Resolution.{Resolution}
-use Rattle.fm_access.specs.Learnt.{CanTouchPiece}
+use Rattle.fm_segment_access.specs.Learnt.{CanTouchPiece}
 use Rattle.fm_segment.specs.Access.{IsKnown}
 use Rattle.fm_segment.specs.Region.{Region}
 use Rattle.fm_handle.specs.Place.{ValueStands, can_update, fills_word}

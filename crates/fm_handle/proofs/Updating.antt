@@ -14,10 +14,10 @@ use Rattle.fm_base.specs.Visits.{Acts, entries_of, visit, Tries}
 use Rattle.fm_base.proofs.Faith.{Makes-alone}
 use Rattle.fm_base.proofs.Lookup.{lookup_changed, swapped_miss}
 use Rattle.fm_base.proofs.Making.{IsLegal-split}
-use Rattle.fm_bytes.specs.Bytes.{bytes_of, number_of, lane}
-use Rattle.fm_bytes.specs.Words.{bytes_in}
-use Rattle.fm_bytes.proofs.Bytes.{bytes_of-lane, bytes_of-number_of, number_of-lt}
-use Rattle.fm_bytes.proofs.Words.{length-bytes_in}
+use Rattle.fm_base_bytes.specs.Bytes.{bytes_of, number_of, lane}
+use Rattle.fm_base_bytes.specs.Words.{bytes_in}
+use Rattle.fm_base_bytes.proofs.Bytes.{bytes_of-lane, bytes_of-number_of, number_of-lt}
+use Rattle.fm_base_bytes.proofs.Words.{length-bytes_in}
 use Rattle.fm_lanes.specs.declared.order.Order.{Order}
 use Rattle.fm_lanes.specs.declared.value.Value.{Value}
 use Rattle.fm_lanes.specs.declared.value.Value.TheVariants.{Int, Long}
@@ -26,11 +26,11 @@ use Rattle.fm_lanes.specs.Coding.{value_of, bytes_of_value}
 use Rattle.fm_lanes.specs.Kind.{width_of}
 use Rattle.fm_lanes.specs.Value.{kind_of}
 use Rattle.fm_path.specs.declared.value_spec.ValueSpec.{ValueSpec}
-use Rattle.fm_access.specs.Alone.{bytes_of_arena, StaysOut}
-use Rattle.fm_access.specs.Pieces.{PutsBytes, whole}
-use Rattle.fm_access.proofs.Alone.{changes}
-use Rattle.fm_access.proofs.Visits.{visit_refused, VisitPuts, acts_visit, visit_puts, tries_put, tries_leave, visit_stays, lane_bytes, not_same}
-use Rattle.fm_access.proofs.Values.{AreBytes-value, length-value, kind_of-decoded}
+use Rattle.fm_segment_access.specs.Alone.{bytes_of_arena, StaysOut}
+use Rattle.fm_segment_access.specs.Pieces.{PutsBytes, whole}
+use Rattle.fm_segment_access.proofs.Alone.{changes}
+use Rattle.fm_segment_access.proofs.Visits.{visit_refused, VisitPuts, acts_visit, visit_puts, tries_put, tries_leave, visit_stays, lane_bytes, not_same}
+use Rattle.fm_segment_access.proofs.Values.{AreBytes-value, length-value, kind_of-decoded}
 use Rattle.fm_handle.specs.Access.{DoesVisit, OneVisit}
 use Rattle.fm_handle.specs.Acts.{CutOff, looked, missed, at_read, at_swap, Exchanges, puts, finds_another, Adds, Stores, value_in, with_value, word_of, sum_of}
 use Rattle.fm_handle.specs.Alone.{value_at, PutsValue, ExchangesValue, SetsExpected, AddsValue}

@@ -10,9 +10,9 @@ use Rattle.fm_base.specs.Visits.{Acts, visit}
 use Rattle.fm_base.proofs.Visiting.{entered_makes, visit_of_one, visit_of_inside}
 use Rattle.fm_lanes.specs.declared.value.Value.{Value}
 use Rattle.fm_path.specs.Resolution.{Resolution}
-use Rattle.fm_access.specs.Found.{DoesAt}
-use Rattle.fm_access.specs.Learnt.{Visited}
-use Rattle.fm_access.proofs.Touching.{visited}
+use Rattle.fm_segment_access.specs.Found.{DoesAt}
+use Rattle.fm_segment_access.specs.Learnt.{Visited}
+use Rattle.fm_segment_access.proofs.Touching.{visited}
 use Rattle.fm_segment.specs.Region.{Region}
 use Rattle.fm_handle.specs.Access.{DoesInside, DoesVisit, Wins}
 use Rattle.fm_handle.specs.Place.{FindsWhere, ValueStands}

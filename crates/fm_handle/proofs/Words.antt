@@ -1,10 +1,10 @@
 -- Values in words, from the code's bits.
 use Rattle.std.proofs.Common.{◌≡◌, ◌≢◌, ◌==◌, Bool, true, false, MatchBool, ℕ, ◌+◌, ◌-◌, ◌*◌, ◌%◌, ◌^◌, ◌<◌, ◌≤◌, bit_and, bit_or, ℤ, pos, negsuc, SFits, w64, sym, ap, subst, ◌∙◌, arith}
 use Rattle.std.proofs.lemmas.Bool.{eqb-true, eqb-false}
-use Rattle.fm_bytes.specs.Bytes.{number_of, lane, replaced}
-use Rattle.fm_bytes.specs.Signed.{FitsBytes, signed_of, unsigned_of}
-use Rattle.fm_bytes.proofs.Bytes.{lane-whole}
-use Rattle.fm_bytes.proofs.Signed.{unsigned_of-lt, signed_of-unsigned_of}
+use Rattle.fm_base_bytes.specs.Bytes.{number_of, lane, replaced}
+use Rattle.fm_base_bytes.specs.Signed.{FitsBytes, signed_of, unsigned_of}
+use Rattle.fm_base_bytes.proofs.Bytes.{lane-whole}
+use Rattle.fm_base_bytes.proofs.Signed.{unsigned_of-lt, signed_of-unsigned_of}
 use Rattle.fm_lanes.specs.declared.order.Order.{Order}
 use Rattle.fm_lanes.specs.declared.value.Value.{Value}
 use Rattle.fm_lanes.specs.declared.value.Value.TheVariants.{Long}

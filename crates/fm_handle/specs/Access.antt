@@ -9,8 +9,8 @@ use Rattle.fm_base.specs.Does.{DoesEnter}
 use Rattle.fm_base.specs.Visits.{Acts, entries_of, visit}
 use Rattle.fm_lanes.specs.declared.value.Value.{Value}
 use Rattle.fm_path.specs.Resolution.{Resolution}
-use Rattle.fm_access.specs.Found.{DoesAt}
-use Rattle.fm_access.specs.Values.{DoesGetValue, DoesPutValue}
+use Rattle.fm_segment_access.specs.Found.{DoesAt}
+use Rattle.fm_segment_access.specs.Values.{DoesGetValue, DoesPutValue}
 use Rattle.fm_segment.specs.Region.{Region}
 use Rattle.fm_handle.specs.Acts.{word_of, Stores, ExchangesLong, AddsLong, Exchanges, Adds}
 

@@ -4,7 +4,7 @@ use Rattle.std.specs.Int.{int_wrapping_add, w32, w64}
 use Rattle.fm_base.specs.declared.arena_id.ArenaId.{ArenaId}
 use Rattle.fm_base.specs.Calls.{Read, Write, SwapIf, Add, Fine, Found}
 use Rattle.fm_base.specs.Visits.{Acts, Tries}
-use Rattle.fm_bytes.specs.Bytes.{bytes_of, number_of, replaced}
+use Rattle.fm_base_bytes.specs.Bytes.{bytes_of, number_of, replaced}
 use Rattle.fm_lanes.specs.declared.order.Order.{Order}
 use Rattle.fm_lanes.specs.declared.order.Order.TheVariants.{Little}
 use Rattle.fm_lanes.specs.declared.value.Value.{Value}

@@ -5,7 +5,7 @@ use Rattle.fm_base.specs.Arenas.{State}
 use Rattle.fm_base.specs.View.{View}
 use Rattle.fm_lanes.specs.declared.value.Value.{Value}
 use Rattle.fm_path.specs.declared.value_spec.ValueSpec.{ValueSpec}
-use Rattle.fm_access.specs.Values as here
+use Rattle.fm_segment_access.specs.Values as here
 use Rattle.fm_handle.specs.Acts.{sum_of}
 
 -- the value that the arena's bytes from the place on mean

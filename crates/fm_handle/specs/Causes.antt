@@ -8,7 +8,7 @@ use Rattle.fm_path.specs.Resolution.{Resolution}
 use Rattle.fm_path_meaning.specs.declared.dim.Dim.{Dim}
 use Rattle.fm_path_meaning.specs.Found.{IsFirstOut}
 use Rattle.fm_path_meaning.specs.Walk.{AreAdmitted}
-use Rattle.fm_access.specs.Found.{PlaceCause, WriteCause, SupportCause}
+use Rattle.fm_segment_access.specs.Found.{PlaceCause, WriteCause, SupportCause}
 use Rattle.fm_segment.specs.Region.{Region}
 
 -- the whole root lies in the segment

@@ -8,8 +8,8 @@ use Rattle.fm_lanes.specs.declared.value.Value.TheVariants.{Long}
 use Rattle.fm_lanes.specs.Value.{kind_of}
 use Rattle.fm_path.specs.declared.value_spec.ValueSpec.{ValueSpec}
 use Rattle.fm_path.specs.Resolution.{Resolution}
-use Rattle.fm_access.specs.Found.{StaysOutOf}
-use Rattle.fm_access.specs.Learnt.{After}
+use Rattle.fm_segment_access.specs.Found.{StaysOutOf}
+use Rattle.fm_segment_access.specs.Learnt.{After}
 use Rattle.fm_segment.specs.Access.{IsKnown}
 use Rattle.fm_segment.specs.Learnt.{KnowsSegment}
 use Rattle.fm_segment.specs.Region.{Region}

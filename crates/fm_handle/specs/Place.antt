@@ -12,7 +12,7 @@ use Rattle.fm_path.specs.declared.value_spec.ValueSpec.{ValueSpec}
 use Rattle.fm_path.specs.Resolution.{Resolution}
 use Rattle.fm_path_meaning.specs.declared.dim.Dim.{Dim}
 use Rattle.fm_path_meaning.specs.Walk.{offset_at}
-use Rattle.fm_access.specs.Found.{if_placed}
+use Rattle.fm_segment_access.specs.Found.{if_placed}
 use Rattle.fm_segment.specs.Region.{Region}
 
 -- ---- on which values an update works

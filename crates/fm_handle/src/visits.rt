@@ -1,7 +1,7 @@
 ghost use Rattle.std.specs.Prelude.{◌≡◌};
 ghost use Rattle.fm_lanes.specs.Kind.{width_of};
 ghost use Rattle.fm_lanes.specs.Value.{kind_of};
-ghost use Rattle.fm_access.specs.Learnt.{CanTouchPiece, Visited};
+ghost use Rattle.fm_segment_access.specs.Learnt.{CanTouchPiece, Visited};
 ghost use Rattle.fm_handle.specs.Access.{DoesVisit};
 ghost use Rattle.fm_handle.specs.Acts.{Adds, AddsLong, Exchanges, ExchangesLong, Stores, word_of};
 

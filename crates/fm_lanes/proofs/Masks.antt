@@ -1,7 +1,7 @@
 -- Bytes of a word that are replaced under a mask.
 use Rattle.std.proofs.Common.{◌≡◌, ℕ, ◌+◌, ◌-◌, ◌*◌, ◌/◌, ◌%◌, ◌^◌, ◌<◌, ◌≤◌, bit_and, bit_or, refl, ap, sym, ◌∙◌, arith}
 use Rattle.std.proofs.lemmas.Nat.{pow_pos, pow-add, and_block, or_block, and_mask, and_comm, or_comm, or_shifted, shr-shr, shr_split, mod_below, shr_below}
-use Rattle.fm_bytes.specs.Bytes.{replaced}
+use Rattle.fm_base_bytes.specs.Bytes.{replaced}
 
 -- A number below a power keeps itself under the mask of that power.
 kept_by_mask : (n k : ℕ) → n < 2 ^ k → bit_and n (2 ^ k - 1) ≡ n

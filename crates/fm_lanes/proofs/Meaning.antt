@@ -1,9 +1,9 @@
 -- What the bytes of words mean as values, and what bytes a value is written as.
 use Rattle.std.proofs.Common.{◌≡◌, ℕ, ◌+◌, ◌*◌, ◌<◌, ◌≤◌, List, length, take, drop, get_or, sym, ap, ◌∙◌, arith}
-use Rattle.fm_bytes.specs.Bytes.{bytes_of, number_of, lane}
-use Rattle.fm_bytes.specs.Words.{bytes_in}
-use Rattle.fm_bytes.proofs.Bytes.{bytes_of-lane, lane-lt}
-use Rattle.fm_bytes.proofs.Words.{bytes_in-lane}
+use Rattle.fm_base_bytes.specs.Bytes.{bytes_of, number_of, lane}
+use Rattle.fm_base_bytes.specs.Words.{bytes_in}
+use Rattle.fm_base_bytes.proofs.Bytes.{bytes_of-lane, lane-lt}
+use Rattle.fm_base_bytes.proofs.Words.{bytes_in-lane}
 use Rattle.fm_lanes.specs.declared.order.Order.{Order}
 use Rattle.fm_lanes.specs.declared.value.Value.{Value}
 use Rattle.fm_lanes.specs.declared.value_kind.ValueKind.{ValueKind}

@@ -5,9 +5,9 @@ use Rattle.byteorder.proofs.Bytes.{pow256}
 use Rattle.std.proofs.lemmas.List.{reverse-append, reverse-reverse, length-reverse, length-replicate, get_or-reverse, drop_all, append-nil, replicate_more}
 use Rattle.std.proofs.lemmas.Grind.{reverse_onto}
 use Rattle.std.proofs.lemmas.Nat.{shr-shr, pow_pos, shl-shr, shr_split, mod_below}
-use Rattle.fm_bytes.specs.Bytes.{AreBytes, bytes_of, number_of, lane, replaced}
-use Rattle.fm_bytes.proofs.Bytes.{length-bytes_of, AreBytes-bytes_of, bytes_of-suc, bytes_of-zero, bytes_of-mod, bytes_of-number_of, number_of-bytes_of, number_of-bytes_of_mod, number_of-lt, number_of-append, number_of-zeros, bytes_of-replaced, replaced-replaced, replaced-lane, replaced-lt}
-use Rattle.fm_bytes.proofs.Words.{bytes_of-filled}
+use Rattle.fm_base_bytes.specs.Bytes.{AreBytes, bytes_of, number_of, lane, replaced}
+use Rattle.fm_base_bytes.proofs.Bytes.{length-bytes_of, AreBytes-bytes_of, bytes_of-suc, bytes_of-zero, bytes_of-mod, bytes_of-number_of, number_of-bytes_of, number_of-bytes_of_mod, number_of-lt, number_of-append, number_of-zeros, bytes_of-replaced, replaced-replaced, replaced-lane, replaced-lt}
+use Rattle.fm_base_bytes.proofs.Words.{bytes_of-filled}
 use Rattle.fm_lanes.specs.declared.order.Order.{Order}
 use Rattle.fm_lanes.specs.declared.order.Order.TheVariants.{Little, Big}
 use Rattle.fm_lanes.specs.Coding.{turned, lowest_first}

@@ -1,7 +1,7 @@
 -- How values are coded in bytes: two's complement in the kind's width, in either order.
 use Rattle.std.specs.Prelude.{ℕ, ◌%◌, ◌^◌, ◌==◌, not, List, reverse}
-use Rattle.fm_bytes.specs.Bytes.{bytes_of, number_of, replaced}
-use Rattle.fm_bytes.specs.Signed.{signed_of, unsigned_of}
+use Rattle.fm_base_bytes.specs.Bytes.{bytes_of, number_of, replaced}
+use Rattle.fm_base_bytes.specs.Signed.{signed_of, unsigned_of}
 use Rattle.fm_lanes.specs.declared.order.Order.{Order}
 use Rattle.fm_lanes.specs.declared.order.Order.TheVariants.{Little, Big}
 use Rattle.fm_lanes.specs.declared.value.Value.{Value}

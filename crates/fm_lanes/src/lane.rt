@@ -1,5 +1,5 @@
 ghost use Rattle.std.specs.Prelude.{◌≡◌, ◌+◌, ◌-◌, ◌*◌, ◌%◌, ◌^◌, ◌≤◌};
-ghost use Rattle.fm_bytes.specs.Bytes.{lane};
+ghost use Rattle.fm_base_bytes.specs.Bytes.{lane};
 
 /// The number that the `width` bytes of `word` from byte `at` on make, the lowest first.
 pub fn read(word: u64, at: u32, width: u32) -> u64

@@ -1,5 +1,5 @@
 ghost use Rattle.std.specs.Prelude.{◌≡◌, length};
-ghost use Rattle.fm_bytes.specs.Words.{word_count, words_of};
+ghost use Rattle.fm_base_bytes.specs.Words.{word_count, words_of};
 
 use byteorder::{ByteOrder, LittleEndian};
 

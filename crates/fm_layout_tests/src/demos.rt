@@ -1,4 +1,4 @@
-use fm_demo::made_records;
+use fm_top_demo::made_records;
 use std::test::Fail;
 
 #[test]

@@ -2,7 +2,7 @@ use crate::record::{printed, sale};
 use fm_base::Refusal;
 use fm_lanes::ValueKind;
 use fm_layout::Layout;
-use fm_query::{Asked, Fold, Operator, Query, check_record, parse_list, parse_query};
+use fm_records_query::{Asked, Fold, Operator, Query, check_record, parse_list, parse_query};
 use std::alloc::Global;
 use std::test::Fail;
 

@@ -1,9 +1,9 @@
 ghost use Rattle.std.specs.Prelude.{◌≡◌, ◌+◌, ◌≤◌, None};
-ghost use Rattle.fm_access.specs.Learnt.{CanTouch};
+ghost use Rattle.fm_segment_access.specs.Learnt.{CanTouch};
 
-use fm_access::{fill, get_number, put_number};
 use fm_base::{ArenaId, Kind, Memory, Refusal};
 use fm_mono::Mono;
+use fm_segment_access::{fill, get_number, put_number};
 use std::process::Abort;
 use std::sync::Wait;
 

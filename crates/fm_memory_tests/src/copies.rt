@@ -1,10 +1,10 @@
 ghost use Rattle.std.specs.Prelude.{◌≡◌, ◌+◌, ◌<◌, ◌≤◌, None};
-ghost use Rattle.fm_access.specs.Learnt.{CanTouch};
+ghost use Rattle.fm_segment_access.specs.Learnt.{CanTouch};
 
-use fm_access::{get_number, put_number};
 use fm_base::{ArenaId, Kind, Memory, Refusal};
-use fm_copies::{copy_range, mismatch_range};
 use fm_mono::Mono;
+use fm_segment_access::{get_number, put_number};
+use fm_segment_copies::{copy_range, mismatch_range};
 use std::process::Abort;
 use std::sync::Wait;
 

@@ -16,7 +16,7 @@ pub struct Interrupted<'a, H: Wait> {
 }
 
 impl<'a, H: Wait> Model for Interrupted<'a, H> {
-    ghost use Rattle.fm_pool_facts.specs.Views.{View};
+    ghost use Rattle.fm_rule_facts.specs.Views.{View};
     ghost use Rattle.fm_memory_tests.specs.Beside.{AreBeside};
 
     ghost Value = { View };
@@ -29,7 +29,7 @@ impl<'a, H: Wait> Model for Interrupted<'a, H> {
 impl<'a, H: Wait> Interrupted<'a, H> {
     ghost use Rattle.std.specs.Prelude.{◌≡◌};
     ghost use Rattle.fm_base.specs.Learnt.{CanVisit};
-    ghost use Rattle.fm_calls.specs.Told.{view_of_pass};
+    ghost use Rattle.fm_rule_calls.specs.Told.{view_of_pass};
     ghost use Rattle.fm_memory_tests.specs.Beside.{AreBeside};
 
     /// Two passes of one pool.
@@ -62,7 +62,7 @@ impl<'a, H: Wait> Interrupted<'a, H> {
 
 impl<'a, H: Wait> Memory for Interrupted<'a, H> {
     ghost use Rattle.std.specs.Prelude.{refl};
-    ghost use Rattle.fm_calls.specs.Told.{view_of_pass};
+    ghost use Rattle.fm_rule_calls.specs.Told.{view_of_pass};
     ghost use Rattle.fm_arena.specs.Shares.{nature_of_shared};
 
     ghost nature = { nature_of_shared };

@@ -5,13 +5,13 @@ use Rattle.std.specs.Int.{bit_at}
 use Rattle.fm_words.specs.declared.shape.Shape.{Shape}
 use Rattle.fm_words.specs.Bits.{number_at}
 use Rattle.fm_base.specs.Finds.{Find, TakesPage, is_draw}
-use Rattle.fm_pool_facts.specs.Hands.{takes}
-use Rattle.fm_pool_facts.specs.Parts.{pages_taken}
-use Rattle.fm_pool_facts.specs.Views.{View}
-use Rattle.fm_pool_facts.specs.Steps.{Stepped, none_noted, note_of, is_clear}
+use Rattle.fm_rule_facts.specs.Hands.{takes}
+use Rattle.fm_rule_facts.specs.Parts.{pages_taken}
+use Rattle.fm_rule_facts.specs.Views.{View}
+use Rattle.fm_rule_facts.specs.Steps.{Stepped, none_noted, note_of, is_clear}
 use Rattle.fm_rule.specs.declared.pool.Pool.{Pool}
 use Rattle.fm_rule.specs.Passes.{IsOf}
-use Rattle.fm_calls.proofs.Going.{NoDraws, IsOn, goes_of, goes_then, no_draws}
+use Rattle.fm_rule_calls.proofs.Going.{NoDraws, IsOn, goes_of, goes_then, no_draws}
 use Rattle.fm_pages.specs.Claims.{Went, PageClaimed, TryOutcome}
 use Rattle.fm_pages.proofs.Clear.{clear_still}
 

@@ -3,11 +3,11 @@ use Rattle.std.proofs.Common.{◌≡◌, ◌+◌, ◌&&◌, Bool, true, false, L
 use Rattle.std.proofs.lemmas.List.{append-nil, length-append}
 use Rattle.fm_base.specs.Calls.{Entry}
 use Rattle.fm_base.specs.Finds.{Find}
-use Rattle.fm_pool_facts.specs.Hands.{slots_in}
-use Rattle.fm_pool_facts.specs.Parts.{Mapping}
-use Rattle.fm_pool_facts.specs.Views.{View, Begins}
-use Rattle.fm_pool_facts.specs.Steps.{is_clear, is_empty}
-use Rattle.fm_calls.specs.Kept.{Goes}
+use Rattle.fm_rule_facts.specs.Hands.{slots_in}
+use Rattle.fm_rule_facts.specs.Parts.{Mapping}
+use Rattle.fm_rule_facts.specs.Views.{View, Begins}
+use Rattle.fm_rule_facts.specs.Steps.{is_clear, is_empty}
+use Rattle.fm_rule_calls.specs.Kept.{Goes}
 
 -- a pass that was clear is so without a page, whatever it has seen, found and read
 pub clear_still : (v : View) (seen : List Entry) (finds : List Find) (reads : List Mapping) → is_clear v ≡ true

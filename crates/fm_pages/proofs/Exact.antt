@@ -15,14 +15,14 @@ use Rattle.fm_base.proofs.Growing.{given_is}
 use Rattle.fm_base.proofs.Lookup.{lookup_changed}
 use Rattle.fm_base.proofs.Making.{IsLegal-split, state_after-append}
 use Rattle.fm_base.proofs.Placing.{there_by_way}
-use Rattle.fm_pool_facts.specs.Loans.{Loan, lent, loans_after, HasPart, IsRightlyLent}
-use Rattle.fm_pool_facts.specs.Scarcity.{IsScarce, has_part, lacking, parts_before, end_of}
-use Rattle.fm_pool_facts.specs.Steps.{is_clear, where_found}
-use Rattle.fm_pool_facts.specs.Views.{View, IsSound, given_of, limit_of, state_in, unlent}
-use Rattle.fm_pool_facts.proofs.Lending.{loans_after-append}
-use Rattle.fm_pool_facts.proofs.Scarcity.{LendsFirst, has_part_of, has_part_not, lends_even, none_lacking, some_lacking}
-use Rattle.fm_pool_facts.proofs.Unlending.{lent-first, lent-split}
-use Rattle.fm_calls.proofs.UnderWay.{stands_under_way}
+use Rattle.fm_rule_facts.specs.Loans.{Loan, lent, loans_after, HasPart, IsRightlyLent}
+use Rattle.fm_rule_facts.specs.Scarcity.{IsScarce, has_part, lacking, parts_before, end_of}
+use Rattle.fm_rule_facts.specs.Steps.{is_clear, where_found}
+use Rattle.fm_rule_facts.specs.Views.{View, IsSound, given_of, limit_of, state_in, unlent}
+use Rattle.fm_rule_facts.proofs.Lending.{loans_after-append}
+use Rattle.fm_rule_facts.proofs.Scarcity.{LendsFirst, has_part_of, has_part_not, lends_even, none_lacking, some_lacking}
+use Rattle.fm_rule_facts.proofs.Unlending.{lent-first, lent-split}
+use Rattle.fm_rule_calls.proofs.UnderWay.{stands_under_way}
 use Rattle.fm_pages.specs.Covers.{LendsIn, Lacks}
 use Rattle.fm_pages.specs.Gives.{allocates}
 use Rattle.fm_pages.specs.Maps.{Way}

@@ -9,14 +9,14 @@ use Rattle.fm_base.specs.Calls.{Entry}
 use Rattle.fm_base.specs.Histories.{IsLegal, state_after}
 use Rattle.fm_base.proofs.Making.{state_after-append, IsLegal-split}
 use Rattle.fm_base.proofs.Growing.{Grows-state_after}
-use Rattle.fm_pool_facts.specs.Parts.{Mapping, mapping_of, reads_after}
-use Rattle.fm_pool_facts.specs.Views.{View, In, IsSound, given_of, limit_of, state_in}
-use Rattle.fm_pool_facts.specs.Moves.{LearnsMap}
-use Rattle.fm_pool_facts.specs.Steps.{Stepped, CanReach, HasPlace, HasParts, none_noted}
-use Rattle.fm_pool_facts.specs.Loans.{HasPart, lent, loan_of}
+use Rattle.fm_rule_facts.specs.Parts.{Mapping, mapping_of, reads_after}
+use Rattle.fm_rule_facts.specs.Views.{View, In, IsSound, given_of, limit_of, state_in}
+use Rattle.fm_rule_facts.specs.Moves.{LearnsMap}
+use Rattle.fm_rule_facts.specs.Steps.{Stepped, CanReach, HasPlace, HasParts, none_noted}
+use Rattle.fm_rule_facts.specs.Loans.{HasPart, lent, loan_of}
 use Rattle.fm_base.proofs.Placing.{there_by_way}
-use Rattle.fm_calls.proofs.Lent.{part_on}
-use Rattle.fm_calls.proofs.UnderWay.{stands_under_way}
+use Rattle.fm_rule_calls.proofs.Lent.{part_on}
+use Rattle.fm_rule_calls.proofs.UnderWay.{stands_under_way}
 use Rattle.std.specs.Prelude.{Contains}
 use Rattle.fm_pages.specs.Places.{CanFind, Placed}
 

@@ -10,10 +10,10 @@ use Rattle.fm_base.specs.Calls.{Reply, Allocate, entry_of}
 use Rattle.fm_base.specs.Machine.{rounded_up, allocate_reply}
 use Rattle.fm_base.specs.Histories.{made_by}
 use Rattle.fm_base.specs.View.{inside_after}
-use Rattle.fm_pool_facts.specs.Parts.{Mapping}
-use Rattle.fm_pool_facts.specs.Views.{View, In, limit_of, given_of}
-use Rattle.fm_pool_facts.specs.Steps.{Stepped, none_noted, where_found, acted, room}
-use Rattle.fm_calls.proofs.Going.{goes_of, no_draws, made_by-one}
+use Rattle.fm_rule_facts.specs.Parts.{Mapping}
+use Rattle.fm_rule_facts.specs.Views.{View, In, limit_of, given_of}
+use Rattle.fm_rule_facts.specs.Steps.{Stepped, none_noted, where_found, acted, room}
+use Rattle.fm_rule_calls.proofs.Going.{goes_of, no_draws, made_by-one}
 use Rattle.fm_pages.specs.Maps.{Way}
 use Rattle.fm_pages.specs.Covers.{Covered, LendsIn}
 use Rattle.fm_pages.specs.Gives.{Tried, Unpaged, allocates}

@@ -8,15 +8,15 @@ use Rattle.fm_words.specs.declared.shape.Shape.{Shape}
 use Rattle.fm_words.specs.Places.{page_groups}
 use Rattle.fm_base.specs.Calls.{Entry}
 use Rattle.fm_base.specs.Finds.{Find, TakesPage}
-use Rattle.fm_pool_facts.specs.Loans.{lent}
-use Rattle.fm_pool_facts.specs.Views.{View, In, FewLeft, unlent_in}
-use Rattle.fm_pool_facts.specs.Steps.{is_clear}
-use Rattle.fm_pool_facts.proofs.Groups.{none_in_all}
-use Rattle.fm_pool_facts.proofs.Keeping.{in_right}
+use Rattle.fm_rule_facts.specs.Loans.{lent}
+use Rattle.fm_rule_facts.specs.Views.{View, In, FewLeft, unlent_in}
+use Rattle.fm_rule_facts.specs.Steps.{is_clear}
+use Rattle.fm_rule_facts.proofs.Groups.{none_in_all}
+use Rattle.fm_rule_facts.proofs.Keeping.{in_right}
 use Rattle.fm_rule.specs.declared.pool.Pool.{Pool}
 use Rattle.fm_rule.specs.Passes.{IsOf}
 use Rattle.fm_rule.proofs.Seeking.{takes_zero}
-use Rattle.fm_calls.specs.Kept.{Goes}
+use Rattle.fm_rule_calls.specs.Kept.{Goes}
 use Rattle.fm_pages.specs.Claims.{Went, FoundEmpty, AllFoundEmpty, NoneClaimed}
 use Rattle.fm_pages.proofs.Clear.{begins_all, still_seen, whole_clear}
 use Rattle.fm_pages.proofs.Bids.{Bidding, Takes, bids_begin, bids_clear, bids_go_on, bids_shape, took, went_on}

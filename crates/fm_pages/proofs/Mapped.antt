@@ -7,10 +7,10 @@ use Rattle.fm_base.specs.Calls.{Lend, Fine, entry_of}
 use Rattle.fm_base.specs.Histories.{made_by}
 use Rattle.fm_base.specs.View.{inside_after}
 use Rattle.fm_base.specs.Finds.{Maps, is_draw}
-use Rattle.fm_pool_facts.specs.Parts.{Mapping, mapping_of, reads_mapped, pages_mapped}
-use Rattle.fm_pool_facts.specs.Views.{View, In}
-use Rattle.fm_pool_facts.specs.Steps.{Stepped, note_of, where_found}
-use Rattle.fm_calls.proofs.Going.{NoDraws, goes_of, made_by-one}
+use Rattle.fm_rule_facts.specs.Parts.{Mapping, mapping_of, reads_mapped, pages_mapped}
+use Rattle.fm_rule_facts.specs.Views.{View, In}
+use Rattle.fm_rule_facts.specs.Steps.{Stepped, note_of, where_found}
+use Rattle.fm_rule_calls.proofs.Going.{NoDraws, goes_of, made_by-one}
 use Rattle.fm_pages.specs.Maps.{Way}
 use Rattle.fm_pages.specs.Maps.{PageMapped, PartTaken}
 

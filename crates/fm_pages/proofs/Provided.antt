@@ -5,11 +5,11 @@ use Rattle.fm_base.specs.declared.caller.Caller.{Caller}
 use Rattle.fm_base.specs.declared.arena_id.ArenaId.{ArenaId}
 use Rattle.fm_base.specs.Calls.{Entry, Lend, Fine, entry_of}
 use Rattle.fm_base.specs.Histories.{made_by}
-use Rattle.fm_pool_facts.specs.Loans.{HasPart, lent}
-use Rattle.fm_pool_facts.specs.Parts.{mapping_of, reads_after}
-use Rattle.fm_pool_facts.specs.Views.{View, unlent}
-use Rattle.fm_pool_facts.specs.Moves.{LearnsMap}
-use Rattle.fm_pool_facts.specs.Steps.{Stepped, none_noted}
+use Rattle.fm_rule_facts.specs.Loans.{HasPart, lent}
+use Rattle.fm_rule_facts.specs.Parts.{mapping_of, reads_after}
+use Rattle.fm_rule_facts.specs.Views.{View, unlent}
+use Rattle.fm_rule_facts.specs.Moves.{LearnsMap}
+use Rattle.fm_rule_facts.specs.Steps.{Stepped, none_noted}
 use Rattle.fm_pages.specs.Claims.{Went, PageClaimed, NoneClaimed}
 use Rattle.fm_pages.specs.Maps.{Way}
 use Rattle.fm_base.specs.declared.refusal.Refusal.{Refusal}

@@ -7,17 +7,17 @@ use Rattle.fm_base.specs.declared.caller.Caller.{Caller}
 use Rattle.fm_base.specs.declared.arena_id.ArenaId.{ArenaId}
 use Rattle.fm_base.specs.Calls.{Entry, Lend, Fine, entry_of}
 use Rattle.fm_base.specs.Histories.{made_by}
-use Rattle.fm_pool_facts.specs.Loans.{lent}
-use Rattle.fm_pool_facts.specs.Parts.{mapping_of}
-use Rattle.fm_pool_facts.specs.Views.{View, In, IsSound, limit_of, unlent}
-use Rattle.fm_calls.proofs.Going.{goes_none}
+use Rattle.fm_rule_facts.specs.Loans.{lent}
+use Rattle.fm_rule_facts.specs.Parts.{mapping_of}
+use Rattle.fm_rule_facts.specs.Views.{View, In, IsSound, limit_of, unlent}
+use Rattle.fm_rule_calls.proofs.Going.{goes_none}
 use Rattle.fm_pages.specs.Maps.{Way}
 use Rattle.fm_pages.specs.Provides.{Provided, LendsPart}
 use Rattle.fm_pages.specs.Covers.{Covering, Covered, LendsIn, page_bytes}
 use Rattle.fm_pages.proofs.Finding.{parts_cover}
 use Rattle.fm_pages.proofs.Looking.{all_earlier}
 use Rattle.fm_pages.proofs.Parts.{way_then, clear_way}
-use Rattle.fm_pool_steps.proofs.Reading.{eqb_true, eqb_false}
+use Rattle.fm_rule_steps.proofs.Reading.{eqb_true, eqb_false}
 
 pub covering_begins : {v : View} (a : ArenaId) (from to : ℕ) → IsSound v → v.pages ≡ [] → Covering v v a from to (from / page_bytes v)
 covering_begins {v = v} a from to sound none = record {

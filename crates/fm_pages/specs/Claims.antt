@@ -4,10 +4,10 @@ use Rattle.fm_base.specs.declared.refusal.Refusal.{Refusal}
 use Rattle.fm_base.specs.declared.refusal.Refusal.TheVariants as refusal
 use Rattle.fm_base.specs.Finds.{FoundNothing, is_page, group_of}
 use Rattle.fm_words.specs.Places.{page_groups}
-use Rattle.fm_pool_facts.specs.Loans.{lent}
-use Rattle.fm_pool_facts.specs.Steps.{is_clear}
-use Rattle.fm_pool_facts.specs.Views.{View, FewLeft, unlent}
-use Rattle.fm_calls.specs.Kept.{Goes}
+use Rattle.fm_rule_facts.specs.Loans.{lent}
+use Rattle.fm_rule_facts.specs.Steps.{is_clear}
+use Rattle.fm_rule_facts.specs.Views.{View, FewLeft, unlent}
+use Rattle.fm_rule_calls.specs.Kept.{Goes}
 use Rattle.fm_pages.specs.declared.page.Page.{Page}
 
 -- the pass went on without entries of its own, found words of page bits, and has these pages in its hand

@@ -2,9 +2,9 @@
 use Rattle.std.specs.Prelude.{◌≡◌, ◌<◌, ◌≤◌, ◌*◌, ◌/◌, ℕ, Bool, true, false, List, [], All}
 use Rattle.fm_base.specs.declared.arena_id.ArenaId.{ArenaId}
 use Rattle.fm_base.specs.Calls.{Entry, Lend, Fine, entry_of}
-use Rattle.fm_pool_facts.specs.Parts.{mapping_of}
-use Rattle.fm_pool_facts.specs.Views.{View, In}
-use Rattle.fm_pool_facts.specs.Steps.{HasParts}
+use Rattle.fm_rule_facts.specs.Parts.{mapping_of}
+use Rattle.fm_rule_facts.specs.Views.{View, In}
+use Rattle.fm_rule_facts.specs.Steps.{HasParts}
 use Rattle.fm_pages.specs.Maps.{Way}
 use Rattle.fm_pages.specs.Provides.{NoneFree}
 

@@ -3,9 +3,9 @@ use Rattle.std.specs.Prelude.{◌≡◌, true, ◌≢◌, ◌≤◌, ◌==◌, �
 use Rattle.fm_base.specs.declared.arena_id.ArenaId.{ArenaId}
 use Rattle.fm_base.specs.Calls.{Entry, Allocate, entry_of}
 use Rattle.fm_base.specs.Machine.{rounded_up, allocate_reply}
-use Rattle.fm_pool_facts.specs.Views.{View, given_of, limit_of}
-use Rattle.fm_pool_facts.specs.Scarcity.{IsScarce}
-use Rattle.fm_pool_facts.specs.Steps.{where_found, is_clear}
+use Rattle.fm_rule_facts.specs.Views.{View, given_of, limit_of}
+use Rattle.fm_rule_facts.specs.Scarcity.{IsScarce}
+use Rattle.fm_rule_facts.specs.Steps.{where_found, is_clear}
 use Rattle.fm_pages.specs.Maps.{Way}
 use Rattle.fm_pages.specs.Covers.{LendsIn, Lacks}
 

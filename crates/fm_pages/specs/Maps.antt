@@ -2,10 +2,10 @@
 use Rattle.std.specs.Prelude.{◌≡◌, ℕ, List, [], ◌∷◌, Contains, Option, Some, None}
 use Rattle.fm_base.specs.declared.arena_id.ArenaId.{ArenaId}
 use Rattle.fm_base.specs.Calls.{Entry, Lend, Fine, entry_of}
-use Rattle.fm_pool_facts.specs.Loans.{lent, loan_of}
-use Rattle.fm_pool_facts.specs.Parts.{Mapping, mapping_of}
-use Rattle.fm_pool_facts.specs.Views.{View, In}
-use Rattle.fm_calls.specs.Kept.{Goes}
+use Rattle.fm_rule_facts.specs.Loans.{lent, loan_of}
+use Rattle.fm_rule_facts.specs.Parts.{Mapping, mapping_of}
+use Rattle.fm_rule_facts.specs.Views.{View, In}
+use Rattle.fm_rule_calls.specs.Kept.{Goes}
 use Rattle.fm_pages.specs.declared.page.Page.{Page}
 
 -- the pass went on by entries of its own, read map words, and has these pages in its hand

@@ -4,10 +4,10 @@ use Rattle.fm_base.specs.declared.caller.Caller.{Caller}
 use Rattle.fm_base.specs.declared.arena_id.ArenaId.{ArenaId}
 use Rattle.fm_base.specs.Calls.{Entry, Lend, Fine, entry_of}
 use Rattle.fm_base.specs.Histories.{made_by}
-use Rattle.fm_pool_facts.specs.Loans.{HasPart, lent}
-use Rattle.fm_pool_facts.specs.Parts.{mapping_of}
-use Rattle.fm_pool_facts.specs.Steps.{is_clear}
-use Rattle.fm_pool_facts.specs.Views.{View, In, Begins, unlent}
+use Rattle.fm_rule_facts.specs.Loans.{HasPart, lent}
+use Rattle.fm_rule_facts.specs.Parts.{mapping_of}
+use Rattle.fm_rule_facts.specs.Steps.{is_clear}
+use Rattle.fm_rule_facts.specs.Views.{View, In, Begins, unlent}
 use Rattle.fm_pages.specs.Claims.{AllFoundEmpty}
 use Rattle.fm_pages.specs.Maps.{Way}
 

@@ -1,5 +1,5 @@
 ghost use Rattle.std.specs.Prelude.{◌≡◌, ◌<◌, ◌≤◌, [], Some};
-ghost use Rattle.fm_pool_facts.specs.Views.{limit_of};
+ghost use Rattle.fm_rule_facts.specs.Views.{limit_of};
 ghost use Rattle.fm_rule.specs.Passes.{IsOf};
 ghost use Rattle.fm_pages.specs.Covers.{Covered};
 

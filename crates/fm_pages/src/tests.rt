@@ -1,15 +1,15 @@
 ghost use Rattle.std.specs.Prelude.{◌≡◌, ◌<◌, ◌≤◌, [], None, Some};
 ghost use Rattle.fm_words.specs.Shapes.{IsValid};
-ghost use Rattle.fm_pool_facts.specs.Hands.{learnt, no_number, nothing};
+ghost use Rattle.fm_rule_facts.specs.Hands.{learnt, no_number, nothing};
 ghost use Rattle.fm_rule.specs.Passes.{IsOf};
 ghost use Rattle.fm_pages.specs.Claims.{PageClaimed, Went};
 
 use crate::{Page, claim, free_page, map, place_of, try_at};
 use fm_base::{ArenaId, Kind, Refusal};
-use fm_pool_facts::Slot;
 use fm_rule::{
     Pass, Pool, step_check, step_generation, step_mark, step_open, step_take_page, step_take_slot,
 };
+use fm_rule_facts::Slot;
 use fm_words::Shape;
 use std::alloc::AllocGlobal;
 use std::process::Abort;

@@ -8,8 +8,8 @@ use Rattle.fm_lanes.specs.declared.value_kind.ValueKind.{ValueKind}
 use Rattle.fm_layout.specs.Tree.{Label, Tree, Trees, Value, Sequence, Struct, Union, NoMore, More}
 use Rattle.fm_layout.specs.Size.{size_of, sum_before, member_offset}
 use Rattle.fm_layout.specs.Parts.{form_of, tree_at, member_of, IsValue}
-use Rattle.fm_lists.specs.Among.{IsAmong}
-use Rattle.fm_lists.proofs.Among.{among_left, among_right}
+use Rattle.fm_base_lists.specs.Among.{IsAmong}
+use Rattle.fm_base_lists.proofs.Among.{among_left, among_right}
 use Rattle.fm_path_text.specs.declared.step.PathStep.{PathStep}
 use Rattle.fm_path_text.specs.declared.step.PathStep.TheVariants.{Each}
 use Rattle.fm_path_meaning.specs.Places.{Step, Element, Member, Place, places, IsAt}

@@ -5,8 +5,8 @@ use Rattle.fm_layout.specs.Tree.{Label, Tree, Trees, Value, Padding, Sequence, S
 use Rattle.fm_layout.specs.Size.{size_of, member_offset}
 use Rattle.fm_layout.specs.Parts.{tree_at, member_of}
 use Rattle.fm_layout.specs.WellFormed.{IsWellFormed}
-use Rattle.fm_lists.specs.Among.{IsAmong}
-use Rattle.fm_lists.proofs.Among.{among_either}
+use Rattle.fm_base_lists.specs.Among.{IsAmong}
+use Rattle.fm_base_lists.proofs.Among.{among_either}
 use Rattle.fm_path_text.specs.declared.step.PathStep.{PathStep}
 use Rattle.fm_path_text.specs.declared.step.PathStep.TheVariants.{Each}
 use Rattle.fm_path_meaning.specs.Places.{Member}

@@ -4,7 +4,7 @@ use Rattle.fm_layout.specs.Tree.{Tree, alignment_of}
 use Rattle.fm_layout.specs.Size.{size_of}
 use Rattle.fm_layout.specs.Parts.{form_of, IsValue}
 use Rattle.fm_layout.specs.declared.form.Form.TheVariants as form
-use Rattle.fm_lists.specs.Among.{IsAmong}
+use Rattle.fm_base_lists.specs.Among.{IsAmong}
 use Rattle.fm_path_meaning.specs.declared.dim.Dim.{Dim}
 use Rattle.fm_path_meaning.specs.Places.{Place, places, Apart}
 use Rattle.fm_path_meaning.specs.Follow.{follow}

@@ -4,8 +4,8 @@ use Rattle.std.proofs.lemmas.Bool.{cases_lt}
 use Rattle.fm_layout.specs.Tree.{Tree, Trees, Value, Padding, Sequence, Struct, Union, NoMore, More}
 use Rattle.fm_layout.specs.Parts.{tree_at, member_of}
 use Rattle.fm_layout.specs.Size.{size_of, member_offset}
-use Rattle.fm_lists.specs.Among.{IsAmong}
-use Rattle.fm_lists.proofs.Among.{among_left, among_right, among_either, among_map, among_back}
+use Rattle.fm_base_lists.specs.Among.{IsAmong}
+use Rattle.fm_base_lists.proofs.Among.{among_left, among_right, among_either, among_map, among_back}
 use Rattle.fm_path_meaning.specs.Places.{Step, Element, Member, Place, here, within, in_elements, places, in_members, IsAt}
 
 -- a place in an element is among those of the elements

@@ -1,7 +1,7 @@
 -- At steps there stands one layout.
 use Rattle.std.proofs.Common.{◌≡◌, sym, subst, ℕ, List, [], ◌∷◌, arith, ◌∙◌}
 use Rattle.fm_layout.specs.Tree.{Tree}
-use Rattle.fm_lists.specs.Among.{IsAmong}
+use Rattle.fm_base_lists.specs.Among.{IsAmong}
 use Rattle.fm_path_meaning.specs.Places.{Step, Place, places, IsAt}
 use Rattle.fm_path_meaning.proofs.Inside.{part_once}
 use Rattle.fm_path_meaning.proofs.Listed.{at_steps, stands}

@@ -7,7 +7,7 @@ use Rattle.fm_layout.specs.Size.{size_of}
 use Rattle.fm_path_text.specs.declared.step.PathStep.{PathStep}
 use Rattle.fm_path_text.specs.declared.step.PathStep.TheVariants.{Each, EachFrom}
 use Rattle.fm_path_meaning.specs.declared.dim.Dim.{Dim}
-use Rattle.fm_lists.specs.Among.{IsAmong}
+use Rattle.fm_base_lists.specs.Among.{IsAmong}
 use Rattle.fm_path_meaning.specs.Places.{Step, places}
 use Rattle.fm_layout.specs.Parts.{IsValue}
 use Rattle.fm_path_meaning.specs.Walk.{stride_of, walk}

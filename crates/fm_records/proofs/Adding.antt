@@ -4,7 +4,7 @@ use Rattle.std.specs.Prelude.{ℤ, OnOk, OnErr, IfErr}
 use Rattle.std.specs.List.{flat_map, range_with_len}
 use Rattle.std.proofs.lemmas.List.{append-nil, length-map, length-append}
 use Rattle.std.proofs.lemmas.Grind.{flat_map-append}
-use Rattle.fm_lists.proofs.Mapped.{map-map, map-flat_map, flat_map-same}
+use Rattle.fm_base_lists.proofs.Mapped.{map-map, map-flat_map, flat_map-same}
 use Rattle.fm_base.specs.declared.refusal.Refusal.{Refusal}
 use Rattle.fm_base.specs.declared.refusal.Refusal.TheVariants.{Closed, Memory}
 use Rattle.fm_base.specs.View.{View}

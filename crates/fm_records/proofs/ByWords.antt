@@ -8,9 +8,9 @@ use Rattle.std.proofs.lemmas.List.{get_or-drop, get_or-take, length-append, map-
 use Rattle.std.proofs.lemmas.List.Elements.{All-append}
 use Rattle.std.proofs.lemmas.List.FromFn.{get_or-map-range_with_len, length-map-range_with_len}
 use Rattle.std.proofs.lemmas.Nat.{shl_whole}
-use Rattle.fm_bytes.specs.Bytes.{bytes_of, lane, number_of as number_of_bytes}
-use Rattle.fm_bytes.specs.Words.{byte_of}
-use Rattle.fm_bytes.proofs.Bytes.{AreBytes-bytes_of, bytes_of-lane, bytes_of-number_of, get_or-bytes_of, lane-lt, length-bytes_of, number_of-append, number_of-bytes_of, pow_bytes}
+use Rattle.fm_base_bytes.specs.Bytes.{bytes_of, lane, number_of as number_of_bytes}
+use Rattle.fm_base_bytes.specs.Words.{byte_of}
+use Rattle.fm_base_bytes.proofs.Bytes.{AreBytes-bytes_of, bytes_of-lane, bytes_of-number_of, get_or-bytes_of, lane-lt, length-bytes_of, number_of-append, number_of-bytes_of, pow_bytes}
 use Rattle.fm_lanes.specs.Coding.{decoded, lowest_first, value_of}
 use Rattle.fm_lanes.specs.Kind.{width_of}
 use Rattle.fm_lanes.specs.Value.{number_of_value}

@@ -16,14 +16,14 @@ use Rattle.fm_path.specs.Resolution.{Resolution}
 use Rattle.fm_path.specs.Wide.{wide_dims}
 use Rattle.fm_path.specs.declared.value_spec.ValueSpec.{ValueSpec}
 use Rattle.fm_path_meaning.specs.declared.dim.Dim.{Dim}
-use Rattle.fm_query.specs.declared.condition.Condition.{Condition}
-use Rattle.fm_lists.specs.Among.{IsAmong}
+use Rattle.fm_records_query.specs.declared.condition.Condition.{Condition}
+use Rattle.fm_base_lists.specs.Among.{IsAmong}
 use Rattle.fm_path_meaning.specs.Walk.{AreAdmitted, offset_at}
-use Rattle.fm_query.specs.Plan.{Plan, IsPlan}
-use Rattle.fm_query.specs.declared.fold.Fold.{Fold}
-use Rattle.fm_query.specs.declared.item.Asked.{Asked}
-use Rattle.fm_query.specs.declared.item.Asked.TheVariants as asked
-use Rattle.fm_query.specs.declared.item.Item.{Item}
+use Rattle.fm_records_query.specs.Plan.{Plan, IsPlan}
+use Rattle.fm_records_query.specs.declared.fold.Fold.{Fold}
+use Rattle.fm_records_query.specs.declared.item.Asked.{Asked}
+use Rattle.fm_records_query.specs.declared.item.Asked.TheVariants as asked
+use Rattle.fm_records_query.specs.declared.item.Item.{Item}
 use Rattle.fm_segment.specs.Region.{Region}
 use Rattle.fm_records.specs.declared.found.Found.{Found}
 use Rattle.fm_records.specs.Answers.{holds as holds_for}
@@ -39,8 +39,8 @@ use Rattle.fm_records.proofs.Behind.{among_places}
 use Rattle.fm_records.proofs.Ordered.{in_order_part}
 use Rattle.fm_records.proofs.Getting.{IsFoundAmong, among_words, word_found}
 use Rattle.fm_records.proofs.ReadingBytes.{Agree, agree, tests_of_bytes}
-use Rattle.fm_lists.proofs.Among.{among_either, among_left, among_map, among_right}
-use Rattle.fm_lists.proofs.Each.{all_split}
+use Rattle.fm_base_lists.proofs.Among.{among_either, among_left, among_map, among_right}
+use Rattle.fm_base_lists.proofs.Each.{all_split}
 
 -- ---- words
 

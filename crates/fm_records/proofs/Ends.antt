@@ -4,8 +4,8 @@ use Rattle.std.specs.Prelude.{ℤ, ◌≤ℤ◌, MatchOption, Bool, true, false,
 use Rattle.std.specs.Int.{int_min, int_max}
 use Rattle.std.specs.List.{AllByRecursion}
 use Rattle.std.proofs.lemmas.Int.{ints, clamps}
-use Rattle.fm_lists.specs.Among.{IsAmong}
-use Rattle.fm_lists.proofs.Each.{all_weaker}
+use Rattle.fm_base_lists.specs.Among.{IsAmong}
+use Rattle.fm_base_lists.proofs.Each.{all_weaker}
 use Rattle.fm_records.specs.Answers.{lesser, greater, least_of, greatest_of}
 
 -- which of three comes first makes no difference

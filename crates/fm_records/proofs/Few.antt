@@ -10,8 +10,8 @@ use Rattle.fm_base.specs.declared.caller.Caller.{Caller}
 use Rattle.fm_base.specs.declared.arena_id.ArenaId.{ArenaId}
 use Rattle.fm_base.specs.declared.refusal.Refusal.{Refusal}
 use Rattle.fm_base.specs.Calls.{Entry}
-use Rattle.fm_bytes.specs.Signed.{FitsBytes}
-use Rattle.fm_bytes.proofs.Signed.{FitsBytes-signed_of}
+use Rattle.fm_base_bytes.specs.Signed.{FitsBytes}
+use Rattle.fm_base_bytes.proofs.Signed.{FitsBytes-signed_of}
 use Rattle.fm_lanes.specs.Coding.{decoded}
 use Rattle.fm_lanes.specs.Value.{number_of_value}
 use Rattle.fm_lanes.specs.declared.value.Value.TheVariants.{Boolean}
@@ -21,12 +21,12 @@ use Rattle.fm_path.specs.Wide.{wide_dims}
 use Rattle.fm_path.specs.declared.value_spec.ValueSpec.{ValueSpec}
 use Rattle.fm_path_meaning.specs.declared.dim.Dim.{Dim}
 use Rattle.fm_path_meaning.specs.Walk.{offset_at}
-use Rattle.fm_query.specs.Plan.{Plan, IsPlan}
-use Rattle.fm_query.specs.declared.fold.Fold.{Fold}
-use Rattle.fm_query.specs.declared.fold.Fold.TheVariants as fold
-use Rattle.fm_query.specs.declared.item.Asked.{Asked}
-use Rattle.fm_query.specs.declared.item.Asked.TheVariants as asked
-use Rattle.fm_query.specs.declared.item.Item.{Item}
+use Rattle.fm_records_query.specs.Plan.{Plan, IsPlan}
+use Rattle.fm_records_query.specs.declared.fold.Fold.{Fold}
+use Rattle.fm_records_query.specs.declared.fold.Fold.TheVariants as fold
+use Rattle.fm_records_query.specs.declared.item.Asked.{Asked}
+use Rattle.fm_records_query.specs.declared.item.Asked.TheVariants as asked
+use Rattle.fm_records_query.specs.declared.item.Item.{Item}
 use Rattle.fm_records.specs.declared.found.Found.{Found}
 use Rattle.fm_records.specs.declared.found.Found.TheVariants.{Count, Sum, Least, Greatest, Listed}
 use Rattle.fm_records.specs.Answers.{sum_of, folded, found_in, item_found, found_over}

@@ -7,10 +7,10 @@ use Rattle.std.proofs.lemmas.List.{append-nil, map-append}
 use Rattle.fm_base.specs.declared.refusal.Refusal.{Refusal}
 use Rattle.fm_base.specs.declared.refusal.Refusal.TheVariants.{Closed}
 use Rattle.fm_base.specs.View.{View}
-use Rattle.fm_bytes.specs.Bytes.{lane}
+use Rattle.fm_base_bytes.specs.Bytes.{lane}
 use Rattle.fm_lanes.specs.Kind.{width_of}
 use Rattle.fm_lanes.proofs.Meaning.{width_of-bounds}
-use Rattle.fm_lists.specs.Among.{IsAmong}
+use Rattle.fm_base_lists.specs.Among.{IsAmong}
 use Rattle.fm_path.specs.declared.value_spec.ValueSpec.{ValueSpec}
 use Rattle.fm_segment.specs.Region.{Region}
 use Rattle.fm_records.specs.Reads.{Fetches, GetsNumber, ReadsNumber, Sees}

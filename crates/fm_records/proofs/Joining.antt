@@ -9,12 +9,12 @@ use Rattle.std.proofs.lemmas.Int.{ints}
 use Rattle.std.proofs.lemmas.List.{take-append-le, drop-append-le}
 use Rattle.std.proofs.lemmas.List.Elements.{filter-append}
 use Rattle.std.proofs.lemmas.Grind.{flat_map-append}
-use Rattle.fm_query.specs.Plan.{Plan}
-use Rattle.fm_query.specs.declared.fold.Fold.{Fold}
-use Rattle.fm_query.specs.declared.fold.Fold.TheVariants as fold
-use Rattle.fm_query.specs.declared.item.Asked.{Asked}
-use Rattle.fm_query.specs.declared.item.Asked.TheVariants as asked
-use Rattle.fm_query.specs.declared.item.Item.{Item}
+use Rattle.fm_records_query.specs.Plan.{Plan}
+use Rattle.fm_records_query.specs.declared.fold.Fold.{Fold}
+use Rattle.fm_records_query.specs.declared.fold.Fold.TheVariants as fold
+use Rattle.fm_records_query.specs.declared.item.Asked.{Asked}
+use Rattle.fm_records_query.specs.declared.item.Asked.TheVariants as asked
+use Rattle.fm_records_query.specs.declared.item.Item.{Item}
 use Rattle.fm_records.specs.declared.found.Found.TheVariants.{Count, Sum, Least, Greatest}
 use Rattle.fm_records.specs.Records.{pieces, records}
 use Rattle.fm_records.specs.Values.{numbers_in}

@@ -7,24 +7,24 @@ use Rattle.fm_base.specs.declared.refusal.Refusal.TheVariants.{Ragged, WrongThre
 use Rattle.fm_base.specs.Arenas.{State, Arena, arena_of, changed, word_in}
 use Rattle.fm_base.specs.Calls.{Enter, Read, Leave, Found as Found_word, Entry}
 use Rattle.fm_base.specs.Histories.{IsLegal, state_after}
-use Rattle.fm_bytes.specs.Words.{byte_of}
+use Rattle.fm_base_bytes.specs.Words.{byte_of}
 use Rattle.fm_base.specs.Machine.{entered}
 use Rattle.fm_base.specs.View.{View, Makes, Did, IsByItself, inside_after}
 use Rattle.fm_base.specs.Visits.{refused_visit}
 use Rattle.fm_base.proofs.Faith.{Makes-alone}
 use Rattle.fm_base.proofs.Lookup.{lookup_changed}
 use Rattle.fm_base.proofs.Making.{IsLegal-split, state_after-append}
-use Rattle.fm_access.proofs.Visits.{visit_stays, visit_refused}
+use Rattle.fm_segment_access.proofs.Visits.{visit_stays, visit_refused}
 use Rattle.fm_segment.specs.Access.{IsKnown}
 use Rattle.fm_segment.specs.Region.{Region}
-use Rattle.fm_query.specs.Plan.{Plan, IsPlan}
+use Rattle.fm_records_query.specs.Plan.{Plan, IsPlan}
 use Rattle.fm_records.specs.declared.found.Found.{Found}
 use Rattle.fm_records.specs.Alone.{bytes_at_places, FindsAnswer, FindsNone}
 use Rattle.fm_records.specs.Bytes.{FindAs}
 use Rattle.fm_records.specs.Query.{DoesQuery, QueryCause}
 use Rattle.fm_records.specs.Reads.{AreReads, read_visit}
 use Rattle.fm_records.proofs.AnsweringBytes.{answer_of_bytes, length-places, word_at_places}
-use Rattle.fm_lists.proofs.Each.{all_both}
+use Rattle.fm_base_lists.proofs.Each.{all_both}
 use Rattle.std.specs.Prelude.{IfErr}
 use Rattle.fm_base.proofs.Outcomes.{Did-lasts}
 use Rattle.fm_segment.proofs.Access.{known_still}

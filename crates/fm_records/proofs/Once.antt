@@ -6,18 +6,18 @@ use Rattle.std.proofs.lemmas.Bool.{cases_lt}
 use Rattle.std.proofs.lemmas.List.{append-nil, length-append, length-map, map-append, take_all}
 use Rattle.fm_base.specs.declared.refusal.Refusal.{Refusal}
 use Rattle.fm_base.specs.declared.refusal.Refusal.TheVariants.{Closed, Memory}
-use Rattle.fm_lists.specs.Among.{AreApart, IsAmong}
-use Rattle.fm_lists.proofs.Among.{among_either, among_left}
+use Rattle.fm_base_lists.specs.Among.{AreApart, IsAmong}
+use Rattle.fm_base_lists.proofs.Among.{among_either, among_left}
 use Rattle.fm_lanes.specs.Kind.{width_of}
 use Rattle.fm_path.specs.Wide.{wide_dims}
 use Rattle.fm_path.specs.declared.value_spec.ValueSpec.{ValueSpec}
 use Rattle.fm_path_meaning.specs.Walk.{offset_at}
 use Rattle.fm_path_meaning.specs.declared.dim.Dim.{Dim}
-use Rattle.fm_query.specs.Plan.{IsPlan, Plan}
-use Rattle.fm_query.specs.declared.condition.Condition.{Condition}
-use Rattle.fm_query.specs.declared.item.Asked.{Asked}
-use Rattle.fm_query.specs.declared.item.Asked.TheVariants as asked
-use Rattle.fm_query.specs.declared.item.Item.{Item}
+use Rattle.fm_records_query.specs.Plan.{IsPlan, Plan}
+use Rattle.fm_records_query.specs.declared.condition.Condition.{Condition}
+use Rattle.fm_records_query.specs.declared.item.Asked.{Asked}
+use Rattle.fm_records_query.specs.declared.item.Asked.TheVariants as asked
+use Rattle.fm_records_query.specs.declared.item.Item.{Item}
 use Rattle.fm_records.specs.declared.found.Found.{Found}
 use Rattle.fm_records.specs.Laws.{IsFixed, ReadsWordsOnce}
 use Rattle.fm_records.specs.Reads.{FindsAsked, FindsClosed, FindsRecord, InTurn, ReadsNumber, TakesNumber, TakesPath, Tests, TestsConditions, chosen, next_turn, no_turn, passed_over, short_turn, untested, value_places}

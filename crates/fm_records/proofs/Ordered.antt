@@ -6,7 +6,7 @@ use Rattle.fm_base.specs.declared.caller.Caller.{Caller}
 use Rattle.fm_base.specs.declared.refusal.Refusal.{Refusal}
 use Rattle.fm_base.specs.Calls.{Entry}
 use Rattle.fm_base.specs.View.{View}
-use Rattle.fm_lists.specs.Among.{IsAmong}
+use Rattle.fm_base_lists.specs.Among.{IsAmong}
 use Rattle.fm_segment.specs.Region.{Region}
 use Rattle.fm_records.specs.Adds.{Adds, all_added}
 use Rattle.fm_records.specs.Reads.{InOrder, all_done, one_more, comes_short, Reads}

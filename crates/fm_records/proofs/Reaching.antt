@@ -18,7 +18,7 @@ use Rattle.fm_records.specs.Adds.{ReachesInside}
 use Rattle.fm_records.specs.Paths.{AddsAll, CanAddAll, HasIndices}
 use Rattle.fm_records.specs.Reads.{LiesIn, value_places}
 use Rattle.fm_records.specs.Values.{index_lists}
-use Rattle.fm_lists.proofs.Mapped.{flat_map-same}
+use Rattle.fm_base_lists.proofs.Mapped.{flat_map-same}
 use Rattle.fm_records.proofs.Adding.{AreAdded, added_more, added_room, added_stops, places_by_first}
 use Rattle.fm_records.specs.Words.{Seen, kept_last}
 use Rattle.fm_records.proofs.Seeing.{sees_still}

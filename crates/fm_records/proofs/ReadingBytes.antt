@@ -10,23 +10,23 @@ use Rattle.std.proofs.lemmas.List.Elements.{filter-append}
 use Rattle.fm_base.specs.declared.caller.Caller.{Caller}
 use Rattle.fm_base.specs.declared.refusal.Refusal.{Refusal}
 use Rattle.fm_base.specs.Calls.{Entry}
-use Rattle.fm_lists.proofs.Among.{each_mapped, map_among}
-use Rattle.fm_lists.proofs.Each.{all_both, all_snoc, all_split}
-use Rattle.fm_bytes.specs.Words.{byte_of}
+use Rattle.fm_base_lists.proofs.Among.{each_mapped, map_among}
+use Rattle.fm_base_lists.proofs.Each.{all_both, all_snoc, all_split}
+use Rattle.fm_base_bytes.specs.Words.{byte_of}
 use Rattle.fm_lanes.specs.Coding.{value_of}
 use Rattle.fm_lanes.specs.Kind.{width_of}
 use Rattle.fm_lanes.specs.Value.{number_of_value}
 use Rattle.fm_path.specs.Resolution.{Resolution}
 use Rattle.fm_path.specs.Wide.{wide_dims}
 use Rattle.fm_path.specs.declared.value_spec.ValueSpec.{ValueSpec}
-use Rattle.fm_lists.specs.Among.{IsAmong}
+use Rattle.fm_base_lists.specs.Among.{IsAmong}
 use Rattle.fm_path_meaning.specs.Walk.{AreAdmitted, offset_at}
 use Rattle.fm_path_meaning.specs.declared.dim.Dim.{Dim}
-use Rattle.fm_query.specs.Plan.{Plan, IsPlan, IsThrough, AsksOf, IsItemIn, IsConditionIn}
-use Rattle.fm_query.specs.declared.condition.Condition.{Condition}
-use Rattle.fm_query.specs.declared.item.Asked.{Asked}
-use Rattle.fm_query.specs.declared.item.Asked.TheVariants as asked
-use Rattle.fm_query.specs.declared.item.Item.{Item}
+use Rattle.fm_records_query.specs.Plan.{Plan, IsPlan, IsThrough, AsksOf, IsItemIn, IsConditionIn}
+use Rattle.fm_records_query.specs.declared.condition.Condition.{Condition}
+use Rattle.fm_records_query.specs.declared.item.Asked.{Asked}
+use Rattle.fm_records_query.specs.declared.item.Asked.TheVariants as asked
+use Rattle.fm_records_query.specs.declared.item.Item.{Item}
 use Rattle.fm_segment.proofs.Alone.{take-part}
 use Rattle.fm_segment.specs.Region.{Region}
 use Rattle.fm_records.specs.declared.found.Found.{Found}

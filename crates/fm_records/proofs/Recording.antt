@@ -9,9 +9,9 @@ use Rattle.fm_base.specs.Arenas.{MayUse}
 use Rattle.fm_base.specs.View.{View, Did}
 use Rattle.fm_base.proofs.Making.{Makes-none}
 use Rattle.fm_segment.specs.Region.{EndsByLimit, Region}
-use Rattle.fm_query.specs.Plan.{Plan, IsPlan}
-use Rattle.fm_query.specs.declared.condition.Condition.{Condition}
-use Rattle.fm_query.specs.declared.item.Item.{Item}
+use Rattle.fm_records_query.specs.Plan.{Plan, IsPlan}
+use Rattle.fm_records_query.specs.declared.condition.Condition.{Condition}
+use Rattle.fm_records_query.specs.declared.item.Item.{Item}
 use Rattle.fm_records.specs.declared.found.Found.{Found}
 use Rattle.fm_records.specs.Answers.{answer, found_over}
 use Rattle.fm_records.specs.Few.{AreFew, HaveRoom}

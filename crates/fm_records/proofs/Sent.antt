@@ -4,7 +4,7 @@ use Rattle.std.specs.Prelude.{ℤ, min}
 use Rattle.std.specs.List.{flat_map}
 use Rattle.std.proofs.lemmas.Bool.{cases_lt}
 use Rattle.std.proofs.lemmas.List.{drop_more, drop_all}
-use Rattle.fm_query.specs.declared.item.Item.{Item}
+use Rattle.fm_records_query.specs.declared.item.Item.{Item}
 use Rattle.fm_records.specs.declared.found.Found.{Found}
 use Rattle.fm_records.specs.Texts.{line_text, lines_text, number_text}
 

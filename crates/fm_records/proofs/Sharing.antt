@@ -1,8 +1,8 @@
 -- Shares of a segment, each answered by the Reads of one caller.
 use Rattle.std.proofs.Common.{◌≡◌, ℕ, ◌+◌, ◌-◌, ◌*◌, ◌/◌, ◌%◌, ◌<◌, ◌≤◌, Bool, Some, List, [], ◌∷◌, ◌++◌, length, get_or, map, refl, sym, ap, ◌∙◌, subst, inl, inr, arith}
 use Rattle.std.specs.Prelude.{filter}
-use Rattle.fm_lists.proofs.Among.{among_kept}
-use Rattle.fm_lists.proofs.Each.{all_among, all_of_among}
+use Rattle.fm_base_lists.proofs.Among.{among_kept}
+use Rattle.fm_base_lists.proofs.Each.{all_among, all_of_among}
 use Rattle.std.specs.List.{AllByRecursion, range_with_len, slice_get}
 use Rattle.std.proofs.Math.Nat.{zero-div}
 use Rattle.std.proofs.lemmas.List.{map-append}
@@ -10,9 +10,9 @@ use Rattle.std.proofs.lemmas.Nat.{div-add-mod'}
 use Rattle.fm_base.specs.Arenas.{State, arena_of}
 use Rattle.fm_base.specs.Calls.{Read, Entry}
 use Rattle.fm_base.specs.Histories.{made_by}
-use Rattle.fm_bytes.specs.Words.{byte_at, byte_of}
+use Rattle.fm_base_bytes.specs.Words.{byte_at, byte_of}
 use Rattle.fm_path.specs.Resolution.{Resolution}
-use Rattle.fm_query.specs.Plan.{Plan, IsPlan}
+use Rattle.fm_records_query.specs.Plan.{Plan, IsPlan}
 use Rattle.fm_segment.specs.Region.{Region, part_of}
 use Rattle.fm_base.specs.Untouched.{FindsByte}
 use Rattle.fm_base.proofs.Untouched.{spared_found as byte_found}

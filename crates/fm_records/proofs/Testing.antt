@@ -9,7 +9,7 @@ use Rattle.fm_path.specs.declared.value_spec.ValueSpec.{ValueSpec}
 use Rattle.fm_path_meaning.specs.Walk.{AreAdmitted, offset_at}
 use Rattle.fm_path_meaning.specs.declared.dim.Dim.{Dim}
 use Rattle.fm_segment.specs.Region.{Region}
-use Rattle.fm_query.specs.declared.condition.Condition.{Condition}
+use Rattle.fm_records_query.specs.declared.condition.Condition.{Condition}
 use Rattle.fm_records.specs.Answers.{compares}
 use Rattle.fm_records.specs.Adds.{IsTestable}
 use Rattle.fm_records.specs.Reads.{no_turn, short_turn, GetsNumber, LiesIn, Sees, Tests, TestsConditions}

@@ -4,10 +4,10 @@ use Rattle.std.specs.List.{range_with_len}
 use Rattle.fm_base.specs.declared.refusal.Refusal.{Refusal}
 use Rattle.fm_base.specs.declared.refusal.Refusal.TheVariants.{Closed}
 use Rattle.fm_base.specs.Arenas.{Alive, State, arena_of}
-use Rattle.fm_bytes.specs.Words.{byte_at}
+use Rattle.fm_base_bytes.specs.Words.{byte_at}
 use Rattle.fm_base.specs.View.{View}
 use Rattle.fm_segment.specs.Region.{Region}
-use Rattle.fm_query.specs.Plan.{Plan}
+use Rattle.fm_records_query.specs.Plan.{Plan}
 use Rattle.fm_records.specs.declared.found.Found.{Found}
 use Rattle.fm_records.specs.Answers.{answer}
 

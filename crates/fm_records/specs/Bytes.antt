@@ -4,9 +4,9 @@ use Rattle.std.specs.List.{AllByRecursion}
 use Rattle.fm_base.specs.declared.caller.Caller.{Caller}
 use Rattle.fm_base.specs.declared.arena_id.ArenaId.{ArenaId}
 use Rattle.fm_base.specs.Calls.{Read, Found as Found_word, Entry, entry_of}
-use Rattle.fm_bytes.specs.Words.{byte_of}
-use Rattle.fm_lists.specs.Among.{IsAmong}
-use Rattle.fm_query.specs.Plan.{Plan, IsPlan}
+use Rattle.fm_base_bytes.specs.Words.{byte_of}
+use Rattle.fm_base_lists.specs.Among.{IsAmong}
+use Rattle.fm_records_query.specs.Plan.{Plan, IsPlan}
 use Rattle.fm_segment.specs.Region.{Region}
 use Rattle.fm_records.specs.declared.found.Found.{Found}
 use Rattle.fm_records.specs.Query.{DoesQuery}

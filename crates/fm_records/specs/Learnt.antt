@@ -3,7 +3,7 @@ use Rattle.std.specs.Prelude.{◌≡◌, ◌%◌, List, None, Result, IfOk, IfEr
 use Rattle.fm_base.specs.declared.refusal.Refusal.{Refusal}
 use Rattle.fm_base.specs.Outcomes.{Lasts}
 use Rattle.fm_base.specs.View.{View, Did, IsByItself}
-use Rattle.fm_query.specs.Plan.{Plan}
+use Rattle.fm_records_query.specs.Plan.{Plan}
 use Rattle.fm_segment.specs.Access.{IsKnown}
 use Rattle.fm_segment.specs.Region.{Region}
 use Rattle.fm_records.specs.declared.found.Found.{Found}

@@ -6,7 +6,7 @@ use Rattle.fm_base.specs.declared.refusal.Refusal.TheVariants.{Ragged, WrongThre
 use Rattle.fm_base.specs.Arenas.{MayUse}
 use Rattle.fm_base.specs.Calls.{Entry}
 use Rattle.fm_segment.specs.Region.{Region}
-use Rattle.fm_query.specs.Plan.{Plan}
+use Rattle.fm_records_query.specs.Plan.{Plan}
 use Rattle.fm_records.specs.declared.found.Found.{Found}
 use Rattle.fm_records.specs.Answers.{found_over}
 use Rattle.fm_records.specs.Adds.{AddsRecords}

@@ -5,9 +5,9 @@ use Rattle.fm_base.specs.declared.caller.Caller.{Caller}
 use Rattle.fm_base.specs.Arenas.{State}
 use Rattle.fm_base.specs.Calls.{Entry}
 use Rattle.fm_base.specs.Histories.{IsLegal, made_by}
-use Rattle.fm_lists.specs.Among.{IsAmong}
+use Rattle.fm_base_lists.specs.Among.{IsAmong}
 use Rattle.fm_path.specs.Resolution.{Resolution}
-use Rattle.fm_query.specs.Plan.{Plan, IsPlan}
+use Rattle.fm_records_query.specs.Plan.{Plan, IsPlan}
 use Rattle.fm_segment.specs.Region.{Region, part_of}
 use Rattle.fm_base.specs.Untouched.{AllSpare}
 use Rattle.fm_records.specs.declared.found.Found.{Found}

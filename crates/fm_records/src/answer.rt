@@ -6,7 +6,7 @@ ghost use Rattle.fm_records.specs.Kept.{Becomes};
 
 use crate::found::Found;
 use fm_base::Refusal;
-use fm_query::Query;
+use fm_records_query::Query;
 use std::alloc::Global;
 use std::marker::Model;
 

@@ -9,7 +9,7 @@ ghost use Rattle.fm_records.specs.Kept.{Becomes};
 
 use crate::numbers::Numbers;
 use fm_base::Refusal;
-use fm_query::{Asked, Fold};
+use fm_records_query::{Asked, Fold};
 use std::alloc::Global;
 
 /// What an item of a query finds in the chosen records.

@@ -14,7 +14,7 @@ mod words;
 mod writing;
 
 pub use answer::{Answer, of_no_records};
-pub use fm_query::{Query, check_record, parse_query};
+pub use fm_records_query::{Query, check_record, parse_query};
 pub use found::Found;
 pub use laws::{
     answers_are_few, answers_are_of_the_query, answers_join, answers_over_bytes, few_can_join,

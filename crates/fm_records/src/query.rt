@@ -8,10 +8,10 @@ use crate::answer::{Answer, of_no_records};
 use crate::found::Found;
 use crate::record::add_record;
 use crate::words::Kept;
-use fm_access::may_use;
 use fm_base::{Memory, Refusal};
-use fm_query::Query;
+use fm_records_query::Query;
 use fm_segment::Segment;
+use fm_segment_access::may_use;
 use std::alloc::Global;
 
 /// What a query answers over the records of a segment: for each record its conditions are tested in order, and where

@@ -13,7 +13,7 @@ use crate::values::{add_all, add_one_row, add_value, number_at};
 use crate::words::{Kept, Last};
 use fm_base::{Memory, Refusal};
 use fm_path::{Dim, ValueSpec};
-use fm_query::{Asked, Condition, Item, Operator};
+use fm_records_query::{Asked, Condition, Item, Operator};
 use fm_segment::Segment;
 
 /// Whether all conditions hold for the record at a place. Those behind the first that fails aren't tested. None where the

@@ -7,7 +7,7 @@ use crate::found::Found;
 use crate::querying::{add_items, chooses};
 use crate::words::Kept;
 use fm_base::{Memory, Refusal};
-use fm_query::Query;
+use fm_records_query::Query;
 use fm_segment::Segment;
 
 /// Adds what the items find in the record at a place, where all conditions hold for it.

@@ -1,5 +1,5 @@
 ghost use Rattle.std.specs.Prelude.{◌≡◌, ◌++◌, ◌∷◌, [], ◌<◌, length, slice_index_or, take, pos, true, false, ◌↔◌, IfOk, OnErr};
-ghost use Rattle.fm_bytes.specs.Signed.{FitsBytes};
+ghost use Rattle.fm_base_bytes.specs.Signed.{FitsBytes};
 ghost use Rattle.fm_records.specs.Stored.{number_width, numbers_of, width_in};
 
 use fm_lanes::ValueKind;

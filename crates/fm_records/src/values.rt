@@ -1,5 +1,5 @@
 ghost use Rattle.std.specs.Prelude.{◌≡◌, List, ◌∷◌, [], ◌+◌, ◌%◌, ◌<◌, ◌≤◌};
-ghost use Rattle.fm_bytes.specs.Bytes.{lane};
+ghost use Rattle.fm_base_bytes.specs.Bytes.{lane};
 ghost use Rattle.fm_lanes.specs.Kind.{width_of};
 ghost use Rattle.fm_path_meaning.specs.Steady.{IsInside};
 ghost use Rattle.fm_path_meaning.specs.Walk.{reach};

@@ -9,7 +9,7 @@ use crate::answer::Answer;
 use crate::found::Found;
 use crate::numbers::Numbers;
 use fm_io::{Fault, Sink, send_piece, send_rest};
-use fm_query::{Item, Query};
+use fm_records_query::{Item, Query};
 use itoa::Buffer;
 use std::alloc::{AllocError, Global};
 

@@ -9,19 +9,19 @@ use Rattle.fm_base.specs.declared.arena_id.ArenaId.{ArenaId}
 use Rattle.fm_base.specs.Calls.{Entry}
 use Rattle.fm_base.specs.Histories.{made_by}
 use Rattle.fm_base.specs.Finds.{Find, Gathered, Close, Sweep}
-use Rattle.fm_pool_facts.specs.declared.step.Step.{Step}
-use Rattle.fm_pool_facts.specs.declared.step.Step.TheVariants.{Draws, Marks, Checks, Loads, Stores, SwapsIf, Adds, Allocates, Holds, Unholds, Backs, Unmarks, Shuts, Visits, TakesSlot, LearnsGeneration, Opens, Claims, Maps, ReadsMap, SweepsGiven, SweepsMap, Unmaps, Wipes, GivesPage, ReturnsPage, ResetsGiven, Retires, GivesSlot, Looks, TakesNumber, LearnsTerm, RaisesTerm, GivesNumber}
-use Rattle.fm_pool_facts.specs.Views.{Met, View, In, IsSound, all_gathered, brought}
-use Rattle.fm_pool_facts.specs.Words.{alive_holds, inside_found, shut_found, hold_found}
-use Rattle.fm_pool_facts.specs.Hands.{Hand, nothing, learnt, takes, hand_taken, hand_retired, Number, no_number, number_learnt, number_left, number_taken_by, number_after, drawn_by}
-use Rattle.fm_pool_facts.specs.Holds.{grips, with_grips, holds_after, handles_with, released}
-use Rattle.fm_pool_facts.specs.Handles.{giving, given_back}
-use Rattle.fm_pool_facts.specs.Closes.{begun, advanced, dropped, visit_found, closes_after, sweeps_after}
-use Rattle.fm_pool_facts.specs.Steps.{Stepped, part, draws, number_at}
-use Rattle.fm_pool_facts.specs.Facts.{Rule}
-use Rattle.fm_pool_facts.specs.Parts.{Mapping, Swept, unread, wiping, reads_after, reads_mapped, pages_mapped, pages_taken, swept_read}
+use Rattle.fm_rule_facts.specs.declared.step.Step.{Step}
+use Rattle.fm_rule_facts.specs.declared.step.Step.TheVariants.{Draws, Marks, Checks, Loads, Stores, SwapsIf, Adds, Allocates, Holds, Unholds, Backs, Unmarks, Shuts, Visits, TakesSlot, LearnsGeneration, Opens, Claims, Maps, ReadsMap, SweepsGiven, SweepsMap, Unmaps, Wipes, GivesPage, ReturnsPage, ResetsGiven, Retires, GivesSlot, Looks, TakesNumber, LearnsTerm, RaisesTerm, GivesNumber}
+use Rattle.fm_rule_facts.specs.Views.{Met, View, In, IsSound, all_gathered, brought}
+use Rattle.fm_rule_facts.specs.Words.{alive_holds, inside_found, shut_found, hold_found}
+use Rattle.fm_rule_facts.specs.Hands.{Hand, nothing, learnt, takes, hand_taken, hand_retired, Number, no_number, number_learnt, number_left, number_taken_by, number_after, drawn_by}
+use Rattle.fm_rule_facts.specs.Holds.{grips, with_grips, holds_after, handles_with, released}
+use Rattle.fm_rule_facts.specs.Handles.{giving, given_back}
+use Rattle.fm_rule_facts.specs.Closes.{begun, advanced, dropped, visit_found, closes_after, sweeps_after}
+use Rattle.fm_rule_facts.specs.Steps.{Stepped, part, draws, number_at}
+use Rattle.fm_rule_facts.specs.Facts.{Rule}
+use Rattle.fm_rule_facts.specs.Parts.{Mapping, Swept, unread, wiping, reads_after, reads_mapped, pages_mapped, pages_taken, swept_read}
 use Rattle.fm_rule.specs.declared.pass.Part.{Part}
-use Rattle.fm_pool_facts.specs.Moves.{Gives, Tells, MayStep, MayStore}
+use Rattle.fm_rule_facts.specs.Moves.{Gives, Tells, MayStep, MayStore}
 use Rattle.fm_words.specs.Places.{at, page_word}
 use Rattle.fm_rule.specs.Views.{homed, IsPart, Keeps}
 

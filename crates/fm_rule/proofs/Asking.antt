@@ -6,13 +6,13 @@ use Rattle.fm_base.specs.declared.caller.Caller.{Caller}
 use Rattle.fm_base.specs.Calls.{Entry}
 use Rattle.fm_base.specs.Histories.{made_by}
 use Rattle.fm_base.specs.Finds.{Find, Gathered, Draws as Drawing, is_draw, is_number}
-use Rattle.fm_pool_facts.specs.Views.{View, In, HasFind}
-use Rattle.fm_pool_facts.specs.Steps.{Stepped, draws, note_draw, is_clear}
-use Rattle.fm_pool_facts.specs.Hands.{Number, no_number, drawn_by, number_after}
-use Rattle.fm_pool_facts.specs.Moves.{LearnsCount}
-use Rattle.fm_pool_facts.proofs.Founds.{draw_found, draw_is}
-use Rattle.fm_pool_facts.proofs.Keeping.{in_append, in_left}
-use Rattle.fm_pool_steps.proofs.Reading.{eqb_true, eqb_false}
+use Rattle.fm_rule_facts.specs.Views.{View, In, HasFind}
+use Rattle.fm_rule_facts.specs.Steps.{Stepped, draws, note_draw, is_clear}
+use Rattle.fm_rule_facts.specs.Hands.{Number, no_number, drawn_by, number_after}
+use Rattle.fm_rule_facts.specs.Moves.{LearnsCount}
+use Rattle.fm_rule_facts.proofs.Founds.{draw_found, draw_is}
+use Rattle.fm_rule_facts.proofs.Keeping.{in_append, in_left}
+use Rattle.fm_rule_steps.proofs.Reading.{eqb_true, eqb_false}
 use Rattle.fm_rule.specs.Passes.{IsOf}
 use Rattle.fm_rule.specs.Draws.{Asked, Asks, Looked}
 use Rattle.fm_rule.specs.declared.pool.Pool.{Pool}

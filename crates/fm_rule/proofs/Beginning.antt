@@ -9,12 +9,12 @@ use Rattle.fm_words.specs.declared.shape.Shape.{Shape}
 use Rattle.fm_words.specs.Shapes.{IsValid}
 use Rattle.fm_words.specs.Places.{at, number_bits, groups, page_bits, page_groups, words}
 use Rattle.fm_words.specs.Bits.{ones, number_at, bit_of, IsWithout}
-use Rattle.fm_depicts.specs.Functions.{put}
-use Rattle.fm_depicts.proofs.Putting.{put_here, put_else}
-use Rattle.fm_pool_facts.specs.Views.{IsSound}
-use Rattle.fm_pool_facts.specs.Splits.{first_view}
-use Rattle.fm_pool_facts.specs.Facts.{Rule}
-use Rattle.fm_pool_steps.proofs.First.{AreFree, AreLoose, slots_set, shows_blank, shows_pages, shows_group, first_rule, first_sound}
+use Rattle.fm_base_machine.specs.Functions.{put}
+use Rattle.fm_base_machine.proofs.Putting.{put_here, put_else}
+use Rattle.fm_rule_facts.specs.Views.{IsSound}
+use Rattle.fm_rule_facts.specs.Splits.{first_view}
+use Rattle.fm_rule_facts.specs.Facts.{Rule}
+use Rattle.fm_rule_steps.proofs.First.{AreFree, AreLoose, slots_set, shows_blank, shows_pages, shows_group, first_rule, first_sound}
 use Rattle.fm_rule.specs.Beginning.{IsFull, AreFirst, IsBegun}
 use Rattle.fm_rule.proofs.Knowing.{numbers_below, page_bits_below}
 

@@ -5,13 +5,13 @@ use Rattle.fm_words.specs.declared.shape.Shape.{Shape}
 use Rattle.fm_words.specs.Places.{groups}
 use Rattle.fm_base.specs.declared.caller.Caller.{Caller}
 use Rattle.fm_base.specs.Finds.{Find, Draws as Drawing, is_draw}
-use Rattle.fm_pool_facts.specs.Views.{View, In, IsSound}
-use Rattle.fm_pool_facts.specs.Steps.{Stepped, draws, note_draw, none_noted, is_clear}
-use Rattle.fm_pool_facts.specs.Hands.{Number, no_number, number_taken, number_learnt, number_left, number_drawn, most_draws, drawn_by, number_after}
-use Rattle.fm_pool_facts.specs.Moves.{LearnsCount}
-use Rattle.fm_pool_facts.specs.Splits.{view_of, drawn_left}
-use Rattle.fm_pool_facts.proofs.Founds.{draw_found, draw_drew, draw_is}
-use Rattle.fm_pool_facts.proofs.Keeping.{in_append, in_left, in_right}
+use Rattle.fm_rule_facts.specs.Views.{View, In, IsSound}
+use Rattle.fm_rule_facts.specs.Steps.{Stepped, draws, note_draw, none_noted, is_clear}
+use Rattle.fm_rule_facts.specs.Hands.{Number, no_number, number_taken, number_learnt, number_left, number_drawn, most_draws, drawn_by, number_after}
+use Rattle.fm_rule_facts.specs.Moves.{LearnsCount}
+use Rattle.fm_rule_facts.specs.Splits.{view_of, drawn_left}
+use Rattle.fm_rule_facts.proofs.Founds.{draw_found, draw_drew, draw_is}
+use Rattle.fm_rule_facts.proofs.Keeping.{in_append, in_left, in_right}
 use Rattle.fm_rule.specs.Passes.{IsOf}
 use Rattle.fm_rule.specs.Draws.{Asks, Seeks, Follow, LearnsAnew, FoundZero, Takes, Counts, Drawn, NoneDrawn}
 use Rattle.fm_rule.specs.declared.pool.Pool.{Pool}

@@ -8,20 +8,20 @@ use Rattle.fm_base.specs.Arenas.{IsUnderWay}
 use Rattle.fm_base.specs.Calls.{Entry}
 use Rattle.fm_base.specs.Histories.{made_by}
 use Rattle.fm_base.specs.Finds.{Gathered}
-use Rattle.fm_depicts.specs.Handles.{AreLeft}
-use Rattle.fm_pool_facts.specs.declared.step.Step.TheVariants.{Looks}
-use Rattle.fm_pool_facts.specs.Views.{Met, View, In, IsSound, is_automatic, brought, state_in}
-use Rattle.fm_pool_facts.specs.Splits.{drawn_left, drawn_right, as_gathered, gather, IsAtRest, caller_or}
-use Rattle.fm_pool_facts.specs.Hands.{Number, no_number, number_joined, number_drawn, number_of_joined, last_term}
-use Rattle.fm_pool_facts.specs.Steps.{part, entries, noted}
-use Rattle.fm_pool_facts.specs.Facts.{Begins}
+use Rattle.fm_base_machine.specs.Handles.{AreLeft}
+use Rattle.fm_rule_facts.specs.declared.step.Step.TheVariants.{Looks}
+use Rattle.fm_rule_facts.specs.Views.{Met, View, In, IsSound, is_automatic, brought, state_in}
+use Rattle.fm_rule_facts.specs.Splits.{drawn_left, drawn_right, as_gathered, gather, IsAtRest, caller_or}
+use Rattle.fm_rule_facts.specs.Hands.{Number, no_number, number_joined, number_drawn, number_of_joined, last_term}
+use Rattle.fm_rule_facts.specs.Steps.{part, entries, noted}
+use Rattle.fm_rule_facts.specs.Facts.{Begins}
 use Rattle.fm_rule.specs.declared.pass.Part.{Part}
 use Rattle.fm_rule.proofs.Allowed.{part_on, sound_homed, all_of_in}
-use Rattle.fm_pool_facts.specs.Moves.{Gives, Tells}
-use Rattle.fm_pool_facts.proofs.Keeping.{none_added}
+use Rattle.fm_rule_facts.specs.Moves.{Gives, Tells}
+use Rattle.fm_rule_facts.proofs.Keeping.{none_added}
 use Rattle.fm_rule.specs.Views.{homed, Keeps}
 use Rattle.fm_rule.specs.Draws.{CanGather, Gathers, GivesBack}
-use Rattle.fm_pool_facts.proofs.Keeping.{in_left, in_right}
+use Rattle.fm_rule_facts.proofs.Keeping.{in_left, in_right}
 use Rattle.fm_base.specs.Calls.{Entry}
 use Rattle.fm_rule.specs.declared.pool.Pool.{Pool}
 

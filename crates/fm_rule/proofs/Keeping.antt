@@ -4,17 +4,17 @@ use Rattle.fm_words.specs.declared.shape.Shape.{Shape}
 use Rattle.fm_base.specs.Arenas.{only_caller}
 use Rattle.fm_base.specs.declared.caller.Caller.{Caller}
 use Rattle.fm_base.specs.declared.arena_id.ArenaId.{ArenaId}
-use Rattle.fm_pool_facts.specs.declared.step.Step.TheVariants.{Draws, Marks, Checks, Loads, Stores, SwapsIf, Adds, Allocates, Holds, Unholds, Backs, Unmarks, Shuts, Visits, TakesSlot, LearnsGeneration, Opens, Claims, Maps, ReadsMap, SweepsGiven, SweepsMap, Unmaps, Wipes, GivesPage, ReturnsPage, ResetsGiven, Retires, GivesSlot, TakesNumber, LearnsTerm, RaisesTerm, GivesNumber}
-use Rattle.fm_pool_facts.specs.Views.{View, In, IsSound}
-use Rattle.fm_pool_facts.specs.Splits.{first_view}
-use Rattle.fm_pool_facts.specs.Words.{alive_holds, inside_found}
-use Rattle.fm_pool_facts.specs.Steps.{part, entries, noted, draws}
+use Rattle.fm_rule_facts.specs.declared.step.Step.TheVariants.{Draws, Marks, Checks, Loads, Stores, SwapsIf, Adds, Allocates, Holds, Unholds, Backs, Unmarks, Shuts, Visits, TakesSlot, LearnsGeneration, Opens, Claims, Maps, ReadsMap, SweepsGiven, SweepsMap, Unmaps, Wipes, GivesPage, ReturnsPage, ResetsGiven, Retires, GivesSlot, TakesNumber, LearnsTerm, RaisesTerm, GivesNumber}
+use Rattle.fm_rule_facts.specs.Views.{View, In, IsSound}
+use Rattle.fm_rule_facts.specs.Splits.{first_view}
+use Rattle.fm_rule_facts.specs.Words.{alive_holds, inside_found}
+use Rattle.fm_rule_facts.specs.Steps.{part, entries, noted, draws}
 use Rattle.fm_words.specs.Maps.{map_word}
 use Rattle.fm_words.specs.Places.{at, page_word}
-use Rattle.fm_pool_facts.specs.Parts.{Mapping, mapping_of, reads_after, reads_mapped}
+use Rattle.fm_rule_facts.specs.Parts.{Mapping, mapping_of, reads_after, reads_mapped}
 use Rattle.fm_rule.specs.declared.pass.Part.{Part}
-use Rattle.fm_pool_facts.specs.Hands.{Number, drawn_by, number_after}
-use Rattle.fm_pool_facts.specs.Moves.{Tells}
+use Rattle.fm_rule_facts.specs.Hands.{Number, drawn_by, number_after}
+use Rattle.fm_rule_facts.specs.Moves.{Tells}
 use Rattle.fm_rule.specs.Views.{IsPart, Keeps}
 use Rattle.fm_rule.proofs.Allowed.{same_part, still_counted, part_on, keeps_on}
 

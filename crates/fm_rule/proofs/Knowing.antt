@@ -5,13 +5,13 @@ use Rattle.fm_words.specs.Shapes.{IsValid}
 use Rattle.fm_words.specs.Places.{at, draw, slot_bits, page_bits, page_groups, map, page_word, mark, session, given, number_bits, term, groups, words, front}
 use Rattle.fm_words.proofs.Tables.{at-within, words-le}
 use Rattle.fm_base.specs.declared.arena_id.ArenaId.{ArenaId}
-use Rattle.fm_pool_facts.specs.Hands.{Hand, HasSlot}
-use Rattle.fm_pool_facts.specs.Views.{View, Fits, In, IsKnown, IsOver, IsSound}
-use Rattle.fm_pool_facts.specs.Closes.{passed_of}
-use Rattle.fm_pool_facts.specs.Steps.{CanReach, HasPlace, AreAllGiven, number_at, CanDraw, can_draw, can_look}
-use Rattle.fm_pool_facts.specs.Parts.{wiping, mapping_of}
+use Rattle.fm_rule_facts.specs.Hands.{Hand, HasSlot}
+use Rattle.fm_rule_facts.specs.Views.{View, Fits, In, IsKnown, IsOver, IsSound}
+use Rattle.fm_rule_facts.specs.Closes.{passed_of}
+use Rattle.fm_rule_facts.specs.Steps.{CanReach, HasPlace, AreAllGiven, number_at, CanDraw, can_draw, can_look}
+use Rattle.fm_rule_facts.specs.Parts.{wiping, mapping_of}
 use Rattle.std.proofs.Math.Nat.{mod-lt}
-use Rattle.fm_pool_steps.proofs.Closes.{passed_of-found}
+use Rattle.fm_rule_steps.proofs.Closes.{passed_of-found}
 use Rattle.fm_rule.specs.declared.pass.Part.{Part}
 use Rattle.std.proofs.lemmas.Nat.{div-mul-add, mod-mul-add}
 use Rattle.atomic_table.specs.Seated.{TableId}

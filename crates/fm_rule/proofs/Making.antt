@@ -10,33 +10,33 @@ use Rattle.fm_base.specs.declared.kind.Kind.TheVariants.{Global, Automatic}
 use Rattle.fm_base.specs.Machine.{IsPower, rounded_up}
 use Rattle.fm_base.specs.Arenas.{MayUse, owner_of}
 use Rattle.fm_words.specs.Bits.{IsWithout}
-use Rattle.fm_pool_facts.specs.Hands.{nothing, taken, learnt, retired, no_number, number_taken, number_left, number_joined}
-use Rattle.fm_pool_facts.specs.declared.step.Step.TheVariants.{Draws, Marks, Checks, Loads, Stores, SwapsIf, Adds, Allocates, Holds, Unholds, Backs, Unmarks, Shuts, Visits, TakesSlot, LearnsGeneration, Opens, Claims, Maps, ReadsMap, SweepsGiven, SweepsMap, Unmaps, Wipes, GivesPage, ReturnsPage, ResetsGiven, Retires, GivesSlot, TakesNumber, LearnsTerm, RaisesTerm, GivesNumber, Looks}
-use Rattle.fm_pool_facts.specs.Views.{View, In, IsKnown, IsOver, limit_of}
-use Rattle.fm_pool_facts.specs.Words.{alive_word, closing_word, free_word, held_word, mark_of}
-use Rattle.fm_pool_facts.specs.Handles.{back_word}
-use Rattle.fm_pool_facts.specs.Closes.{passed_of}
-use Rattle.fm_pool_facts.specs.Steps.{draw_next, number_at, CanDraw, CanReach, HasParts, AreAllGiven, given_next}
+use Rattle.fm_rule_facts.specs.Hands.{nothing, taken, learnt, retired, no_number, number_taken, number_left, number_joined}
+use Rattle.fm_rule_facts.specs.declared.step.Step.TheVariants.{Draws, Marks, Checks, Loads, Stores, SwapsIf, Adds, Allocates, Holds, Unholds, Backs, Unmarks, Shuts, Visits, TakesSlot, LearnsGeneration, Opens, Claims, Maps, ReadsMap, SweepsGiven, SweepsMap, Unmaps, Wipes, GivesPage, ReturnsPage, ResetsGiven, Retires, GivesSlot, TakesNumber, LearnsTerm, RaisesTerm, GivesNumber, Looks}
+use Rattle.fm_rule_facts.specs.Views.{View, In, IsKnown, IsOver, limit_of}
+use Rattle.fm_rule_facts.specs.Words.{alive_word, closing_word, free_word, held_word, mark_of}
+use Rattle.fm_rule_facts.specs.Handles.{back_word}
+use Rattle.fm_rule_facts.specs.Closes.{passed_of}
+use Rattle.fm_rule_facts.specs.Steps.{draw_next, number_at, CanDraw, CanReach, HasParts, AreAllGiven, given_next}
 use Rattle.fm_words.specs.Maps.{map_word}
-use Rattle.fm_pool_facts.specs.Parts.{unread, named, wiping, mapping_of}
-use Rattle.fm_pool_facts.specs.Moves.{MayStep, MayStore}
-use Rattle.fm_pool_steps.proofs.Acting.{mark_steps, check_steps, unmark_steps, look_steps}
-use Rattle.fm_pool_steps.proofs.Reaching.{load_steps, store_steps, swap_steps, add_steps}
-use Rattle.fm_pool_steps.proofs.Allocating.{allocate_steps}
-use Rattle.fm_pool_steps.proofs.Holding.{hold_steps, unhold_steps}
-use Rattle.fm_pool_steps.proofs.Backing.{back_steps}
-use Rattle.fm_pool_steps.proofs.Drawing.{draw_steps}
-use Rattle.fm_pool_steps.proofs.Numbering.{take_number_steps, learn_term_steps, raise_term_steps, give_number_steps}
-use Rattle.fm_pool_steps.proofs.Shutting.{shut_steps}
-use Rattle.fm_pool_steps.proofs.Visiting.{visit_steps}
-use Rattle.fm_pool_steps.proofs.Taking.{take_steps, generation_steps}
-use Rattle.fm_pool_steps.proofs.Opening.{open_steps}
-use Rattle.fm_pool_steps.proofs.Wiping.{look_map_steps, unmap_steps, wipe_steps, return_steps}
-use Rattle.fm_pool_steps.proofs.Resetting.{given_steps, reset_steps}
-use Rattle.fm_pool_steps.proofs.Claiming.{claim_steps, give_page_steps}
-use Rattle.fm_pool_steps.proofs.Mapping.{map_steps, read_map_steps}
-use Rattle.fm_pool_steps.proofs.Retiring.{retire_steps}
-use Rattle.fm_pool_steps.proofs.Giving.{give_steps}
+use Rattle.fm_rule_facts.specs.Parts.{unread, named, wiping, mapping_of}
+use Rattle.fm_rule_facts.specs.Moves.{MayStep, MayStore}
+use Rattle.fm_rule_steps.proofs.Acting.{mark_steps, check_steps, unmark_steps, look_steps}
+use Rattle.fm_rule_steps.proofs.Reaching.{load_steps, store_steps, swap_steps, add_steps}
+use Rattle.fm_rule_steps.proofs.Allocating.{allocate_steps}
+use Rattle.fm_rule_steps.proofs.Holding.{hold_steps, unhold_steps}
+use Rattle.fm_rule_steps.proofs.Backing.{back_steps}
+use Rattle.fm_rule_steps.proofs.Drawing.{draw_steps}
+use Rattle.fm_rule_steps.proofs.Numbering.{take_number_steps, learn_term_steps, raise_term_steps, give_number_steps}
+use Rattle.fm_rule_steps.proofs.Shutting.{shut_steps}
+use Rattle.fm_rule_steps.proofs.Visiting.{visit_steps}
+use Rattle.fm_rule_steps.proofs.Taking.{take_steps, generation_steps}
+use Rattle.fm_rule_steps.proofs.Opening.{open_steps}
+use Rattle.fm_rule_steps.proofs.Wiping.{look_map_steps, unmap_steps, wipe_steps, return_steps}
+use Rattle.fm_rule_steps.proofs.Resetting.{given_steps, reset_steps}
+use Rattle.fm_rule_steps.proofs.Claiming.{claim_steps, give_page_steps}
+use Rattle.fm_rule_steps.proofs.Mapping.{map_steps, read_map_steps}
+use Rattle.fm_rule_steps.proofs.Retiring.{retire_steps}
+use Rattle.fm_rule_steps.proofs.Giving.{give_steps}
 use Rattle.fm_rule.proofs.Knowing.{WordPlace, group_low, at_number}
 
 module _ (z : Shape) (id : ℕ) (v : View) (l : v.live ≡ true) (i : ℕ) where

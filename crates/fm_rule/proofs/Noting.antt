@@ -6,16 +6,16 @@ use Rattle.fm_words.specs.Places.{words}
 use Rattle.fm_base.specs.declared.caller.Caller.{Caller}
 use Rattle.fm_base.specs.declared.arena_id.ArenaId.{ArenaId}
 use Rattle.fm_base.specs.Calls.{Entry, Fine, TooManyHolds}
-use Rattle.fm_pool_facts.specs.declared.step.Step.TheVariants.{Looks}
-use Rattle.fm_pool_facts.specs.Views.{View, In}
-use Rattle.fm_pool_facts.specs.Words.{held_by, held_word, hold_found, alive_word, alive_holds, closing_word}
-use Rattle.fm_pool_facts.specs.Handles.{last_if, giving_by, word_given, back_word}
-use Rattle.fm_pool_facts.specs.Splits.{met}
-use Rattle.fm_pool_facts.specs.Steps.{Stepped, part, entries, noted, none_noted}
+use Rattle.fm_rule_facts.specs.declared.step.Step.TheVariants.{Looks}
+use Rattle.fm_rule_facts.specs.Views.{View, In}
+use Rattle.fm_rule_facts.specs.Words.{held_by, held_word, hold_found, alive_word, alive_holds, closing_word}
+use Rattle.fm_rule_facts.specs.Handles.{last_if, giving_by, word_given, back_word}
+use Rattle.fm_rule_facts.specs.Splits.{met}
+use Rattle.fm_rule_facts.specs.Steps.{Stepped, part, entries, noted, none_noted}
 use Rattle.fm_rule.specs.declared.pass.Part.{Part}
 use Rattle.fm_rule.proofs.Allowed.{part_on, stepped, still_counted, alike_none}
-use Rattle.fm_pool_facts.specs.Moves.{Gives, Tells}
-use Rattle.fm_pool_steps.proofs.First.{two_words}
+use Rattle.fm_rule_facts.specs.Moves.{Gives, Tells}
+use Rattle.fm_rule_steps.proofs.First.{two_words}
 use Rattle.fm_rule.specs.Views.{homed, Keeps}
 
 -- a table has words

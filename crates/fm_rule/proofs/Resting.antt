@@ -8,13 +8,13 @@ use Rattle.fm_words.specs.Shapes.{IsValid}
 use Rattle.fm_words.specs.Places.{words as word_count}
 use Rattle.fm_base.specs.Calls.{Entry}
 use Rattle.fm_base.specs.Histories.{IsLegal}
-use Rattle.fm_pool_facts.specs.Hands.{nothing}
-use Rattle.fm_pool_facts.specs.Rest.{ShowsHistory}
-use Rattle.fm_pool_facts.specs.Loans.{IsRightlyLent}
-use Rattle.fm_pool_facts.specs.Views.{View, IsSound, limit_of}
-use Rattle.fm_pool_facts.specs.Facts.{Rule}
-use Rattle.fm_pool_steps.proofs.Plain.{own}
-use Rattle.fm_pool_steps.proofs.Resting.{at_rest}
+use Rattle.fm_rule_facts.specs.Hands.{nothing}
+use Rattle.fm_rule_facts.specs.Rest.{ShowsHistory}
+use Rattle.fm_rule_facts.specs.Loans.{IsRightlyLent}
+use Rattle.fm_rule_facts.specs.Views.{View, IsSound, limit_of}
+use Rattle.fm_rule_facts.specs.Facts.{Rule}
+use Rattle.fm_rule_steps.proofs.Plain.{own}
+use Rattle.fm_rule_steps.proofs.Resting.{at_rest}
 use Rattle.fm_rule.proofs.Allowed.{Keeping}
 use Rattle.fm_rule.specs.Views.{homed}
 use Rattle.fm_rule.specs.Finishing.{IsFinished}

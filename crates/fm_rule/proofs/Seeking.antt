@@ -8,11 +8,11 @@ use Rattle.std.proofs.lemmas.Nat.Bits.{bit_at-lt, bit_at-zero}
 use Rattle.fm_words.specs.Places.{groups}
 use Rattle.fm_words.specs.Bits.{IsWithout}
 use Rattle.fm_base.specs.Finds.{Find, TakesNumber as Taking, is_draw, is_number}
-use Rattle.fm_pool_facts.specs.Views.{View, In}
-use Rattle.fm_pool_facts.specs.Steps.{Stepped, note_of, number_at, is_clear}
-use Rattle.fm_pool_facts.specs.Hands.{Number, no_number, number_taken, number_taken_by, takes}
-use Rattle.fm_pool_facts.proofs.Keeping.{in_append, in_left, in_right}
-use Rattle.fm_pool_steps.proofs.Reading.{eqb_true, eqb_false}
+use Rattle.fm_rule_facts.specs.Views.{View, In}
+use Rattle.fm_rule_facts.specs.Steps.{Stepped, note_of, number_at, is_clear}
+use Rattle.fm_rule_facts.specs.Hands.{Number, no_number, number_taken, number_taken_by, takes}
+use Rattle.fm_rule_facts.proofs.Keeping.{in_append, in_left, in_right}
+use Rattle.fm_rule_steps.proofs.Reading.{eqb_true, eqb_false}
 use Rattle.fm_rule.specs.Passes.{IsOf}
 use Rattle.fm_rule.specs.Draws.{Seeks, AreLooks, Tried, FoundIn, FoundZero, Takes, NoneDrawn}
 use Rattle.fm_rule.specs.declared.pool.Pool.{Pool}

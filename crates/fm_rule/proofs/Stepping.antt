@@ -4,17 +4,17 @@ use Rattle.fm_base.specs.declared.arena_id.ArenaId.{ArenaId}
 use Rattle.fm_base.specs.Calls.{Open, Lend, Enter, Read, Write, SwapIf, Add, Allocate, Leave, Hold, Unhold, Shut, Back, Fine, Found, Entry, entry_of}
 use Rattle.fm_base.specs.Machine.{allocate_reply}
 use Rattle.fm_base.specs.Finds.{Find, Visits as Visiting, TakesSlot as Taking, TakesPage as Claiming, Maps as Mapped, TakesNumber as TakingNumber}
-use Rattle.fm_pool_facts.specs.declared.step.Step.TheVariants.{Draws, Marks, Checks, Loads, Stores, SwapsIf, Adds, Allocates, Holds, Unholds, Backs, Unmarks, Shuts, Visits, TakesSlot, LearnsGeneration, Opens, Claims, Maps, ReadsMap, SweepsGiven, SweepsMap, Unmaps, Wipes, GivesPage, ReturnsPage, ResetsGiven, Retires, GivesSlot, TakesNumber, LearnsTerm, RaisesTerm, GivesNumber}
-use Rattle.fm_pool_facts.specs.Views.{View, In, limit_of, given_of}
+use Rattle.fm_rule_facts.specs.declared.step.Step.TheVariants.{Draws, Marks, Checks, Loads, Stores, SwapsIf, Adds, Allocates, Holds, Unholds, Backs, Unmarks, Shuts, Visits, TakesSlot, LearnsGeneration, Opens, Claims, Maps, ReadsMap, SweepsGiven, SweepsMap, Unmaps, Wipes, GivesPage, ReturnsPage, ResetsGiven, Retires, GivesSlot, TakesNumber, LearnsTerm, RaisesTerm, GivesNumber}
+use Rattle.fm_rule_facts.specs.Views.{View, In, limit_of, given_of}
 use Rattle.fm_base.specs.declared.caller.Caller.{Caller}
-use Rattle.fm_pool_facts.specs.Words.{alive_holds, enter_found, inside_found, hold_found, shut_found}
-use Rattle.fm_pool_facts.specs.Hands.{nothing, learnt, takes, hand_taken, hand_retired, Number, no_number, number_learnt, number_left, number_taken_by, number_after, drawn_by}
-use Rattle.fm_pool_facts.specs.Holds.{grips, with_grips, holds_after, handles_with, released}
-use Rattle.fm_pool_facts.specs.Handles.{giving, given_back, giving_entries}
-use Rattle.fm_pool_facts.specs.Closes.{begun, advanced, dropped, visit_found, closes_after, sweeps_after, visit_entries}
-use Rattle.fm_pool_facts.specs.Steps.{Stepped, draws, note_draw, part, entries, noted, acted, none_noted, where_found, note_of, number_at}
-use Rattle.fm_pool_facts.specs.Moves.{LearnsCount, LearnsSlots, Tells, LearnsMap}
-use Rattle.fm_pool_facts.specs.Parts.{unread, wiping, reads_after, reads_mapped, pages_mapped, pages_taken, swept_read}
+use Rattle.fm_rule_facts.specs.Words.{alive_holds, enter_found, inside_found, hold_found, shut_found}
+use Rattle.fm_rule_facts.specs.Hands.{nothing, learnt, takes, hand_taken, hand_retired, Number, no_number, number_learnt, number_left, number_taken_by, number_after, drawn_by}
+use Rattle.fm_rule_facts.specs.Holds.{grips, with_grips, holds_after, handles_with, released}
+use Rattle.fm_rule_facts.specs.Handles.{giving, given_back, giving_entries}
+use Rattle.fm_rule_facts.specs.Closes.{begun, advanced, dropped, visit_found, closes_after, sweeps_after, visit_entries}
+use Rattle.fm_rule_facts.specs.Steps.{Stepped, draws, note_draw, part, entries, noted, acted, none_noted, where_found, note_of, number_at}
+use Rattle.fm_rule_facts.specs.Moves.{LearnsCount, LearnsSlots, Tells, LearnsMap}
+use Rattle.fm_rule_facts.specs.Parts.{unread, wiping, reads_after, reads_mapped, pages_mapped, pages_taken, swept_read}
 use Rattle.fm_rule.specs.Views.{homed}
 use Rattle.fm_rule.proofs.Allowed.{same_part, stepped}
 

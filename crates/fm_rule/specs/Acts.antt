@@ -2,8 +2,8 @@
 use Rattle.std.specs.Prelude.{◌≡◌, ℕ, ◌<◌}
 use Rattle.atomic_table.specs.declared.shared.Seat.{Seat}
 use Rattle.fm_words.specs.Places.{words}
-use Rattle.fm_pool_facts.specs.declared.step.Step.{Step}
-use Rattle.fm_pool_facts.specs.Moves.{Tells, MayStep, MayStore}
+use Rattle.fm_rule_facts.specs.declared.step.Step.{Step}
+use Rattle.fm_rule_facts.specs.Moves.{Tells, MayStep, MayStore}
 use Rattle.fm_rule.specs.declared.pool.Pool.{Pool}
 use Rattle.fm_rule.specs.declared.seen.Seen.{Seen}
 

@@ -5,9 +5,9 @@ use Rattle.fm_base.specs.declared.caller.Caller.{Caller}
 use Rattle.fm_base.specs.Calls.{Entry}
 use Rattle.fm_base.specs.Histories.{made_by}
 use Rattle.fm_base.specs.Finds.{Find, Gathered, Draws, is_draw, is_number, group_of}
-use Rattle.fm_pool_facts.specs.Views.{View, In, IsNew, IsSound, HasFind, HasAllDrawn, KnowsCallers}
-use Rattle.fm_pool_facts.specs.Hands.{nothing, Number, no_number, number_taken, number_drawn, most_draws}
-use Rattle.fm_pool_facts.specs.Splits.{view_of, as_gathered}
+use Rattle.fm_rule_facts.specs.Views.{View, In, IsNew, IsSound, HasFind, HasAllDrawn, KnowsCallers}
+use Rattle.fm_rule_facts.specs.Hands.{nothing, Number, no_number, number_taken, number_drawn, most_draws}
+use Rattle.fm_rule_facts.specs.Splits.{view_of, as_gathered}
 use Rattle.fm_rule.specs.Passes.{IsOf}
 use Rattle.fm_rule.specs.declared.pool.Pool.{Pool}
 

@@ -5,10 +5,10 @@ use Rattle.fm_words.specs.Shapes.{IsValid}
 use Rattle.fm_words.specs.Places.{words as word_count}
 use Rattle.fm_base.specs.Calls.{Entry}
 use Rattle.fm_base.specs.Histories.{IsLegal}
-use Rattle.fm_pool_facts.specs.Hands.{nothing}
-use Rattle.fm_pool_facts.specs.Loans.{IsRightlyLent}
-use Rattle.fm_pool_facts.specs.Rest.{ShowsHistory}
-use Rattle.fm_pool_facts.specs.Views.{View, limit_of}
+use Rattle.fm_rule_facts.specs.Hands.{nothing}
+use Rattle.fm_rule_facts.specs.Loans.{IsRightlyLent}
+use Rattle.fm_rule_facts.specs.Rest.{ShowsHistory}
+use Rattle.fm_rule_facts.specs.Views.{View, limit_of}
 use Rattle.fm_rule.specs.Passes.{IsOf}
 use Rattle.fm_rule.specs.declared.pool.Pool.{Pool}
 

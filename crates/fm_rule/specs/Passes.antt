@@ -1,7 +1,7 @@
 -- Passes and notes of one pool.
 use Rattle.std.specs.Prelude.{◌≡◌, List, ◌++◌}
 use Rattle.fm_base.specs.Calls.{Entry}
-use Rattle.fm_pool_facts.specs.Views.{View}
+use Rattle.fm_rule_facts.specs.Views.{View}
 use Rattle.fm_rule.specs.Views.{NoteView, numbers_of}
 use Rattle.fm_rule.specs.declared.pool.Pool.{Pool}
 

@@ -6,11 +6,11 @@ use Rattle.fm_words.specs.declared.shape.Shape.{Shape}
 use Rattle.fm_base.specs.declared.caller.Caller.{Caller}
 use Rattle.fm_base.specs.declared.arena_id.ArenaId.{ArenaId}
 use Rattle.fm_base.specs.Calls.{Entry}
-use Rattle.fm_pool_facts.specs.Views.{View, IsSound, In}
-use Rattle.fm_pool_facts.specs.Splits.{first_view}
+use Rattle.fm_rule_facts.specs.Views.{View, IsSound, In}
+use Rattle.fm_rule_facts.specs.Splits.{first_view}
 use Rattle.fm_words.specs.Places.{at, page_word}
 use Rattle.fm_words.specs.Maps.{map_word}
-use Rattle.fm_pool_facts.specs.Parts.{Mapping}
+use Rattle.fm_rule_facts.specs.Parts.{Mapping}
 use Rattle.fm_rule.specs.declared.pass.Part.{Part}
 
 -- numbers that tell a table

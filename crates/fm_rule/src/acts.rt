@@ -6,7 +6,7 @@ ghost use Rattle.fm_rule.specs.Acts.{Acted, CanAct, CanStore};
 use crate::pool::{Aim, Pool, Told};
 use crate::seen::Seen;
 use atomic_table::Seat;
-use fm_pool_facts::Step;
+use fm_rule_facts::Step;
 
 /// Answers the word at the place.
 #[inline(always)]

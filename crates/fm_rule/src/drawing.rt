@@ -1,13 +1,13 @@
 //! Passes are drawn: a free number is taken, its next caller is counted, and split off with what the drawer has seen.
 ghost use Rattle.std.specs.Prelude.{◌≡◌, ◌<◌, [], true, false, IfOk, IfErr, IfSome};
-ghost use Rattle.fm_pool_facts.specs.Steps as steps;
-ghost use Rattle.fm_pool_facts.specs.Steps.{CanDraw, Stepped, draws, note_draw};
-ghost use Rattle.fm_pool_facts.specs.Hands.{drawn_by, number_after, number_drawn, number_learnt, no_number};
+ghost use Rattle.fm_rule_facts.specs.Steps as steps;
+ghost use Rattle.fm_rule_facts.specs.Steps.{CanDraw, Stepped, draws, note_draw};
+ghost use Rattle.fm_rule_facts.specs.Hands.{drawn_by, number_after, number_drawn, number_learnt, no_number};
 ghost use Rattle.fm_base.specs.declared.refusal.Refusal.TheVariants.{NoPass};
 ghost use Rattle.fm_rule.specs.Draws.{Drawn, NoneDrawn, Takes, Tried, FoundIn, Counts};
-ghost use Rattle.fm_pool_facts.specs.Moves.{LearnsCount};
-ghost use Rattle.fm_pool_facts.specs.Splits.{view_of};
-ghost use Rattle.fm_pool_facts.specs.Views.{IsSound};
+ghost use Rattle.fm_rule_facts.specs.Moves.{LearnsCount};
+ghost use Rattle.fm_rule_facts.specs.Splits.{view_of};
+ghost use Rattle.fm_rule_facts.specs.Views.{IsSound};
 ghost use Rattle.fm_rule.specs.Passes.{IsOf};
 
 use crate::acts::exchange_as;
@@ -17,7 +17,7 @@ use crate::pool::Pool;
 use crate::seen::Seen;
 use atomic_table::Split;
 use fm_base::{Caller, Refusal};
-use fm_pool_facts::Step;
+use fm_rule_facts::Step;
 use fm_words::without_bit;
 use std::marker::Brand;
 use std::sync::Wait;
@@ -50,7 +50,7 @@ fn draw_next(drawn: u64) -> u64
 pub struct SplitOff;
 
 impl Split<Seen> for SplitOff {
-    ghost use Rattle.fm_pool_facts.specs.Splits.{drawn_left, drawn_right};
+    ghost use Rattle.fm_rule_facts.specs.Splits.{drawn_left, drawn_right};
 
     ghost left = { drawn_left };
 

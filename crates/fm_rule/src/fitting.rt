@@ -1,6 +1,6 @@
 ghost use Rattle.std.specs.Prelude.{◌≡◌, ◌<◌, ◌≤◌, ◌^◌};
 ghost use Rattle.fm_base.specs.Machine.{rounded_up};
-ghost use Rattle.fm_pool_facts.specs.Steps as steps;
+ghost use Rattle.fm_rule_facts.specs.Steps as steps;
 
 /// The least multiple of `align` that is at least `given`.
 fn rounded(given: u64, align: u64) -> u128

@@ -1,6 +1,6 @@
 //! Passes that are done are gathered into another, which then speaks for all of them.
 ghost use Rattle.std.specs.Prelude.{◌≡◌, ◌<◌};
-ghost use Rattle.fm_pool_facts.specs.Hands.{no_number, number_joined, number_of_joined};
+ghost use Rattle.fm_rule_facts.specs.Hands.{no_number, number_joined, number_of_joined};
 ghost use Rattle.fm_rule.specs.Passes.{IsOf};
 ghost use Rattle.fm_rule.specs.Draws.{CanGather, Gathers, GivesBack, Looked};
 
@@ -12,14 +12,14 @@ use crate::pool::Pool;
 use crate::seen::Seen;
 use atomic_table::Join;
 use fm_base::Caller;
-use fm_pool_facts::Step;
+use fm_rule_facts::Step;
 use std::marker::Brand;
 
 /// A pass is put to what another has met.
 pub struct Gathered;
 
 impl Join<Seen> for Gathered {
-    ghost use Rattle.fm_pool_facts.specs.Splits.{gather, nothing_seen};
+    ghost use Rattle.fm_rule_facts.specs.Splits.{gather, nothing_seen};
 
     ghost both = { gather };
 

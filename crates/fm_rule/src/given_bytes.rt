@@ -2,9 +2,9 @@
 ghost use Rattle.std.specs.Prelude.{◌≡◌, ◌<◌, ◌/◌, ◌%◌, slice_index, IfOk, IfErr, IfSome, IsSome, IsTrue, ◌↔◌, true};
 ghost use Rattle.fm_base.specs.declared.refusal.Refusal.TheVariants.{Memory};
 ghost use Rattle.fm_base.specs.Arenas.{Alive, arena_of, has_arena, word_in};
-ghost use Rattle.fm_bytes.specs.Words.{byte_of};
+ghost use Rattle.fm_base_bytes.specs.Words.{byte_of};
 ghost use Rattle.fm_words.specs.Places.{words};
-ghost use Rattle.fm_pool_facts.specs.Views.{Fits};
+ghost use Rattle.fm_rule_facts.specs.Views.{Fits};
 ghost use Rattle.fm_rule.specs.GivenBytes.{TellsAlive, HasBytes, given_bytes, state_of};
 
 use crate::finishing::Finished;

@@ -2,11 +2,11 @@ ghost use Rattle.std.specs.Prelude.{◌≡◌, ◌≢◌, ◌==◌, ◌∷◌, [
 ghost use Rattle.fm_base.specs.Arenas.{MayUse};
 ghost use Rattle.fm_base.specs.Calls as machine;
 ghost use Rattle.fm_base.specs.Calls.{entry_of};
-ghost use Rattle.fm_pool_facts.specs.Views.{In, IsKnown};
-ghost use Rattle.fm_pool_facts.specs.Words.{alive_holds, hold_found};
-ghost use Rattle.fm_pool_facts.specs.Holds.{grips, with_grips, holds_after, released};
-ghost use Rattle.fm_pool_facts.specs.Handles.{giving, given_back, giving_entries};
-ghost use Rattle.fm_pool_facts.specs.Steps.{Stepped, none_noted, where_found};
+ghost use Rattle.fm_rule_facts.specs.Views.{In, IsKnown};
+ghost use Rattle.fm_rule_facts.specs.Words.{alive_holds, hold_found};
+ghost use Rattle.fm_rule_facts.specs.Holds.{grips, with_grips, holds_after, released};
+ghost use Rattle.fm_rule_facts.specs.Handles.{giving, given_back, giving_entries};
+ghost use Rattle.fm_rule_facts.specs.Steps.{Stepped, none_noted, where_found};
 ghost use Rattle.fm_rule.specs.Passes.{IsOf};
 
 use crate::acts::{exchange_as, subtract_as};
@@ -14,7 +14,7 @@ use crate::pass::Pass;
 use crate::pool::Pool;
 use crate::words::{back_word, held_word};
 use fm_base::{ArenaId, Kind};
-use fm_pool_facts::Step;
+use fm_rule_facts::Step;
 use std::marker::Brand;
 
 /// Answers the arena's session word. Where it is the expected one, and shows the arena alive with fewer holds than the

@@ -2,7 +2,7 @@
 //!
 //! A pass publishes which arena it uses in its mark, before it looks whether the arena lives; a closer shuts the arena,
 //! then looks at every mark. All words change by the functions of this crate alone. Whatever the interleaving, the
-//! facts of `fm_pool_facts` hold between any two steps, so every step tells its pass the whole history: what others
+//! facts of `fm_rule_facts` hold between any two steps, so every step tells its pass the whole history: what others
 //! did since its last step, and then its own entries.
 //!
 //! All memory is taken in [`Pool::make`]. No step waits.

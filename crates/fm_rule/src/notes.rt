@@ -1,6 +1,6 @@
 //! What a pass has seen, as a note that another pass meets.
 ghost use Rattle.std.specs.Prelude.{◌≡◌, []};
-ghost use Rattle.fm_pool_facts.specs.Steps.{Stepped, none_noted};
+ghost use Rattle.fm_rule_facts.specs.Steps.{Stepped, none_noted};
 ghost use Rattle.fm_rule.specs.Passes.{IsOf, IsNoteOf, GoesOnFrom};
 
 use crate::acts::load_as;
@@ -8,7 +8,7 @@ use crate::pass::Pass;
 use crate::pool::Pool;
 use crate::seen::Seen;
 use atomic_table::{Join, Seat, Split};
-use fm_pool_facts::Step;
+use fm_rule_facts::Step;
 use std::marker::{Brand, Model};
 
 /// What a pass had seen.
@@ -19,7 +19,7 @@ pub struct Note {
 
 impl Model for Note {
     ghost use Rattle.std.specs.Prelude.{◌≡◌, []};
-    ghost use Rattle.fm_pool_facts.specs.Splits.{IsBare};
+    ghost use Rattle.fm_rule_facts.specs.Splits.{IsBare};
     ghost use Rattle.fm_rule.specs.Views.{NoteView, numbers_of};
 
     ghost Value = { NoteView };
@@ -33,7 +33,7 @@ impl Model for Note {
 pub struct Noted;
 
 impl Split<Seen> for Noted {
-    ghost use Rattle.fm_pool_facts.specs.Splits.{note};
+    ghost use Rattle.fm_rule_facts.specs.Splits.{note};
 
     ghost left = { λ v. v };
 
@@ -44,7 +44,7 @@ impl Split<Seen> for Noted {
 pub struct Met;
 
 impl Join<Seen> for Met {
-    ghost use Rattle.fm_pool_facts.specs.Splits.{met, nothing_seen};
+    ghost use Rattle.fm_rule_facts.specs.Splits.{met, nothing_seen};
 
     ghost both = { met };
 

@@ -1,8 +1,8 @@
 //! Numbers are taken by their bit, and given back with their next term.
 ghost use Rattle.std.specs.Prelude.{◌≡◌, ◌<◌, ◌≤◌, []};
 ghost use Rattle.fm_base.specs.Finds.{TakesNumber as Taking};
-ghost use Rattle.fm_pool_facts.specs.Hands.{no_number, number_taken, number_learnt, number_left, number_joined, number_taken_by, takes, last_term};
-ghost use Rattle.fm_pool_facts.specs.Steps.{Stepped, none_noted, note_of, number_at};
+ghost use Rattle.fm_rule_facts.specs.Hands.{no_number, number_taken, number_learnt, number_left, number_joined, number_taken_by, takes, last_term};
+ghost use Rattle.fm_rule_facts.specs.Steps.{Stepped, none_noted, note_of, number_at};
 ghost use Rattle.fm_rule.specs.Passes.{IsOf};
 
 use crate::acts::{exchange_as, load_as, or_as, store_as};
@@ -10,7 +10,7 @@ use crate::pass::Pass;
 use crate::pool::Pool;
 use crate::words::bit;
 use fm_base::Caller;
-use fm_pool_facts::Step;
+use fm_rule_facts::Step;
 use fm_words::without_bit;
 use std::marker::Brand;
 

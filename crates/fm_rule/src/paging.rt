@@ -3,11 +3,11 @@ ghost use Rattle.std.specs.Prelude.{◌≡◌, ◌<◌, ◌≤◌, ◌==◌, [],
 ghost use Rattle.fm_base.specs.Calls as machine;
 ghost use Rattle.fm_base.specs.Calls.{entry_of};
 ghost use Rattle.fm_base.specs.Finds.{TakesPage as Claiming, Maps as Mapping};
-ghost use Rattle.fm_pool_facts.specs.Hands.{takes};
-ghost use Rattle.fm_pool_facts.specs.Parts.{pages_mapped, pages_taken, reads_after, reads_mapped};
-ghost use Rattle.fm_pool_facts.specs.Moves.{LearnsMap};
+ghost use Rattle.fm_rule_facts.specs.Hands.{takes};
+ghost use Rattle.fm_rule_facts.specs.Parts.{pages_mapped, pages_taken, reads_after, reads_mapped};
+ghost use Rattle.fm_rule_facts.specs.Moves.{LearnsMap};
 ghost use Rattle.fm_words.specs.Bits.{number_at};
-ghost use Rattle.fm_pool_facts.specs.Steps.{Stepped, none_noted, note_of, where_found};
+ghost use Rattle.fm_rule_facts.specs.Steps.{Stepped, none_noted, note_of, where_found};
 ghost use Rattle.fm_rule.specs.Passes.{IsOf};
 
 use crate::acts::{exchange_as, load_as, or_as};
@@ -15,7 +15,7 @@ use crate::pass::Pass;
 use crate::pool::Pool;
 use crate::words::bit;
 use fm_base::ArenaId;
-use fm_pool_facts::Step;
+use fm_rule_facts::Step;
 use fm_words::{map_word, without_bit};
 use std::marker::Brand;
 

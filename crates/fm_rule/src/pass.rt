@@ -54,7 +54,7 @@ pub struct Pass {
 }
 
 impl Model for Pass {
-    ghost use Rattle.fm_pool_facts.specs.Views.{View};
+    ghost use Rattle.fm_rule_facts.specs.Views.{View};
     ghost use Rattle.fm_rule.specs.Views.{homed, inside_of, numbers_of, Keeps};
 
     ghost Value = { View };
@@ -67,8 +67,8 @@ impl Model for Pass {
 impl Pass {
     ghost use Rattle.std.specs.Prelude.{◌≡◌};
     ghost use Rattle.std.specs.Prelude.{IfSome};
-    ghost use Rattle.fm_pool_facts.specs.Views.{IsSound};
-    ghost use Rattle.fm_pool_facts.specs.Steps.{HasPlace};
+    ghost use Rattle.fm_rule_facts.specs.Views.{IsSound};
+    ghost use Rattle.fm_rule_facts.specs.Steps.{HasPlace};
 
     /// The caller that it is.
     pub fn caller(&self) -> Caller

@@ -2,9 +2,9 @@ ghost use Rattle.std.specs.Prelude.{◌≡◌, ◌<◌, ◌≤◌, IfOk, IfErr, 
 ghost use Rattle.fm_words.specs.Shapes.{IsValid};
 ghost use Rattle.fm_words.specs.Places.{groups, page_groups, words};
 ghost use Rattle.fm_base.specs.declared.refusal.Refusal.TheVariants.{Memory};
-ghost use Rattle.fm_pool_facts.specs.declared.step.Step.TheVariants.{Looks};
-ghost use Rattle.fm_pool_facts.specs.Views.{IsSound, limit_of, span};
-ghost use Rattle.fm_pool_facts.specs.Moves.{Tells};
+ghost use Rattle.fm_rule_facts.specs.declared.step.Step.TheVariants.{Looks};
+ghost use Rattle.fm_rule_facts.specs.Views.{IsSound, limit_of, span};
+ghost use Rattle.fm_rule_facts.specs.Moves.{Tells};
 ghost use Rattle.fm_rule.specs.Views.{first_pass, numbers_of, HasPart};
 ghost use Rattle.fm_rule.specs.Beginning.{AreFirst, IsBegun, IsFull};
 ghost use Rattle.fm_words.specs.Bits.{number_at};
@@ -21,8 +21,8 @@ use std::marker::{Brand, PhantomData};
 pub struct Law;
 
 impl TableRule<(), Seen, Shape> for Law {
-    ghost use Rattle.fm_pool_facts.specs.Facts.{Rule};
-    ghost use Rattle.fm_pool_facts.specs.Splits.{first_view};
+    ghost use Rattle.fm_rule_facts.specs.Facts.{Rule};
+    ghost use Rattle.fm_rule_facts.specs.Splits.{first_view};
 
     ghost holds = { λ z s. Rule z s.words s.views };
 
@@ -31,7 +31,7 @@ impl TableRule<(), Seen, Shape> for Law {
 
 /// Which step a call makes. Each call picks it.
 pub trait Aim {
-    ghost use Rattle.fm_pool_facts.specs.declared.step.Step.{Step};
+    ghost use Rattle.fm_rule_facts.specs.declared.step.Step.{Step};
 
     ghost step: { Step };
 }

@@ -7,8 +7,8 @@ pub struct Seen {
 }
 
 impl Model for Seen {
-    ghost use Rattle.fm_pool_facts.specs.Views.{View};
-    ghost use Rattle.fm_pool_facts.specs.Splits.{nothing_seen};
+    ghost use Rattle.fm_rule_facts.specs.Views.{View};
+    ghost use Rattle.fm_rule_facts.specs.Splits.{nothing_seen};
 
     ghost Value = { View };
 

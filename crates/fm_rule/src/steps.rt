@@ -4,12 +4,12 @@ ghost use Rattle.fm_base.specs.Arenas.{MayUse};
 ghost use Rattle.fm_base.specs.Calls as machine;
 ghost use Rattle.fm_base.specs.Calls.{entry_of};
 ghost use Rattle.fm_base.specs.Finds.{Visits as Visiting};
-ghost use Rattle.fm_pool_facts.specs.Views.{IsKnown};
-ghost use Rattle.fm_pool_facts.specs.Words.{alive_holds, enter_found, inside_found, own_word, shut_found};
-ghost use Rattle.fm_pool_facts.specs.Holds.{handles_with};
-ghost use Rattle.fm_pool_facts.specs.Closes.{begun, passed_of, visit_found, closes_after, sweeps_after, visit_entries};
-ghost use Rattle.fm_pool_facts.specs.Steps.{Stepped, CanReach, HasPlace, none_noted, note_of, acted};
-ghost use Rattle.fm_pool_facts.specs.Hands.{nothing, learnt};
+ghost use Rattle.fm_rule_facts.specs.Views.{IsKnown};
+ghost use Rattle.fm_rule_facts.specs.Words.{alive_holds, enter_found, inside_found, own_word, shut_found};
+ghost use Rattle.fm_rule_facts.specs.Holds.{handles_with};
+ghost use Rattle.fm_rule_facts.specs.Closes.{begun, passed_of, visit_found, closes_after, sweeps_after, visit_entries};
+ghost use Rattle.fm_rule_facts.specs.Steps.{Stepped, CanReach, HasPlace, none_noted, note_of, acted};
+ghost use Rattle.fm_rule_facts.specs.Hands.{nothing, learnt};
 ghost use Rattle.fm_rule.specs.Passes.{IsOf};
 
 use crate::acts::{exchange_as, load_as, store_as};
@@ -17,7 +17,7 @@ use crate::pass::{NO_PART, Pass};
 use crate::pool::Pool;
 use crate::words::{alive_word, closing_word, is_alive, mark_of};
 use fm_base::{ArenaId, Kind};
-use fm_pool_facts::{Slot, Step};
+use fm_rule_facts::{Slot, Step};
 use std::marker::Brand;
 
 /// Publishes that the pass is about to use the arena: a closer that looks from now on finds it.

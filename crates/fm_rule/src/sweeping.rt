@@ -2,11 +2,11 @@
 ghost use Rattle.std.specs.Prelude.{◌≡◌, ◌<◌, ◌≤◌, ◌+◌, ◌==◌, if◌then◌else◌, [], ◌∷◌, Some};
 ghost use Rattle.fm_base.specs.Calls as machine;
 ghost use Rattle.fm_base.specs.Calls.{entry_of};
-ghost use Rattle.fm_pool_facts.specs.Parts.{unread, named, wiping, swept_read};
-ghost use Rattle.fm_pool_facts.specs.Closes.{passed_of, advanced, dropped};
-ghost use Rattle.fm_pool_facts.specs.Hands.{nothing, retired, hand_retired};
-ghost use Rattle.fm_pool_facts.specs.Views.{given_of};
-ghost use Rattle.fm_pool_facts.specs.Steps.{Stepped, AreAllGiven, none_noted};
+ghost use Rattle.fm_rule_facts.specs.Parts.{unread, named, wiping, swept_read};
+ghost use Rattle.fm_rule_facts.specs.Closes.{passed_of, advanced, dropped};
+ghost use Rattle.fm_rule_facts.specs.Hands.{nothing, retired, hand_retired};
+ghost use Rattle.fm_rule_facts.specs.Views.{given_of};
+ghost use Rattle.fm_rule_facts.specs.Steps.{Stepped, AreAllGiven, none_noted};
 ghost use Rattle.fm_rule.specs.Passes.{IsOf};
 
 use crate::acts::{load_as, or_as, store_as};
@@ -14,7 +14,7 @@ use crate::pass::Pass;
 use crate::pool::Pool;
 use crate::words::{bit, retired_word};
 use fm_base::ArenaId;
-use fm_pool_facts::Step;
+use fm_rule_facts::Step;
 use std::marker::Brand;
 
 /// Answers how many bytes an arena gave that has ended, at the beginning of its sweep. It gives no more.

@@ -1,14 +1,14 @@
 ghost use Rattle.std.specs.Prelude.{◌≡◌, ◌<◌, ◌/◌, ◌^◌, []};
 ghost use Rattle.fm_base.specs.Finds.{TakesSlot as Taking};
-ghost use Rattle.fm_pool_facts.specs.Hands.{nothing, taken, learnt, takes, hand_taken};
-ghost use Rattle.fm_pool_facts.specs.Steps.{Stepped, none_noted, note_of};
-ghost use Rattle.fm_pool_facts.specs.Moves.{LearnsSlots};
+ghost use Rattle.fm_rule_facts.specs.Hands.{nothing, taken, learnt, takes, hand_taken};
+ghost use Rattle.fm_rule_facts.specs.Steps.{Stepped, none_noted, note_of};
+ghost use Rattle.fm_rule_facts.specs.Moves.{LearnsSlots};
 ghost use Rattle.fm_rule.specs.Passes.{IsOf};
 
 use crate::acts::{exchange_as, load_as};
 use crate::pass::Pass;
 use crate::pool::Pool;
-use fm_pool_facts::Step;
+use fm_rule_facts::Step;
 use fm_words::without_bit;
 use std::marker::Brand;
 

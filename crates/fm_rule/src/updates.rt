@@ -1,8 +1,8 @@
 ghost use Rattle.std.specs.Prelude.{◌≡◌, ◌≢◌, ◌≤◌, ◌+◌, ◌==◌, ◌∷◌, [], None, Some};
 ghost use Rattle.fm_base.specs.Calls as machine;
 ghost use Rattle.fm_base.specs.Machine.{IsPower, allocate_reply, rounded_up};
-ghost use Rattle.fm_pool_facts.specs.Views.{limit_of, given_of};
-ghost use Rattle.fm_pool_facts.specs.Steps.{Stepped, CanReach, HasPlace, HasParts, none_noted, acted, where_found};
+ghost use Rattle.fm_rule_facts.specs.Views.{limit_of, given_of};
+ghost use Rattle.fm_rule_facts.specs.Steps.{Stepped, CanReach, HasPlace, HasParts, none_noted, acted, where_found};
 ghost use Rattle.fm_rule.specs.Passes.{IsOf};
 
 use crate::acts::{add_as, exchange_as};
@@ -10,7 +10,7 @@ use crate::fitting::given_next;
 use crate::pass::Pass;
 use crate::pool::Pool;
 use fm_base::ArenaId;
-use fm_pool_facts::Step;
+use fm_rule_facts::Step;
 use std::marker::Brand;
 
 /// Puts `new` into the word of this index where it is `old`, and answers the word found.

@@ -1,6 +1,6 @@
 ghost use Rattle.std.specs.Prelude.{◌≡◌, ◌<◌, ◌+◌, ◌^◌};
-ghost use Rattle.fm_pool_facts.specs.Words as words;
-ghost use Rattle.fm_pool_facts.specs.Handles as handles;
+ghost use Rattle.fm_rule_facts.specs.Words as words;
+ghost use Rattle.fm_rule_facts.specs.Handles as handles;
 ghost use Rattle.fm_rule.specs.Views.{inside_of};
 
 use fm_base::ArenaId;

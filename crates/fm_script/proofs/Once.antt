@@ -1,216 +1,182 @@
--- A text has one answer.
-use Rattle.std.proofs.Common.{◌≡◌, refl, sym, ap, subst, ◌∙◌, ℕ, Option, Some, List, [], ◌∷◌, ◌++◌, map, append_assoc}
+-- A history opens an arena once, so the lines of a report do.
+use Rattle.std.proofs.Common.{◌≡◌, ℕ, ◌+◌, ◌≤◌, Bool, true, false, filter, List, [], ◌∷◌, ◌++◌, map, refl, ap, subst, arith, inl, inr}
 use Rattle.std.specs.List.{AllByRecursion}
-use Rattle.std.proofs.lemmas.List.{append-nil}
-use Rattle.std.proofs.lemmas.Option.{same_Some}
-use Rattle.fm_words.specs.declared.shape.Shape.{Shape}
-use Rattle.fm_script.proofs.Commands.{says_named}
-use Rattle.fm_script.proofs.Pools.{shape_row, with_one}
-use Rattle.fm_script.specs.declared.command.Command.{Command}
-use Rattle.fm_script.specs.declared.line.Line.{Line}
-use Rattle.fm_script.specs.declared.who.Who.{Who}
-use Rattle.fm_script.specs.Reader.{line_named, shape_named}
-use Rattle.fm_script.specs.Rules.{IsAdmitted, passes_of}
-use Rattle.fm_script.specs.Scripts.{Source, source, source_of, ScriptOf, script_of, sources_of, AreAdmitted, AreLines, BreaksAt, IsSaid, IsSettled, IsScript, KeptAt, IsRefused, no_pool, bad_pool, bad_line, not_settled}
-use Rattle.fm_script.specs.Syntax.{Says, SaysPool}
+use Rattle.std.proofs.lemmas.Bool.{cond-false, cond-true}
+use Rattle.fm_base.specs.declared.arena_id.ArenaId.{ArenaId}
+use Rattle.fm_base.specs.declared.caller.Caller.{Caller}
+use Rattle.fm_base.specs.Arenas.{State, are_one, has_arena, same_id}
+use Rattle.fm_base.specs.Calls.{Call, Entry, Open}
+use Rattle.fm_base.specs.Histories.{IsLegal, made_by, state_after}
+use Rattle.fm_base.specs.Machine.{MayCall, after}
+use Rattle.fm_base.proofs.Growing.{Grows-after}
+use Rattle.fm_base.proofs.Names.{are_one-not, are_one-true, same_id-true}
+use Rattle.fm_base_lists.specs.Among.{AreApart, IsAmong}
+use Rattle.fm_rule_facts.specs.Holds.{one_if}
+use Rattle.fm_script_lines.specs.Report.{Done, IsCut, Played, Player, all_done, callers, runs, worked}
+use Rattle.fm_script.proofs.Known.{opened_there}
 
--- ---- lines
+module _ (a : ArenaId) where
+  -- ---- entries
 
--- lines of equal parts are equal
-line_of : (n m : ℕ) (s t : List ℕ) (v w : Who) (c d : Command) → n ≡ m → s ≡ t → v ≡ w → c ≡ d
-    → ◌≡◌ {A = Line} (record { number = n; text = s; who = v; command = c }) (record { number = m; text = t; who = w; command = d })
-line_of n m s t v w c d e f g h = cc
+  -- the call opens the arena
+  abbrev pub is_opening : Call → Bool
+  is_opening (Open id) = same_id id a
+  is_opening call = false
 
--- lines of one source are one
-said_once : (l m : Line) → source_of l ≡ source_of m → IsSaid l → IsSaid m → l ≡ m
-said_once l m e s t =
-    let text : l.text ≡ m.text = ap (λ (x : Source). x.text) e in
-    let same : ◌≡◌ {A = Option (Who × Command)} (Some (l.who, l.command)) (Some (m.who, m.command)) =
-    sym (says_named l.text l.who l.command s) ∙ ap line_named text ∙ says_named m.text m.who m.command t in
-    let pair = same_Some (l.who, l.command) (m.who, m.command) same in
-    line_of l.number m.number l.text m.text l.who m.who l.command m.command (ap (λ (x : Source). x.number) e) text
-    (ap (λ (p : Who × Command). p.0) pair) (ap (λ (p : Who × Command). p.1) pair)
+  opening_is : (k : Call) → is_opening k ≡ true → k ≡ Open a
+  opening_is (Open id) e = ap Open (same_id-true id a e)
+  opening_is k e = absurd (let no : ⊥ = cc in no)
 
--- equal lists have equal heads and tails
-head : {A : Type 0} (x y : A) (xs ys : List A) → x ∷ xs ≡ y ∷ ys → (x ≡ y) × (xs ≡ ys)
-head x y xs ys e = (cc, cc)
+  -- how often it is opened
+  abbrev pub openings : List Entry → ℕ
+  openings [] = 0
+  openings (e ∷ es) = one_if (is_opening e.call) + openings es
 
--- lines that sources are read as are one list
-lines_once : (ls ms : List Line) → map source_of ls ≡ map source_of ms → AllByRecursion IsSaid ls → AllByRecursion IsSaid ms → ls ≡ ms
-lines_once [] [] e s t = refl
-lines_once [] (m ∷ ms) e s t = absurd (cc)
-lines_once (l ∷ ls) [] e s t = absurd (cc)
-lines_once (l ∷ ls) (m ∷ ms) e s t =
-    let h = head (source_of l) (source_of m) (map source_of ls) (map source_of ms) e in
-    let a : l ≡ m = said_once l m h.0 s.0 t.0 in
-    let b : ls ≡ ms = lines_once ls ms h.1 s.1 t.1 in
-    cc
+  openings-append : (xs ys : List Entry) → openings (xs ++ ys) ≡ openings xs + openings ys
+  openings-append [] ys = omega arith
+  openings-append (x ∷ xs) ys = let rest = openings-append xs ys in omega (arith, rest)
 
--- so sources are one list of lines
-lines_are_one : (sources : List Source) (ls ms : List Line) → AreLines sources ls → AreLines sources ms → ls ≡ ms
-lines_are_one sources ls ms a b = lines_once ls ms (sym a.are ∙ b.are) a.said b.said
+  -- An arena that is there is not opened.
+  none_again : (limit : ℕ) (s : State) (es : List Entry) → IsLegal limit s es → has_arena s a ≡ true → openings es ≡ 0
+  none_again limit s [] l h = refl
+  none_again limit s (e ∷ es) l h =
+      go (is_opening e.call) refl (none_again limit (after limit s e) es l.2 ((Grows-after limit s e l.0 l.1).has a h))
+    where
+      go : (b : Bool) → is_opening e.call ≡ b → openings es ≡ 0 → openings (e ∷ es) ≡ 0
+      go true is rest =
+          let may : MayCall s e.caller (Open a) = subst (λ (k : Call). MayCall s e.caller k) (opening_is e.call is) l.0 in
+          let unknown : has_arena s a ≡ false = may.0 in
+          absurd (let no : ⊥ = cc in no)
+      go false is rest = let one : one_if (is_opening e.call) ≡ 0 = ap one_if is in omega (arith, one, rest)
 
--- ---- where lines break
+  once : (limit : ℕ) (s : State) (es : List Entry) → IsLegal limit s es → openings es ≤ 1
+  once limit s [] l = omega arith
+  once limit s (e ∷ es) l = go (is_opening e.call) refl (once limit (after limit s e) es l.2)
+    where
+      go : (b : Bool) → is_opening e.call ≡ b → openings es ≤ 1 → openings (e ∷ es) ≤ 1
+      go true is rest =
+          let there = opened_there limit s (e ∷ []) e a (l.0, l.1, tt) (inl refl) (opening_is e.call is) in
+          let none = none_again limit (after limit s e) es l.2 there in
+          let one : one_if (is_opening e.call) ≡ 1 = ap one_if is in
+          omega (arith, none, one)
+      go false is rest = let one : one_if (is_opening e.call) ≡ 0 = ap one_if is in omega (arith, one, rest)
 
--- behind lines that were admitted, a line of this number says nothing that is
-Breaks : List Line → Source → Type 0
-Breaks before s = (l : Line) → Says s.text l.who l.command → IsAdmitted before l.who l.command → ⊥
+  pub kept : (p : Entry → Bool) (es : List Entry) → openings (filter p es) ≤ openings es
+  kept p [] = omega arith
+  kept p (e ∷ es) = go (p e) refl (kept p es)
+    where
+      go : (b : Bool) → p e ≡ b → openings (filter p es) ≤ openings es → openings (filter p (e ∷ es)) ≤ openings (e ∷ es)
+      go true is rest =
+          let this : openings (filter p (e ∷ es)) ≡ openings (e ∷ filter p es) = ap openings (cond-true (p e) (e ∷ filter p es) (filter p es) is) in
+          omega (arith, this, rest)
+      go false is rest =
+          let this : openings (filter p (e ∷ es)) ≡ openings (filter p es) = ap openings (cond-false (p e) (e ∷ filter p es) (filter p es) is) in
+          omega (arith, this, rest)
 
--- the same behind one more, in another grouping
-grouped : (pre before : List Line) (l : Line) (s : Source) → ((m : Line) → Says s.text m.who m.command → IsAdmitted (pre ++ l ∷ before) m.who m.command → ⊥)
-    → (m : Line) → Says s.text m.who m.command → IsAdmitted ((pre ++ l ∷ []) ++ before) m.who m.command → ⊥
-grouped pre before l s breaks m says admitted =
-    breaks m says (subst (λ (b : List Line). IsAdmitted b m.who m.command) (append_assoc pre (l ∷ []) before) admitted)
+  -- ---- callers
 
--- a line that breaks isn't one of lines that are admitted
-no_break : (pre before ls : List Line) (s : Source) (rest : List Source) → map source_of ls ≡ map source_of before ++ (s ∷ rest)
-    → AllByRecursion IsSaid ls → AllByRecursion IsSaid before → AreAdmitted pre ls
-    → ((m : Line) → Says s.text m.who m.command → IsAdmitted (pre ++ before) m.who m.command → ⊥) → ⊥
-no_break pre [] [] s rest e said other admitted breaks = absurd (cc)
-no_break pre [] (l ∷ ls) s rest e said other admitted breaks =
-    let h = head (source_of l) s (map source_of ls) rest e in
-    let says : Says s.text l.who l.command = subst (λ (x : Source). Says x.text l.who l.command) h.0 said.0 in
-    breaks l says (subst (λ (b : List Line). IsAdmitted b l.who l.command) (sym (append-nil pre)) admitted.0)
-no_break pre (b ∷ bs) [] s rest e said other admitted breaks = absurd (cc)
-no_break pre (b ∷ bs) (l ∷ ls) s rest e said other admitted breaks =
-    let h = head (source_of l) (source_of b) (map source_of ls) (map source_of bs ++ (s ∷ rest)) e in
-    let same : l ≡ b = said_once l b h.0 said.0 other.0 in
-    no_break (pre ++ l ∷ []) bs ls s rest h.1 said.1 other.1 admitted.1
-    (grouped pre bs l s (λ m says a. breaks m says (subst (λ (x : Line). IsAdmitted (pre ++ x ∷ bs) m.who m.command) same a)))
+  -- how often each of these callers opened it
+  abbrev by_each : List Caller → List Entry → ℕ
+  by_each [] es = 0
+  by_each (c ∷ cs) es = openings (made_by c es) + by_each cs es
 
--- sources that are lines break nowhere
-lines_dont_break : (sources : List Source) (ls : List Line) (n : ℕ) → AreLines sources ls → BreaksAt sources n → ⊥
-lines_dont_break sources ls n lines breaks =
-    no_break [] breaks.before ls (source n breaks.text) breaks.rest (sym lines.are ∙ breaks.are) lines.said breaks.lines.said lines.admitted breaks.breaks
+  by_none : (cs : List Caller) → by_each cs [] ≡ 0
+  by_none [] = refl
+  by_none (c ∷ cs) = let rest = by_none cs in omega (arith, rest)
 
--- two lines at which sources break are one
-one_break : (pre before other : List Line) (s t : Source) (rest more : List Source) → map source_of before ++ (s ∷ rest) ≡ map source_of other ++ (t ∷ more)
-    → AllByRecursion IsSaid before → AllByRecursion IsSaid other → AreAdmitted pre before → AreAdmitted pre other
-    → ((m : Line) → Says s.text m.who m.command → IsAdmitted (pre ++ before) m.who m.command → ⊥)
-    → ((m : Line) → Says t.text m.who m.command → IsAdmitted (pre ++ other) m.who m.command → ⊥) → s.number ≡ t.number
-one_break pre [] [] s t rest more e said told a b f g = ap (λ (x : Source). x.number) (head s t rest more e).0
-one_break pre [] (o ∷ os) s t rest more e said told a b f g =
-    let h = head s (source_of o) rest (map source_of os ++ (t ∷ more)) e in
-    let says : Says s.text o.who o.command = subst (λ (x : Source). Says x.text o.who o.command) (sym h.0) told.0 in
-    absurd (f o says (subst (λ (x : List Line). IsAdmitted x o.who o.command) (sym (append-nil pre)) b.0))
-one_break pre (l ∷ ls) [] s t rest more e said told a b f g =
-    let h = head (source_of l) t (map source_of ls ++ (s ∷ rest)) more e in
-    let says : Says t.text l.who l.command = subst (λ (x : Source). Says x.text l.who l.command) h.0 said.0 in
-    absurd (g l says (subst (λ (x : List Line). IsAdmitted x l.who l.command) (sym (append-nil pre)) a.0))
-one_break pre (l ∷ ls) (o ∷ os) s t rest more e said told a b f g =
-    let h = head (source_of l) (source_of o) (map source_of ls ++ (s ∷ rest)) (map source_of os ++ (t ∷ more)) e in
-    let same : l ≡ o = said_once l o h.0 said.0 told.0 in
-    one_break (pre ++ l ∷ []) ls os s t rest more h.1 said.1 told.1 a.1 (subst (λ (x : Line). AreAdmitted (pre ++ x ∷ []) os) (sym same) b.1)
-    (grouped pre ls l s f)
-    (grouped pre os l t (λ m says k. g m says (subst (λ (x : Line). IsAdmitted (pre ++ x ∷ os) m.who m.command) same k)))
+  -- An entry of none of them.
+  not_theirs : (cs : List Caller) (e : Entry) (es : List Entry) → ¬ (IsAmong e.caller cs) → by_each cs (e ∷ es) ≡ by_each cs es
+  not_theirs [] e es out = refl
+  not_theirs (c ∷ cs) e es out =
+      let this : made_by c (e ∷ es) ≡ made_by c es =
+      cond-false (are_one e.caller c) (e ∷ made_by c es) (made_by c es) (are_one-not e.caller c (λ is. out (inl is))) in
+      let rest = not_theirs cs e es (λ i. out (inr i)) in
+      (λ i. openings (this i) + rest i)
 
--- sources break at one line
-breaks_are_one : (sources : List Source) (m n : ℕ) → BreaksAt sources m → BreaksAt sources n → m ≡ n
-breaks_are_one sources m n a b =
-    one_break [] a.before b.before (source m a.text) (source n b.text) a.rest b.rest (sym a.are
-    ∙ b.are) a.lines.said b.lines.said a.lines.admitted b.lines.admitted
-    a.breaks b.breaks
+  -- An entry more is of one of them at most.
+  one_more : (cs : List Caller) (e : Entry) (es : List Entry) → AreApart cs → by_each cs (e ∷ es) ≤ one_if (is_opening e.call) + by_each cs es
+  one_more [] e es apart = omega arith
+  one_more (c ∷ cs) e es apart = go (are_one e.caller c) refl (one_more cs e es apart.1)
+    where
+      go : (b : Bool) → are_one e.caller c ≡ b → by_each cs (e ∷ es) ≤ one_if (is_opening e.call) + by_each cs es
+          → by_each (c ∷ cs) (e ∷ es) ≤ one_if (is_opening e.call) + by_each (c ∷ cs) es
+      go true is rest =
+          let this : openings (made_by c (e ∷ es)) ≡ openings (e ∷ made_by c es) =
+          ap openings (cond-true (are_one e.caller c) (e ∷ made_by c es) (made_by c es) is) in
+          let same : e.caller ≡ c = are_one-true e.caller c is in
+          let others = not_theirs cs e es (λ i. apart.0 (subst (λ (x : Caller). IsAmong x cs) same i)) in
+          omega (arith, this, others)
+      go false is rest =
+          let this : openings (made_by c (e ∷ es)) ≡ openings (made_by c es) =
+          ap openings (cond-false (are_one e.caller c) (e ∷ made_by c es) (made_by c es) is) in
+          omega (arith, this, rest)
 
--- ---- what isn't given back
+  parted : (cs : List Caller) (es : List Entry) → AreApart cs → by_each cs es ≤ openings es
+  parted cs [] apart = let none = by_none cs in omega (arith, none)
+  parted cs (e ∷ es) apart =
+      let more = one_more cs e es apart in
+      let rest = parted cs es apart in
+      omega (arith, more, rest)
 
--- one of lines that are all settled is settled
-settled_there : (all before after : List Line) (l : Line) → AllByRecursion (IsSettled all) (before ++ l ∷ after) → IsSettled all l
-settled_there all [] after l h = h.0
-settled_there all (b ∷ bs) after l h = settled_there all bs after l h.1
+  -- ---- lines
 
--- two first lines that aren't settled are one
-one_kept : (all before other after more : List Line) (l m : Line) → before ++ l ∷ after ≡ other ++ m ∷ more → AllByRecursion (IsSettled all) before
-    → AllByRecursion (IsSettled all) other → (IsSettled all l → ⊥) → (IsSettled all m → ⊥) → l ≡ m
-one_kept all [] [] after more l m e s t f g = (head l m after more e).0
-one_kept all [] (o ∷ os) after more l m e s t f g =
-    absurd (f (subst (IsSettled all) (sym (head l o after (os ++ m ∷ more) e).0) t.0))
-one_kept all (b ∷ bs) [] after more l m e s t f g = absurd (g (subst (IsSettled all) (head b m (bs ++ l ∷ after) more e).0 s.0))
-one_kept all (b ∷ bs) (o ∷ os) after more l m e s t f g =
-    one_kept all bs os after more l m (head b o (bs ++ l ∷ after) (os ++ m ∷ more) e).1 s.1 t.1 f g
+  abbrev pub opened_by : List Done → ℕ
+  opened_by [] = 0
+  opened_by (d ∷ ds) = openings d.run + opened_by ds
 
--- one line is the first that isn't settled
-kept_is_one : (all : List Line) (m n : ℕ) → KeptAt all m → KeptAt all n → m ≡ n
-kept_is_one all m n a b =
-    a.is ∙ ap (λ (l : Line). l.number) (one_kept all a.before b.before a.after b.after a.line b.line (sym a.parts ∙ b.parts) a.settled b.settled a.kept b.kept)
-    ∙ sym b.is
+  opened_by-append : (ds es : List Done) → opened_by (ds ++ es) ≡ opened_by ds + opened_by es
+  opened_by-append [] es = omega arith
+  opened_by-append (d ∷ ds) es = let rest = opened_by-append ds es in omega (arith, rest)
 
--- where all are settled there is none
-all_settled : (all : List Line) (n : ℕ) → AllByRecursion (IsSettled all) all → KeptAt all n → ⊥
-all_settled all n settled k =
-    k.kept (settled_there all k.before k.after k.line (subst (λ (ls : List Line). AllByRecursion (IsSettled all) ls) k.parts settled))
+  in_runs : (ds : List Done) → openings (runs ds) ≡ opened_by ds
+  in_runs [] = refl
+  in_runs (d ∷ ds) =
+      let parts = openings-append d.run (runs ds) in
+      let rest = in_runs ds in
+      omega (arith, parts, rest)
 
--- ---- the whole text
+  of_workers : (ws : List Player) (es : List Entry) → AllByRecursion (λ w. made_by w.caller es ≡ runs w.dones) ws
+      → opened_by (worked ws) ≡ by_each (map (λ (w : Player). w.caller) ws) es
+  of_workers [] es h = refl
+  of_workers (w ∷ ws) es h =
+      let parts = opened_by-append w.dones (worked ws) in
+      let mine = in_runs w.dones in
+      let own : openings (made_by w.caller es) ≡ openings (runs w.dones) = ap openings h.0 in
+      let rest = of_workers ws es h.1 in
+      omega (arith, parts, mine, own, rest)
 
--- the pool's line and the rest are those of the text
-first_is : (bytes : List ℕ) (p q : Source) (rest more : List Source) → sources_of bytes ≡ p ∷ rest → sources_of bytes ≡ q ∷ more → (p ≡ q) × (rest ≡ more)
-first_is bytes p q rest more e f = head p q rest more (sym e ∙ f)
+  -- The history has what the lines of a report opened.
+  pub in_history : (history : List Entry) (p : Played) → AreApart (callers p) → IsCut history p → opened_by (all_done p) ≤ openings history
+  in_history history p apart cut =
+      let whole : openings history ≡ openings (cut.before ++ (cut.between ++ cut.after)) = ap openings cut.parts in
+      let outer = openings-append cut.before (cut.between ++ cut.after) in
+      let inner = openings-append cut.between cut.after in
+      let first = parted (p.main ∷ []) cut.before ((λ i. i), tt) in
+      let first_own : openings (made_by p.main cut.before) ≡ openings (runs p.firsts) = ap openings cut.firsts in
+      let first_is = in_runs p.firsts in
+      let workers = parted (map (λ (w : Player). w.caller) p.players) cut.between apart.1 in
+      let workers_is = of_workers p.players cut.between cut.players in
+      let last = parted (p.main ∷ []) cut.after ((λ i. i), tt) in
+      let last_own : openings (made_by p.main cut.after) ≡ openings (runs p.lasts) = ap openings cut.lasts in
+      let last_is = in_runs p.lasts in
+      let all = opened_by-append p.firsts (worked p.players ++ p.lasts) in
+      let rest = opened_by-append (worked p.players) p.lasts in
+      omega (arith, whole, outer, inner, first, first_own, first_is, workers, workers_is, last, last_own, last_is, all, rest)
 
--- a text without lines has no first one
-none_first : (bytes : List ℕ) (p : Source) (rest : List Source) → sources_of bytes ≡ [] → sources_of bytes ≡ p ∷ rest → ⊥
-none_first bytes p rest e f = let k : [] ≡ p ∷ rest = sym e ∙ f in absurd (cc)
+  -- So they opened it once at most.
+  pub all_once : (limit : ℕ) (history : List Entry) (p : Played) → AreApart (callers p) → IsCut history p → IsLegal limit [] history
+      → opened_by (all_done p) ≤ 1
+  all_once limit history p apart cut legal =
+      let one = once limit [] history legal in
+      let all = in_history history p apart cut in
+      omega (arith, one, all)
 
--- one line doesn't say a pool and say none
-no_shape : (bytes : List ℕ) (p q : Source) (rest more : List Source) (z : Shape) → sources_of bytes ≡ p ∷ rest → sources_of bytes ≡ q ∷ more
-    → ((z : Shape) → SaysPool p.text z → ⊥) → SaysPool q.text z → ⊥
-no_shape bytes p q rest more z e f none says =
-    none z (subst (λ (x : Source). SaysPool x.text z) (sym (first_is bytes p q rest more e f).0) says)
-
--- a text is refused at one line
-pub one_line : (bytes : List ℕ) (m n : ℕ) → IsRefused bytes m → IsRefused bytes n → m ≡ n
-one_line bytes m n (no_pool e i) (no_pool f j) = i ∙ sym j
-one_line bytes m n (no_pool e i) (bad_pool q more f none j) = absurd (none_first bytes q more e f)
-one_line bytes m n (no_pool e i) (bad_line q more z f says b) = absurd (none_first bytes q more e f)
-one_line bytes m n (no_pool e i) (not_settled q more z ls f says lines k) = absurd (none_first bytes q more e f)
-one_line bytes m n (bad_pool p rest e none i) (no_pool f j) = absurd (none_first bytes p rest f e)
-one_line bytes m n (bad_pool p rest e none i) (bad_pool q more f other j) =
-    i ∙ ap (λ (x : Source). x.number) (first_is bytes p q rest more e f).0 ∙ sym j
-one_line bytes m n (bad_pool p rest e none i) (bad_line q more z f says b) = absurd (no_shape bytes p q rest more z e f none says)
-one_line bytes m n (bad_pool p rest e none i) (not_settled q more z ls f says lines k) = absurd (no_shape bytes p q rest more z e f none says)
-one_line bytes m n (bad_line p rest z e says a) (no_pool f j) = absurd (none_first bytes p rest f e)
-one_line bytes m n (bad_line p rest z e says a) (bad_pool q more f none j) = absurd (no_shape bytes q p more rest z f e none says)
-one_line bytes m n (bad_line p rest z e says a) (bad_line q more y f told b) =
-    breaks_are_one rest m n a (subst (λ (r : List Source). BreaksAt r n) (sym (first_is bytes p q rest more e f).1) b)
-one_line bytes m n (bad_line p rest z e says a) (not_settled q more y ls f told lines k) =
-    absurd (lines_dont_break rest ls m (subst (λ (r : List Source). AreLines r ls) (sym (first_is bytes p q rest more e f).1) lines) a)
-one_line bytes m n (not_settled p rest z ls e says lines k) (no_pool f j) = absurd (none_first bytes p rest f e)
-one_line bytes m n (not_settled p rest z ls e says lines k) (bad_pool q more f none j) = absurd (no_shape bytes q p more rest z f e none says)
-one_line bytes m n (not_settled p rest z ls e says lines k) (bad_line q more y f told b) =
-    absurd (lines_dont_break rest ls n lines (subst (λ (r : List Source). BreaksAt r n) (sym (first_is bytes p q rest more e f).1) b))
-one_line bytes m n (not_settled p rest z ls e says lines k) (not_settled q more y ms f told others l) =
-    let same : ls ≡ ms = lines_are_one rest ls ms lines (subst (λ (r : List Source). AreLines r ms) (sym (first_is bytes p q rest more e f).1) others) in
-    kept_is_one ls m n k (subst (λ (all : List Line). KeptAt all n) (sym same) l)
-
--- a script isn't refused
-pub not_both : (bytes : List ℕ) (s : ScriptOf) (n : ℕ) → IsScript bytes s → IsRefused bytes n → ⊥
-not_both bytes s n a (no_pool f j) = none_first bytes a.pool a.rest f a.sources
-not_both bytes s n a (bad_pool q more f none j) = no_shape bytes q a.pool more a.rest s.shape f a.sources none a.says_pool
-not_both bytes s n a (bad_line q more z f says b) =
-    lines_dont_break a.rest s.lines n a.lines (subst (λ (r : List Source). BreaksAt r n) (sym (first_is bytes a.pool q a.rest more a.sources f).1) b)
-not_both bytes s n a (not_settled q more z ls f says lines k) =
-    let same : s.lines ≡ ls =
-    lines_are_one a.rest s.lines ls a.lines (subst (λ (r : List Source). AreLines r ls) (sym (first_is bytes a.pool q a.rest more a.sources f).1) lines) in
-    all_settled s.lines n a.settled (subst (λ (all : List Line). KeptAt all n) (sym same) k)
-
--- shapes that are one but for the passes, which are these lines'
-shapes : (y z : Shape) → with_one y ≡ with_one z → y.passes ≡ z.passes → y ≡ z
-shapes y z e f = again y.passes z.passes y z e f refl refl
-  where
-    again : (p q : ℕ) (y z : Shape) → with_one y ≡ with_one z → p ≡ q → p ≡ y.passes → q ≡ z.passes → y ≡ z
-    again p q y z e f g h =
-        let k : record (with_one y) { passes = p } ≡ record (with_one z) { passes = p } = ap (λ (x : Shape). record x { passes = p }) e in
-        ap (λ (n : ℕ). record y { passes = n }) (sym g) ∙ k ∙ ap (λ (n : ℕ). record z { passes = n }) (f ∙ h)
-
--- a text is one script
-pub one_script : (bytes : List ℕ) (s t : ScriptOf) → IsScript bytes s → IsScript bytes t → s ≡ t
-one_script bytes s t a b =
-    let first = first_is bytes a.pool b.pool a.rest b.rest a.sources b.sources in
-    let lines : s.lines ≡ t.lines = lines_are_one a.rest s.lines t.lines a.lines (subst (λ (r : List Source). AreLines r t.lines) (sym first.1) b.lines) in
-    let ones : ◌≡◌ {A = Option Shape} (Some (with_one s.shape)) (Some (with_one t.shape)) =
-    sym (shape_row s.shape a.says_pool.is_valid) ∙ ap shape_named (sym a.says_pool.spelled ∙ ap (λ (x : Source). x.text) first.0 ∙ b.says_pool.spelled)
-    ∙ shape_row t.shape b.says_pool.is_valid in
-    let shape : s.shape ≡ t.shape =
-    shapes s.shape t.shape (same_Some (with_one s.shape) (with_one t.shape) ones) (a.passes ∙ ap passes_of lines ∙ sym b.passes) in
-    same_script s.shape t.shape s.lines t.lines shape lines
-  where
-    same_script : (y z : Shape) (ls ms : List Line) → y ≡ z → ls ≡ ms → script_of y ls ≡ script_of z ms
-    same_script y z ls ms e f = cc
+  -- An arena that a history opens is there behind it.
+  pub opened_behind : (limit : ℕ) (s : State) (es : List Entry) → IsLegal limit s es → 1 ≤ openings es → has_arena (state_after limit s es) a ≡ true
+  opened_behind limit s [] l some = absurd (omega (arith, some))
+  opened_behind limit s (e ∷ es) l some = go (is_opening e.call) refl (opened_behind limit (after limit s e) es l.2)
+    where
+      go : (b : Bool) → is_opening e.call ≡ b → (1 ≤ openings es → has_arena (state_after limit (after limit s e) es) a ≡ true)
+          → has_arena (state_after limit s (e ∷ es)) a ≡ true
+      go true is rest = opened_there limit s (e ∷ es) e a l (inl refl) (opening_is e.call is)
+      go false is rest = let one : one_if (is_opening e.call) ≡ 0 = ap one_if is in rest (omega (arith, one, some))

@@ -1,7 +1,4 @@
-pub mod Knowing
-pub mod Laws
-pub mod Reader
-pub mod Rules
-pub mod Scripts
-pub mod Syntax
-pub mod Taking
+pub mod Alive
+pub mod Players
+pub mod Runs
+pub mod Staying

@@ -1,6 +1,6 @@
-ghost use Rattle.fm_script.specs.Laws.{EachTextHasOneAnswer};
+ghost use Rattle.fm_script.specs.Alive.{AliveFit};
 
-/// A text spells one script at most, is refused at one line at most, and never both.
-pub fn each_text_has_one_answer()
-    ensures { EachTextHasOneAnswer }
+/// A report tells at most as many arenas that are alive as its pool has slots.
+pub fn alive_arenas_fit()
+    ensures { AliveFit }
 {}

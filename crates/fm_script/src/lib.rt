@@ -1,31 +1,14 @@
-//! Scripts: lines that name memory calls, who makes each, and the names that they make and use.
+//! Whole scripts: a pass for the first lines and the last ones, and one for each worker between them.
 #![tactic(auto)]
 
-mod cell;
-mod command;
-mod cutting;
-mod knowing;
+mod joining;
 mod laws;
-mod line;
-mod maker;
-mod names;
-mod parse;
-mod pool_line;
-mod reading;
-mod script;
-mod sources;
-mod text;
-mod thing;
-mod using;
-mod who;
-mod words;
+mod lines;
+mod main_lines;
+mod over;
+mod player;
+mod players;
+mod run;
 
-pub use cell::Cell;
-pub use command::Command;
-pub use laws::each_text_has_one_answer;
-pub use line::Line;
-pub use parse::parse_script;
-pub use script::Script;
-pub use text::Text;
-pub use thing::{Role, Thing};
-pub use who::Who;
+pub use laws::alive_arenas_fit;
+pub use run::run_script;

@@ -5,7 +5,7 @@ use Rattle.fm_base.specs.declared.arena_id.ArenaId.{ArenaId}
 use Rattle.fm_base.specs.Arenas.{has_arena}
 use Rattle.fm_base.specs.Calls.{Entry}
 use Rattle.fm_base.specs.Histories.{state_after}
-use Rattle.fm_pool_facts.specs.Views.{View, IsKnown, limit_of}
+use Rattle.fm_rule_facts.specs.Views.{View, IsKnown, limit_of}
 use Rattle.fm_rule.specs.declared.pool.Pool.{Pool}
 use Rattle.fm_rule.specs.Passes.{IsOf}
 use Rattle.fm_rule.specs.Finishing.{FinishedView, Finishes}

@@ -1,13 +1,13 @@
 ghost use Rattle.std.specs.Prelude.{◌≡◌, None, All};
-ghost use Rattle.fm_script.specs.Syntax.{IsSpelled};
+ghost use Rattle.fm_script_text.specs.Syntax.{IsSpelled};
 
 use crate::written::script_of;
 use fm_arena::Shared;
 use fm_base::{Kind, Refusal};
 use fm_io::FreeGate;
 use fm_rule::Pool;
-use fm_run::{AtGate, Numbers, Reply, Table, count_lines, in_order, play};
-use fm_script::{Script, Who};
+use fm_script_lines::{AtGate, Numbers, Reply, Table, count_lines, in_order, play};
+use fm_script_text::{Script, Who};
 use std::alloc::AllocGlobal;
 use std::process::Abort;
 use std::sync::Wait;

@@ -1,6 +1,6 @@
 use fm_base::{Kind, Refusal};
 use fm_lanes::{Order, ValueKind};
-use fm_script::{Command, Who, parse_script};
+use fm_script_text::{Command, Who, parse_script};
 use std::alloc::Global;
 use std::test::Fail;
 

@@ -5,8 +5,8 @@ mod wide;
 
 use crate::written::script_of;
 use fm_io::{FreeGate, Gate};
-use fm_play::run_script;
-use fm_report::print_report;
+use fm_script::run_script;
+use fm_script_report::print_report;
 use std::alloc::AllocGlobal;
 use std::process::Abort;
 use std::sync::Wait;

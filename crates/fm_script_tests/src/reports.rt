@@ -1,18 +1,18 @@
 ghost use Rattle.std.specs.Prelude.{◌≡◌, ◌≤◌, length, true};
 ghost use Rattle.fm_base.specs.Arenas.{has_arena};
-ghost use Rattle.fm_calls.specs.Kept.{Lasts};
+ghost use Rattle.fm_rule_calls.specs.Kept.{Lasts};
 ghost use Rattle.fm_arena.specs.Shares.{CanShare};
 ghost use Rattle.fm_gate.specs.Standing.{CanVisit, IsInside, IsOutside};
-ghost use Rattle.fm_pool_facts.specs.Views.{IsKnown, given_of};
+ghost use Rattle.fm_rule_facts.specs.Views.{IsKnown, given_of};
 ghost use Rattle.fm_rule.specs.GivenBytes.{state_of};
 
 use fm_base::{ArenaId, Caller, Kind, Refusal};
 use fm_close::close;
 use fm_gate::{a_crew_stands, allocate, enter, leave, open_arena, store};
-use fm_report::{Report, print_report, report_lines};
 use fm_rule::{Finished, Pass, Pool};
-use fm_run::{Numbers, Reply};
-use fm_script::{Line, Script, parse_script};
+use fm_script_lines::{Numbers, Reply};
+use fm_script_report::{Report, print_report, report_lines};
+use fm_script_text::{Line, Script, parse_script};
 use fm_words::Shape;
 use std::alloc::AllocGlobal;
 use std::process::Abort;

@@ -1,8 +1,8 @@
 ghost use Rattle.std.specs.Prelude.{All};
-ghost use Rattle.fm_play.specs.Runs.{IsWritten};
-ghost use Rattle.fm_script.specs.Syntax.{IsSpelled};
+ghost use Rattle.fm_script.specs.Runs.{IsWritten};
+ghost use Rattle.fm_script_text.specs.Syntax.{IsSpelled};
 
-use fm_script::{Script, parse_script};
+use fm_script_text::{Script, parse_script};
 use std::alloc::AllocGlobal;
 use std::process::Abort;
 

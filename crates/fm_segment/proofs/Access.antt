@@ -14,7 +14,7 @@ use Rattle.fm_layout.specs.Tree as tree
 use Rattle.fm_layout.specs.Tree.{Tree, Label, alignment_of}
 use Rattle.fm_layout.specs.Size.{size_of}
 use Rattle.fm_layout.specs.Parts.{form_of, IsValue}
-use Rattle.fm_access.specs.Found.{DoesAt}
+use Rattle.fm_segment_access.specs.Found.{DoesAt}
 use Rattle.fm_segment.specs.Access.{if_tiling, HasKind, IsKnown, place_of, writable_place_of, offset_of_index}
 use Rattle.fm_segment.specs.Region.{Region}
 

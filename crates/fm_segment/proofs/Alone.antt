@@ -12,10 +12,10 @@ use Rattle.fm_lanes.specs.Value.{kind_of}
 use Rattle.fm_layout.specs.Tree as tree
 use Rattle.fm_layout.specs.Tree.{Tree, Label, alignment_of}
 use Rattle.fm_layout.specs.Size.{size_of}
-use Rattle.fm_access.specs.Alone.{bytes_of_arena, ChangesBytes}
-use Rattle.fm_access.specs.Values as here
-use Rattle.fm_access.proofs.Causes.{placed_ok}
-use Rattle.fm_access.proofs.Values.{puts_then_gets}
+use Rattle.fm_segment_access.specs.Alone.{bytes_of_arena, ChangesBytes}
+use Rattle.fm_segment_access.specs.Values as here
+use Rattle.fm_segment_access.proofs.Causes.{placed_ok}
+use Rattle.fm_segment_access.proofs.Values.{puts_then_gets}
 use Rattle.fm_segment.specs.Access.{HasKind, place_of, writable_place_of, if_tiling, Fits}
 use Rattle.fm_segment.specs.Alone.{bytes_of_region, FindsValue, PutsValue, SetsThenGets}
 use Rattle.fm_segment.specs.Region.{Region}

@@ -7,7 +7,7 @@ use Rattle.fm_base.specs.declared.refusal.Refusal.{Refusal}
 use Rattle.fm_base.specs.declared.refusal.Refusal.TheVariants.{ReadOnly, Unsupported}
 use Rattle.fm_layout.specs.Tree.{Tree, alignment_of}
 use Rattle.fm_layout.specs.Size.{size_of}
-use Rattle.fm_access.proofs.Causes.{Causes, place_causes, placed_causes, write_causes, tested_causes, tested_ok, if_tested, unless_tested}
+use Rattle.fm_segment_access.proofs.Causes.{Causes, place_causes, placed_causes, write_causes, tested_causes, tested_ok, if_tested, unless_tested}
 use Rattle.fm_segment.specs.Access.{place_of, writable_place_of, if_tiling, GetCause, SetCause, IndexCause}
 use Rattle.fm_segment.specs.Region.{Region}
 

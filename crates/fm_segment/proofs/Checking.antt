@@ -8,11 +8,11 @@ use Rattle.fm_base.specs.declared.refusal.Refusal.TheVariants.{ReadOnly, Bounds,
 use Rattle.fm_base.specs.Calls.{Entry}
 use Rattle.fm_base.specs.Outcomes.{Lasts}
 use Rattle.fm_base.specs.View.{View}
-use Rattle.fm_access.specs.Found.{UseCause}
-use Rattle.fm_access.specs.Learnt.{After}
-use Rattle.fm_access.proofs.Learning.{if_err, after_none, after_said}
-use Rattle.fm_copies.specs.Learnt.{BothCause}
-use Rattle.fm_copies.specs.Sides.{side}
+use Rattle.fm_segment_access.specs.Found.{UseCause}
+use Rattle.fm_segment_access.specs.Learnt.{After}
+use Rattle.fm_segment_access.proofs.Learning.{if_err, after_none, after_said}
+use Rattle.fm_segment_copies.specs.Learnt.{BothCause}
+use Rattle.fm_segment_copies.specs.Sides.{side}
 use Rattle.fm_segment.specs.Alone.{StaysOutAfter}
 use Rattle.fm_segment.specs.Copies.{checked_copy, FitBoth, CopyCause}
 use Rattle.fm_segment.specs.Fills.{DoesAfter, FillCause, checked_write}

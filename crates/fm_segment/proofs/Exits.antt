@@ -5,8 +5,8 @@ use Rattle.std.proofs.lemmas.Result.{err_from_is_err_and}
 use Rattle.fm_base.specs.declared.refusal.Refusal.{Refusal}
 use Rattle.fm_base.specs.Calls.{Entry}
 use Rattle.fm_base.specs.View.{View, Did}
-use Rattle.fm_access.specs.Found.{DoesAt}
-use Rattle.fm_access.proofs.Learning.{refused_at}
+use Rattle.fm_segment_access.specs.Found.{DoesAt}
+use Rattle.fm_segment_access.proofs.Learning.{refused_at}
 
 -- The refusal that came.
 pub gave : {X : Type 0} {result : Result X Refusal} {e : Refusal} → IsErrAnd result (λ y. y ≡ e) → result ≡ Err e

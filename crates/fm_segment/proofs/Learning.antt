@@ -7,11 +7,11 @@ use Rattle.fm_lanes.specs.declared.value.Value.{Value}
 use Rattle.fm_layout.specs.Tree as tree
 use Rattle.fm_layout.specs.Tree.{Tree}
 use Rattle.fm_layout.specs.Size.{size_of}
-use Rattle.fm_access.proofs.Causes.{Causes}
-use Rattle.fm_access.proofs.Learning.{after_get_at, after_put_at, after_said}
-use Rattle.fm_copies.specs.Alone.{bytes_at, first_difference}
-use Rattle.fm_copies.specs.Learnt.{AfterCompare}
-use Rattle.fm_copies.specs.Sides.{side}
+use Rattle.fm_segment_access.proofs.Causes.{Causes}
+use Rattle.fm_segment_access.proofs.Learning.{after_get_at, after_put_at, after_said}
+use Rattle.fm_segment_copies.specs.Alone.{bytes_at, first_difference}
+use Rattle.fm_segment_copies.specs.Learnt.{AfterCompare}
+use Rattle.fm_segment_copies.specs.Sides.{side}
 use Rattle.fm_segment.specs.Access.{DoesGetAt, DoesSetAt, place_of, writable_place_of, place_at_index, writable_place_at_index}
 use Rattle.fm_segment.specs.Alone.{common_bytes}
 use Rattle.fm_segment.specs.Comparisons.{common_size, mismatch_of}

@@ -12,8 +12,8 @@ use Rattle.fm_lanes.specs.declared.value_kind.ValueKind.{ValueKind}
 use Rattle.fm_layout.specs.Tree as tree
 use Rattle.fm_layout.specs.Tree.{Tree, alignment_of}
 use Rattle.fm_layout.specs.Size.{size_of}
-use Rattle.fm_access.specs.Found.{DoesAt, if_placed, PlaceCause, WriteCause}
-use Rattle.fm_access.specs.Values.{DoesGetValue, DoesPutValue}
+use Rattle.fm_segment_access.specs.Found.{DoesAt, if_placed, PlaceCause, WriteCause}
+use Rattle.fm_segment_access.specs.Values.{DoesGetValue, DoesPutValue}
 use Rattle.fm_segment.specs.Region.{Region}
 
 -- the memory knows its arena, and has given its bytes there

@@ -8,9 +8,9 @@ use Rattle.fm_lanes.specs.Coding.{value_of, bytes_of_value}
 use Rattle.fm_layout.specs.Tree as tree
 use Rattle.fm_layout.specs.Tree.{Tree}
 use Rattle.fm_layout.specs.Size.{size_of}
-use Rattle.fm_access.specs.Alone.{bytes_of_arena, ChangesBytes}
-use Rattle.fm_copies.specs.Sides.{side}
-use Rattle.fm_copies.specs.Alone.{bytes_at, first_difference, TakesBytes}
+use Rattle.fm_segment_access.specs.Alone.{bytes_of_arena, ChangesBytes}
+use Rattle.fm_segment_copies.specs.Sides.{side}
+use Rattle.fm_segment_copies.specs.Alone.{bytes_at, first_difference, TakesBytes}
 use Rattle.fm_segment.specs.Access.{Fits}
 use Rattle.fm_segment.specs.Comparisons.{common_size, mismatch_of}
 use Rattle.fm_segment.specs.Region.{Region}

@@ -3,9 +3,9 @@ use Rattle.std.specs.Prelude.{◌≡◌, ℕ, ℤ, pos, negsuc, ◌==◌, min, O
 use Rattle.fm_base.specs.declared.caller.Caller.{Caller}
 use Rattle.fm_base.specs.declared.refusal.Refusal.{Refusal}
 use Rattle.fm_base.specs.Calls.{Entry}
-use Rattle.fm_copies.specs.Sides.{side}
-use Rattle.fm_copies.specs.Comparisons.{DoesCompare}
-use Rattle.fm_copies.specs.Learnt.{BothCause}
+use Rattle.fm_segment_copies.specs.Sides.{side}
+use Rattle.fm_segment_copies.specs.Comparisons.{DoesCompare}
+use Rattle.fm_segment_copies.specs.Learnt.{BothCause}
 use Rattle.fm_segment.specs.Region.{Region}
 
 -- how many bytes are compared

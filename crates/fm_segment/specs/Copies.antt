@@ -6,8 +6,8 @@ use Rattle.fm_base.specs.declared.refusal.Refusal.{Refusal}
 use Rattle.fm_base.specs.declared.refusal.Refusal.TheVariants.{ReadOnly, Bounds, WrongThread, Closed}
 use Rattle.fm_base.specs.Arenas.{MayUse}
 use Rattle.fm_base.specs.Calls.{Entry}
-use Rattle.fm_copies.specs.Sides.{side}
-use Rattle.fm_copies.specs.Copies.{DoesCopy}
+use Rattle.fm_segment_copies.specs.Sides.{side}
+use Rattle.fm_segment_copies.specs.Copies.{DoesCopy}
 use Rattle.fm_segment.specs.Fills.{DoesAfter}
 use Rattle.fm_segment.specs.Region.{Region}
 

@@ -4,8 +4,8 @@ use Rattle.fm_base.specs.declared.caller.Caller.{Caller}
 use Rattle.fm_base.specs.declared.refusal.Refusal.{Refusal}
 use Rattle.fm_base.specs.declared.refusal.Refusal.TheVariants.{ReadOnly}
 use Rattle.fm_base.specs.Calls.{Entry}
-use Rattle.fm_access.specs.Found.{UseCause, WriteCause}
-use Rattle.fm_access.specs.Ranges.{DoesFill}
+use Rattle.fm_segment_access.specs.Found.{UseCause, WriteCause}
+use Rattle.fm_segment_access.specs.Ranges.{DoesFill}
 use Rattle.fm_segment.specs.Region.{Region}
 
 -- a write of so many bytes is refused where there is a byte, and the segment is read-only

@@ -7,10 +7,10 @@ use Rattle.fm_lanes.specs.Value.{kind_of}
 use Rattle.fm_layout.specs.Parts.{IsValue}
 use Rattle.fm_layout.specs.Size.{size_of}
 use Rattle.fm_layout.specs.Tree.{Tree}
-use Rattle.fm_access.specs.Alone.{ChangesBytes, StaysOut}
-use Rattle.fm_access.specs.Found.{StaysOutOf}
-use Rattle.fm_access.specs.Learnt.{After}
-use Rattle.fm_copies.specs.Alone as copies
+use Rattle.fm_segment_access.specs.Alone.{ChangesBytes, StaysOut}
+use Rattle.fm_segment_access.specs.Found.{StaysOutOf}
+use Rattle.fm_segment_access.specs.Learnt.{After}
+use Rattle.fm_segment_copies.specs.Alone as copies
 use Rattle.fm_segment.specs.Access.{DoesGetAt, DoesSetAt, GetCause, SetCause, IndexCause, HasKind, IsKnown, place_of, writable_place_of, place_at_index, writable_place_at_index}
 use Rattle.fm_segment.specs.Alone.{FindsValue, PutsValue, FillsBytes, CopiesBytes, FindsMismatch, StaysOutAfter}
 use Rattle.fm_segment.specs.Comparisons.{DoesMismatch, MismatchCause}

@@ -5,7 +5,7 @@ use Rattle.fm_base.specs.declared.refusal.Refusal.{Refusal}
 use Rattle.fm_base.specs.declared.refusal.Refusal.TheVariants.{ReadOnly, Bounds, WrongThread, Closed}
 use Rattle.fm_base.specs.Arenas.{MayUse}
 use Rattle.fm_base.specs.Calls.{Entry}
-use Rattle.fm_access.specs.Runs.{DoesPutAll}
+use Rattle.fm_segment_access.specs.Runs.{DoesPutAll}
 use Rattle.fm_segment.specs.Fills.{DoesAfter}
 use Rattle.fm_segment.specs.Region.{Region}
 

@@ -3,8 +3,8 @@ use Rattle.std.proofs.Common.{◌≡◌, ℕ, ◌<◌, List, get_or, sym, subst,
 use Rattle.std.specs.Prelude.{ℤ}
 use Rattle.std.proofs.lemmas.Grind.{same_number_lists}
 use Rattle.std.proofs.lemmas.List.FromFn.{length-map-range_with_len, get_or-map-range_with_len}
-use Rattle.fm_pooled.specs.Shown.{ShowsQuery}
-use Rattle.fm_query.specs.Plan.{Plan}
+use Rattle.fm_top_pooled.specs.Shown.{ShowsQuery}
+use Rattle.fm_records_query.specs.Plan.{Plan}
 use Rattle.fm_records.specs.Answers.{answer}
 use Rattle.fm_rule.specs.Finishing.{FinishedView}
 use Rattle.fm_workers.specs.Counts.{AreCounts, how_many, listed, number_of}

@@ -4,14 +4,14 @@ use Rattle.std.specs.List.{flat_map, range_with_len}
 use Rattle.std.proofs.lemmas.List.{length-append}
 use Rattle.std.proofs.lemmas.List.FromFn.{length-range_with_len}
 use Rattle.std.proofs.lemmas.Nat.{mod-mul-add}
-use Rattle.fm_bytes.specs.Bytes.{bytes_of}
-use Rattle.fm_bytes.specs.Signed.{unsigned_of}
-use Rattle.fm_bytes.proofs.Bytes.{length-bytes_of}
-use Rattle.fm_demo.specs.Records.{amount_of, made_layout, made_record, made_records}
-use Rattle.fm_load.specs.Limits.{record_file_limit}
-use Rattle.fm_pooled.specs.Shown.{ShowsBoth}
-use Rattle.fm_query.specs.Parsed.{IsParsed}
-use Rattle.fm_query.specs.Plan.{Plan}
+use Rattle.fm_base_bytes.specs.Bytes.{bytes_of}
+use Rattle.fm_base_bytes.specs.Signed.{unsigned_of}
+use Rattle.fm_base_bytes.proofs.Bytes.{length-bytes_of}
+use Rattle.fm_top_demo.specs.Records.{amount_of, made_layout, made_record, made_records}
+use Rattle.fm_top_load.specs.Limits.{record_file_limit}
+use Rattle.fm_top_pooled.specs.Shown.{ShowsBoth}
+use Rattle.fm_records_query.specs.Parsed.{IsParsed}
+use Rattle.fm_records_query.specs.Plan.{Plan}
 use Rattle.fm_records.specs.Answers.{answer}
 use Rattle.fm_records.specs.Texts.{answer_text}
 use Rattle.fm_records.specs.declared.found.Found.{Found}

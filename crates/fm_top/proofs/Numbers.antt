@@ -11,7 +11,7 @@ use Rattle.std.proofs.lemmas.Slice.Eq.{bytes_eq-Decides}
 use Rattle.fm_lanes.specs.Named.{kind_text}
 use Rattle.fm_lanes.proofs.Naming.{kind_text-injective}
 use Rattle.fm_lanes.specs.declared.value_kind.ValueKind.{ValueKind}
-use Rattle.fm_options.specs.Options.{texts}
+use Rattle.fm_top_options.specs.Options.{texts}
 use Rattle.fm_top.specs.Words.{IsUpTo, HasValue, IsSum, five}
 
 -- what spells a number is read as that number

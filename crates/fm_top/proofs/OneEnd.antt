@@ -2,16 +2,16 @@
 use Rattle.std.proofs.Common.{◌≡◌, ℕ, List, Option, Some, Result, Ok, Err, refl, sym, ap, subst, ◌∙◌, arith}
 use Rattle.fm_base.specs.declared.refusal.Refusal.{Refusal}
 use Rattle.fm_base.specs.declared.refusal.Refusal.TheVariants.{NoSize, ElementRagged}
-use Rattle.fm_demo.specs.Records.{made_layout}
+use Rattle.fm_top_demo.specs.Records.{made_layout}
 use Rattle.fm_io.specs.Files.{Contents, file_of}
 use Rattle.fm_lanes.specs.declared.value_kind.ValueKind.{ValueKind}
 use Rattle.fm_layout.specs.Tree.{Tree}
 use Rattle.fm_ljson.specs.Answer.{layout_of_json}
-use Rattle.fm_query.specs.Plan.{Plan}
-use Rattle.fm_query.proofs.Lists.{one_list, one_list_refusal, refused_lists_none}
-use Rattle.fm_query.proofs.OnePlan.{one_plan, refused_has_none}
-use Rattle.fm_query.proofs.OneRefusal.{no_record_once, one_refusal}
-use Rattle.fm_query.specs.Records.{IsRecord, IsNoRecord}
+use Rattle.fm_records_query.specs.Plan.{Plan}
+use Rattle.fm_records_query.proofs.Lists.{one_list, one_list_refusal, refused_lists_none}
+use Rattle.fm_records_query.proofs.OnePlan.{one_plan, refused_has_none}
+use Rattle.fm_records_query.proofs.OneRefusal.{no_record_once, one_refusal}
+use Rattle.fm_records_query.specs.Records.{IsRecord, IsNoRecord}
 use Rattle.fm_top.specs.Demos.{DemoEnds, made_text}
 use Rattle.fm_top.specs.Laws.{PrintAlike, HaveOneOutcome}
 use Rattle.fm_top.specs.Outcome.{Outcome, RecordsEnd, no_file, too_many, uneven, even, IsSummed, layout_refused, query_refused}

@@ -8,11 +8,11 @@ use Rattle.fm_layout.specs.Tree.{Tree}
 use Rattle.fm_base.specs.declared.refusal.Refusal.{Refusal}
 use Rattle.fm_base.specs.declared.refusal.Refusal.TheVariants.{Memory}
 use Rattle.fm_top.specs.Found.{IsFound, OfFound}
-use Rattle.fm_load.specs.Limits.{record_file_limit}
+use Rattle.fm_top_load.specs.Limits.{record_file_limit}
 use Rattle.fm_top.specs.Outcome.{Outcome, RecordsEnd, uneven, ragged, layout_of_file, too_long, layout_refused, query_refused, layout_file_limit}
 use Rattle.fm_top.specs.Queries.{IsLayoutRefused, IsUnplanned, TextEnds, unplanned, AskEnds, bad_layout}
 use Rattle.fm_top.specs.Run.{HasOutcome}
-use Rattle.fm_load.specs.Whole.{IsWhole, IsOver}
+use Rattle.fm_top_load.specs.Whole.{IsWhole, IsOver}
 use Rattle.fm_top.specs.Words.{Layout, Ask}
 use Rattle.fm_top.specs.declared.layout_text.LayoutText.{LayoutText}
 use Rattle.fm_top.specs.declared.question.Question.{Question}

@@ -4,8 +4,8 @@ use Rattle.std.specs.Prelude.{MatchBool}
 use Rattle.fm_base.specs.declared.refusal.Refusal.{Refusal}
 use Rattle.fm_base.specs.declared.refusal.Refusal.TheVariants.{Memory}
 use Rattle.fm_layout.specs.Tree.{Tree}
-use Rattle.fm_query.specs.Parsed.{IsNoQuery}
-use Rattle.fm_query.specs.Plan.{Plan}
+use Rattle.fm_records_query.specs.Parsed.{IsNoQuery}
+use Rattle.fm_records_query.specs.Plan.{Plan}
 use Rattle.fm_workers.specs.Counts.{IsTally}
 use Rattle.fm_top.specs.Queries.{IsPlanned, IsTextRefused, IsUnplanned}
 use Rattle.fm_top.specs.declared.question.Question.{Question}

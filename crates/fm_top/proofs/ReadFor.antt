@@ -3,13 +3,13 @@ use Rattle.std.proofs.Common.{◌≡◌, ℕ, List, [], ◌∷◌, ◌++◌, Opt
 use Rattle.fm_io.specs.Files.{Contents}
 use Rattle.fm_io.specs.Reads.{Read, ReadsOn, Next, Ended}
 use Rattle.fm_io.proofs.Followed.{ReadsOn-none, ReadsOn-append}
-use Rattle.fm_query.specs.Plan.{Plan}
+use Rattle.fm_records_query.specs.Plan.{Plan}
 use Rattle.fm_top.specs.Causes.{IsAsked}
-use Rattle.fm_load.specs.Limits.{record_file_limit}
+use Rattle.fm_top_load.specs.Limits.{record_file_limit}
 use Rattle.fm_top.specs.Outcome.{layout_file_limit}
-use Rattle.fm_load.specs.Reading.{ReadsUpTo}
+use Rattle.fm_top_load.specs.Reading.{ReadsUpTo}
 use Rattle.fm_top.specs.Reading.{ReadsIf, AreReadsOf, first_limit, ReadsFor}
-use Rattle.fm_load.specs.Whole.{IsWhole}
+use Rattle.fm_top_load.specs.Whole.{IsWhole}
 use Rattle.fm_top.specs.Words.{Request, Ask, first_file, last_file}
 use Rattle.fm_top.specs.declared.question.Question.{Question}
 

@@ -6,8 +6,8 @@ use Rattle.std.proofs.lemmas.Fmt.{decimal_injective}
 use Rattle.fm_lanes.proofs.Naming.{kind_text-injective}
 use Rattle.fm_lanes.specs.Named.{kind_text}
 use Rattle.fm_lanes.specs.declared.value_kind.ValueKind.{ValueKind}
-use Rattle.fm_options.proofs.Said.{one_saying}
-use Rattle.fm_options.specs.Options.{Say}
+use Rattle.fm_top_options.proofs.Said.{one_saying}
+use Rattle.fm_top_options.specs.Options.{Say}
 use Rattle.fm_top.specs.Words.{Request, Sum, Layout, Ask, Demo, Run, Asks, IsSum, IsOfFile, IsThreaded, IsAsk, IsCount, IsDemo, AreThreadsBy, IsLayout, layout_word, question_word, three}
 use Rattle.fm_top.specs.declared.layout_text.LayoutText.{LayoutText}
 use Rattle.fm_top.specs.declared.layout_text.LayoutText.TheVariants.{Places, Json}

@@ -1,8 +1,8 @@
 -- Outcomes of a script that was found.
 use Rattle.std.proofs.Common.{◌≡◌, ℕ, ◌≤◌, List, length, Some, sym, subst}
-use Rattle.fm_report.specs.Told.{IsRunOf}
-use Rattle.fm_report.specs.Views.{ReportView}
-use Rattle.fm_script.specs.Scripts.{ScriptOf, IsScript, IsRefused}
+use Rattle.fm_script_report.specs.Told.{IsRunOf}
+use Rattle.fm_script_report.specs.Views.{ReportView}
+use Rattle.fm_script_text.specs.Scripts.{ScriptOf, IsScript, IsRefused}
 use Rattle.fm_top.specs.Outcome.{Outcome, script_refused, reported, script_file_limit}
 use Rattle.fm_top.specs.Scripts.{ScriptEnds, bad_script, ran}
 

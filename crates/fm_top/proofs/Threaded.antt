@@ -6,8 +6,8 @@ use Rattle.std.specs.declared.alloc.Global.{Global}
 use Rattle.std.proofs.lemmas.Fmt.{decimal_injective}
 use Rattle.std.proofs.lemmas.List.{take_all}
 use Rattle.std.proofs.lemmas.Slice.Eq.{bytes_eq-Decides}
-use Rattle.fm_options.proofs.Said.{one_saying}
-use Rattle.fm_options.specs.Options.{Say, texts}
+use Rattle.fm_top_options.proofs.Said.{one_saying}
+use Rattle.fm_top_options.specs.Options.{Say, texts}
 use Rattle.fm_top.specs.Words.{AreThreads, AreThreadsBy, IsThreaded}
 
 not_false : (b : Bool) → not b ≡ false → b ≡ true

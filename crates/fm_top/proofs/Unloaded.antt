@@ -6,14 +6,14 @@ use Rattle.fm_io.specs.Count.{Rose}
 use Rattle.fm_io.specs.Files.{Contents, IsAbsent}
 use Rattle.fm_top.specs.Ending.{shown, TellsMisses}
 use Rattle.fm_top.specs.Found.{OfFound}
-use Rattle.fm_query.specs.Plan.{Plan}
+use Rattle.fm_records_query.specs.Plan.{Plan}
 use Rattle.fm_top.specs.Outcome.{Outcome, missing, too_long, no_file, too_many, uneven, even}
 use Rattle.fm_top.specs.Queries.{PlanEnds}
 use Rattle.fm_top.specs.Unloaded.{EndsUnloaded}
-use Rattle.fm_load.specs.Whole.{IsOver}
+use Rattle.fm_top_load.specs.Whole.{IsOver}
 use Rattle.fm_top.specs.declared.ending.Ending.{Ending}
-use Rattle.fm_load.specs.declared.load_fault.LoadFault.{LoadFault}
-use Rattle.fm_load.specs.declared.load_fault.LoadFault.TheVariants.{Missing, Failed, TooLong, Memory, PoolFull}
+use Rattle.fm_top_load.specs.declared.load_fault.LoadFault.{LoadFault}
+use Rattle.fm_top_load.specs.declared.load_fault.LoadFault.TheVariants.{Missing, Failed, TooLong, Memory, PoolFull}
 use Rattle.fm_top.specs.declared.question.Question.{Question}
 use Rattle.fm_top.specs.declared.status.Status.TheVariants as status
 use Rattle.fm_top.specs.declared.stop.Stop.{Stop}

@@ -4,9 +4,9 @@ use Rattle.fm_base.specs.declared.refusal.Refusal.{Refusal}
 use Rattle.fm_io.specs.Files.{Contents}
 use Rattle.fm_layout.specs.Tree.{Tree}
 use Rattle.fm_ljson.specs.Answer.{layout_of_json}
-use Rattle.fm_query.specs.Plan.{Plan}
-use Rattle.fm_script.specs.Scripts.{IsRefused as IsScriptRefused}
-use Rattle.fm_load.specs.Limits.{record_file_limit}
+use Rattle.fm_records_query.specs.Plan.{Plan}
+use Rattle.fm_script_text.specs.Scripts.{IsRefused as IsScriptRefused}
+use Rattle.fm_top_load.specs.Limits.{record_file_limit}
 use Rattle.fm_top.specs.Found.{file_under}
 use Rattle.fm_top.specs.Outcome.{layout_file_limit, script_file_limit}
 use Rattle.fm_top.specs.Queries.{IsRecordLayout, IsLayoutRefused, IsPlanned, IsUnplanned}

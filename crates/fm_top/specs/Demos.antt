@@ -1,9 +1,9 @@
 -- What is answered over records that are made, and what is kept of it.
 use Rattle.std.specs.Prelude.{◌≡◌, ℕ, List, ◌++◌, codes}
-use Rattle.fm_demo.specs.Records.{made_layout, made_records}
-use Rattle.fm_pooled.specs.Shown.{ShowsBoth}
-use Rattle.fm_query.specs.Parsed.{IsParsed}
-use Rattle.fm_query.specs.Plan.{Plan}
+use Rattle.fm_top_demo.specs.Records.{made_layout, made_records}
+use Rattle.fm_top_pooled.specs.Shown.{ShowsBoth}
+use Rattle.fm_records_query.specs.Parsed.{IsParsed}
+use Rattle.fm_records_query.specs.Plan.{Plan}
 use Rattle.fm_records.specs.Answers.{answer}
 use Rattle.fm_records.specs.Texts.{answer_text}
 use Rattle.fm_rule.specs.Finishing.{FinishedView}

@@ -1,6 +1,6 @@
 -- What a run keeps for its caller to look at.
 use Rattle.std.specs.Prelude.{Option, None, Some}
-use Rattle.fm_report.specs.Views.{ReportView}
+use Rattle.fm_script_report.specs.Views.{ReportView}
 use Rattle.fm_rule.specs.Finishing.{FinishedView}
 use Rattle.fm_top.specs.declared.left.Left.{Left}
 use Rattle.fm_top.specs.declared.left.Left.TheVariants.{Nothing, Pool, Report}

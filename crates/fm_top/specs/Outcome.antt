@@ -1,7 +1,7 @@
 -- How a run ends: its status, all that it prints, and what it keeps.
 use Rattle.std.specs.Prelude.{◌≡◌, ◌≢◌, ℕ, ◌%◌, ◌<◌, ◌≤◌, nat_lt, if◌then◌else◌, List, [], ◌∷◌, ◌++◌, length, codes, Option, None, Some, Result, Ok, Err}
 use Rattle.std.specs.Fmt.{decimal, signed_decimal}
-use Rattle.fm_load.specs.Limits.{record_file_limit}
+use Rattle.fm_top_load.specs.Limits.{record_file_limit}
 use Rattle.fm_base.specs.Printed.{refusal_text}
 use Rattle.fm_base.specs.declared.refusal.Refusal.{Refusal}
 use Rattle.fm_lanes.specs.declared.value_kind.ValueKind.{ValueKind}
@@ -9,8 +9,8 @@ use Rattle.fm_layout.specs.Tree.{Tree}
 use Rattle.fm_ljson.specs.Answer.{layout_of_json}
 use Rattle.fm_ljson_write.specs.Canonical.{document_text}
 use Rattle.fm_path.specs.Listing.{list_text}
-use Rattle.fm_report.specs.Texts.{report_text}
-use Rattle.fm_report.specs.Views.{ReportView}
+use Rattle.fm_script_report.specs.Texts.{report_text}
+use Rattle.fm_script_report.specs.Views.{ReportView}
 use Rattle.fm_rule.specs.Finishing.{FinishedView}
 use Rattle.fm_top.specs.Records.{sum_of_values}
 use Rattle.fm_top.specs.declared.layout_text.LayoutText.{LayoutText}

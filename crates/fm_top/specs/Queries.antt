@@ -4,10 +4,10 @@ use Rattle.fm_base.specs.declared.refusal.Refusal.{Refusal}
 use Rattle.fm_base.specs.declared.refusal.Refusal.TheVariants.{Memory}
 use Rattle.fm_layout.specs.Tree.{Tree}
 use Rattle.fm_ljson.specs.Answer.{layout_of_json}
-use Rattle.fm_pooled.specs.Shown.{ShowsQuery}
-use Rattle.fm_query.specs.Parsed.{IsParsed, IsNoQuery}
-use Rattle.fm_query.specs.Plan.{Plan}
-use Rattle.fm_query.specs.Records.{IsRecord, IsNoRecord}
+use Rattle.fm_top_pooled.specs.Shown.{ShowsQuery}
+use Rattle.fm_records_query.specs.Parsed.{IsParsed, IsNoQuery}
+use Rattle.fm_records_query.specs.Plan.{Plan}
+use Rattle.fm_records_query.specs.Records.{IsRecord, IsNoRecord}
 use Rattle.fm_records.specs.Answers.{answer}
 use Rattle.fm_records.specs.Texts.{answer_text}
 use Rattle.fm_rule.specs.Finishing.{FinishedView}

@@ -2,9 +2,9 @@
 use Rattle.std.specs.Prelude.{◌≡◌, ◌≢◌, ℕ, ◌+◌, List, [], ◌++◌, Option, None, Some}
 use Rattle.fm_io.specs.Files.{Contents}
 use Rattle.fm_io.specs.Reads.{Read, ReadsOn, At, Ended, Follow, next_after}
-use Rattle.fm_load.specs.Limits.{record_file_limit}
-use Rattle.fm_load.specs.Reading.{piece_limit}
-use Rattle.fm_query.specs.Plan.{Plan}
+use Rattle.fm_top_load.specs.Limits.{record_file_limit}
+use Rattle.fm_top_load.specs.Reading.{piece_limit}
+use Rattle.fm_records_query.specs.Plan.{Plan}
 use Rattle.fm_top.specs.Causes.{IsAsked}
 use Rattle.fm_top.specs.Found.{OfFile}
 use Rattle.fm_top.specs.Outcome.{layout_file_limit, script_file_limit}

@@ -4,8 +4,8 @@ use Rattle.std.specs.List.{range_with_len}
 use Rattle.fm_base.specs.declared.refusal.Refusal.{Refusal}
 use Rattle.fm_base.specs.declared.refusal.Refusal.TheVariants.{Memory, Unsupported}
 use Rattle.fm_layout.specs.Tree.{Tree}
-use Rattle.fm_query.specs.Lists.{IsList, IsNoList}
-use Rattle.fm_query.specs.Plan.{Plan}
+use Rattle.fm_records_query.specs.Lists.{IsList, IsNoList}
+use Rattle.fm_records_query.specs.Plan.{Plan}
 use Rattle.fm_workers.specs.Counts.{IsTally, how_many, number_of}
 use Rattle.fm_workers.specs.Printed.{counts_text}
 

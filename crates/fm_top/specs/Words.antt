@@ -4,7 +4,7 @@ use Rattle.std.specs.Fmt.{decimal}
 use Rattle.fm_lanes.specs.declared.value_kind.ValueKind.{ValueKind}
 use Rattle.fm_lanes.specs.Kind.{width_of}
 use Rattle.fm_lanes.specs.Named.{kind_text}
-use Rattle.fm_options.specs.Options.{Say}
+use Rattle.fm_top_options.specs.Options.{Say}
 use Rattle.fm_top.specs.declared.layout_text.LayoutText.{LayoutText}
 use Rattle.fm_top.specs.declared.layout_text.LayoutText.TheVariants as layout_text
 use Rattle.fm_top.specs.declared.question.Question.{Question}

@@ -4,8 +4,8 @@ ghost use Rattle.fm_io.specs.Sink.{Appends, AppendsPrefix};
 ghost use Rattle.fm_top.specs.Ending.{answered_text};
 
 use fm_io::{Fault, Sink};
-use fm_query::Query;
 use fm_records::{Answer, write_answer};
+use fm_records_query::Query;
 use std::alloc::Global;
 
 /// A query and its answer.

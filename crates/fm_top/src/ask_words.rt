@@ -1,5 +1,5 @@
 ghost use Rattle.std.specs.Prelude.{◌≡◌, IfOk, IfSome, IfNone, List, ℕ};
-ghost use Rattle.fm_options.specs.Options.{lent, texts};
+ghost use Rattle.fm_top_options.specs.Options.{lent, texts};
 ghost use Rattle.fm_top.specs.Words.{IsAsk, three};
 
 use crate::question::Question;

@@ -1,6 +1,6 @@
 ghost use Rattle.std.specs.Prelude.{◌≡◌, ◌≢◌, ◌≤◌, IfOk, IfSome, IfNone, IsErrOf, Err};
 ghost use Rattle.fm_io.specs.Count.{Rose};
-ghost use Rattle.fm_options.specs.Options.{texts};
+ghost use Rattle.fm_top_options.specs.Options.{texts};
 ghost use Rattle.fm_top.specs.Asked.{request_of};
 ghost use Rattle.fm_top.specs.Ending.{TellsMisses, shown};
 ghost use Rattle.fm_top.specs.Reading.{ReadsFor};

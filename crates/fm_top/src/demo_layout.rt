@@ -1,5 +1,5 @@
 ghost use Rattle.std.specs.Prelude.{◌≡◌, IfErr, IfOk};
-ghost use Rattle.fm_demo.specs.Records.{made_layout};
+ghost use Rattle.fm_top_demo.specs.Records.{made_layout};
 
 use fm_base::Refusal;
 use fm_lanes::ValueKind;

@@ -1,6 +1,6 @@
 ghost use Rattle.std.specs.Prelude.{◌≡◌, ◌∷◌, [], IfOk, IfSome, IfNone, ℕ};
 ghost use Rattle.std.specs.Fmt.{decimal};
-ghost use Rattle.fm_options.specs.Options.{lent, texts};
+ghost use Rattle.fm_top_options.specs.Options.{lent, texts};
 ghost use Rattle.fm_top.specs.Words.{IsCount, IsDemo};
 
 use crate::number::number_up_to;

@@ -1,7 +1,7 @@
 ghost use Rattle.std.specs.Prelude.{◌≡◌, ◌≢◌, ◌++◌, IfErr, IfOk, string_bytes, codes};
 ghost use Rattle.std.specs.Fmt.{signed_decimal};
 ghost use Rattle.fm_top.specs.Outcome.{answered, answered_by_pool, bare, layout_refused, line, missing, query_refused, ragged, refused, reported, script_refused, too_long, usage};
-ghost use Rattle.fm_report.specs.Texts.{report_text};
+ghost use Rattle.fm_script_report.specs.Texts.{report_text};
 ghost use Rattle.fm_top.specs.Ending.{shown, text_of};
 
 use crate::left::Left;
@@ -9,8 +9,8 @@ use crate::status::Status;
 use crate::stop::Stop;
 use crate::text::Text;
 use fm_base::Refusal;
-use fm_report::Report;
 use fm_rule::Finished;
+use fm_script_report::Report;
 use itoa::Buffer;
 use std::alloc::{AllocError, Global};
 

@@ -1,5 +1,5 @@
 ghost use Rattle.std.specs.Prelude.{IfSome, IfNone, List, ℕ};
-ghost use Rattle.fm_options.specs.Options.{texts};
+ghost use Rattle.fm_top_options.specs.Options.{texts};
 ghost use Rattle.fm_top.specs.Words.{IsLayout, IsOfFile, two};
 
 use crate::layout_text::LayoutText;

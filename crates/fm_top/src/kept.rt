@@ -2,8 +2,8 @@ ghost use Rattle.std.specs.Prelude.{◌≡◌, option_copied};
 ghost use Rattle.fm_top.specs.Keeps.{pool_in, report_in};
 
 use crate::left::Left;
-use fm_report::Report;
 use fm_rule::Finished;
+use fm_script_report::Report;
 use std::marker::Model;
 
 /// What a run leaves for its caller to look at. Each run empties it first.

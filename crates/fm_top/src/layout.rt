@@ -2,7 +2,7 @@ ghost use Rattle.std.specs.Prelude.{◌≡◌, ◌≤◌, IfOk, IfErr, IsErrOf, 
 ghost use Rattle.fm_io.specs.Count.{Rose};
 ghost use Rattle.fm_top.specs.Ending.{TellsMisses, shown};
 ghost use Rattle.fm_top.specs.Outcome.{layout_of_file};
-ghost use Rattle.fm_load.specs.Reading.{ReadsSome};
+ghost use Rattle.fm_top_load.specs.Reading.{ReadsSome};
 ghost use Rattle.fm_top.specs.Run.{HasOutcome};
 ghost use Rattle.fm_top.specs.Words.{Layout};
 
@@ -14,7 +14,7 @@ use crate::printing::text_of_layout;
 use crate::stop::Stop;
 use fm_io::Files;
 use fm_ljson::layout_from_json;
-use fm_load::{LAYOUT_FILE_LIMIT, read_whole};
+use fm_top_load::{LAYOUT_FILE_LIMIT, read_whole};
 use std::alloc::Global;
 
 /// Reads the file of a layout, and answers how the run ends.

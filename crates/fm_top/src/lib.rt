@@ -38,7 +38,7 @@ pub use ask_words::AskCommand;
 pub use command::Command;
 pub use demo_words::DemoCommand;
 pub use file_words::{LayoutCommand, RunCommand};
-pub use fm_load::{
+pub use fm_top_load::{
     LAYOUT_FILE_LIMIT, LoadFault, Loaded, RECORD_FILE_LIMIT, load, load_into, read_whole,
 };
 pub use kept::Kept;

@@ -4,7 +4,7 @@ ghost use Rattle.fm_top.specs.Unloaded.{EndsUnloaded};
 
 use crate::ending::Ending;
 use crate::stop::Stop;
-use fm_load::LoadFault;
+use fm_top_load::LoadFault;
 use std::alloc::Global;
 
 /// How the run ends where the file of this name wasn't loaded. That it is missing is told without any memory.

@@ -1,12 +1,12 @@
 ghost use Rattle.std.specs.Prelude.{◌≢◌, IfErr, IfOk};
-ghost use Rattle.fm_query.specs.Records.{IsRecord};
+ghost use Rattle.fm_records_query.specs.Records.{IsRecord};
 ghost use Rattle.fm_top.specs.Queries.{IsPlanned, IsUnplanned};
 ghost use Rattle.fm_top.specs.Tallies.{IsPathRefused, IsTallied};
 
 use crate::question::Question;
 use fm_base::Refusal;
 use fm_layout::Layout;
-use fm_query::{Query, parse_list, parse_query};
+use fm_records_query::{Query, parse_list, parse_query};
 use fm_workers::is_tally;
 use std::alloc::Global;
 

@@ -1,7 +1,7 @@
 ghost use Rattle.std.specs.Prelude.{◌≡◌, Some, ◌≢◌, ◌≤◌, ◌⊎◌};
 ghost use Rattle.fm_io.specs.Count.{Rose, Raised};
 ghost use Rattle.fm_io.specs.Files.{Contents};
-ghost use Rattle.fm_options.specs.Options.{texts};
+ghost use Rattle.fm_top_options.specs.Options.{texts};
 ghost use Rattle.fm_top.specs.Ending.{shown};
 ghost use Rattle.fm_top.specs.Reading.{ReadsFor};
 ghost use Rattle.fm_top.specs.Run.{IsValid, Runs, Prints, TellsMissing, traces_of, code_of, EndsWith, Answers};

@@ -2,7 +2,7 @@ ghost use Rattle.std.specs.Prelude.{◌≡◌, ◌≤◌, IfOk, IsErrOf, length,
 ghost use Rattle.fm_io.specs.Count.{Rose};
 ghost use Rattle.fm_top.specs.Ending.{TellsMisses, shown};
 ghost use Rattle.fm_top.specs.Outcome.{SumEnds};
-ghost use Rattle.fm_load.specs.Reading.{ReadsSome};
+ghost use Rattle.fm_top_load.specs.Reading.{ReadsSome};
 ghost use Rattle.fm_top.specs.Run.{HasOutcome};
 ghost use Rattle.fm_top.specs.Words.{Sum, HasValue};
 
@@ -12,7 +12,7 @@ use crate::stop::Stop;
 use crate::sum_words::SumCommand;
 use crate::summing::sum_values;
 use fm_io::Files;
-use fm_load::{Loaded, RECORD_FILE_LIMIT, load};
+use fm_top_load::{Loaded, RECORD_FILE_LIMIT, load};
 use std::alloc::{AllocError, Global};
 use std::sync::Wait;
 

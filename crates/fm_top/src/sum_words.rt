@@ -1,6 +1,6 @@
 ghost use Rattle.std.specs.Prelude.{◌↔◌, IfSome, IfNone, IsTrue, List, ℕ};
 ghost use Rattle.fm_lanes.specs.declared.value_kind.ValueKind.{ValueKind};
-ghost use Rattle.fm_options.specs.Options.{texts};
+ghost use Rattle.fm_top_options.specs.Options.{texts};
 ghost use Rattle.fm_top.specs.Words.{HasValue, IsSum, five};
 
 use crate::number::number_of_word;

@@ -4,7 +4,7 @@ ghost use Rattle.fm_top.specs.Words.{HasValue};
 
 use fm_lanes::ValueKind;
 use fm_layout::Layout;
-use fm_load::{Loaded, RECORD_FILE_LIMIT};
+use fm_top_load::{Loaded, RECORD_FILE_LIMIT};
 
 /// The sum of the value at byte `at` of each record of `size` bytes. What is left behind the last record doesn't count.
 ///

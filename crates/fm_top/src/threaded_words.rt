@@ -1,9 +1,9 @@
 ghost use Rattle.std.specs.Prelude.{◌≡◌, IfOk, IfSome, IfNone, List, ℕ};
-ghost use Rattle.fm_options.specs.Options.{lent, lent_one, texts};
+ghost use Rattle.fm_top_options.specs.Options.{lent, lent_one, texts};
 ghost use Rattle.fm_top.specs.Words.{AreThreadsBy, IsThreaded};
 
 use crate::threads::threads_by;
-use fm_options::{Options, options_of};
+use fm_top_options::{Options, options_of};
 use std::alloc::{AllocError, Global};
 
 /// What the words of a command with threads say: how many, and the words besides, which stand in their order.

@@ -1,5 +1,5 @@
 ghost use Rattle.std.specs.Prelude.{IfSome, IfNone, ℕ};
-ghost use Rattle.fm_options.specs.Options.{lent_one};
+ghost use Rattle.fm_top_options.specs.Options.{lent_one};
 ghost use Rattle.fm_top.specs.Words.{AreThreadsBy};
 
 use crate::number::number_up_to;

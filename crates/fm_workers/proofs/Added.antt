@@ -3,8 +3,8 @@ use Rattle.std.proofs.Common.{◌≡◌, ◌≢◌, ℕ, ◌+◌, ◌/◌, ◌<�
 use Rattle.std.specs.Prelude.{◌⊎◌}
 use Rattle.std.specs.List.{AllByRecursion, flat_map}
 use Rattle.std.proofs.lemmas.Bool.Decides.{nat_tests}
-use Rattle.fm_lists.specs.Among.{AreApart, IsAmong}
-use Rattle.fm_lists.proofs.Each.{all_both, all_weaker}
+use Rattle.fm_base_lists.specs.Among.{AreApart, IsAmong}
+use Rattle.fm_base_lists.proofs.Each.{all_both, all_weaker}
 use Rattle.fm_base.specs.declared.arena_id.ArenaId.{ArenaId}
 use Rattle.fm_base.specs.declared.caller.Caller.{Caller}
 use Rattle.fm_base.specs.Arenas.{same_id}

@@ -18,12 +18,12 @@ use Rattle.fm_path_meaning.specs.declared.dim.Dim.{Dim}
 use Rattle.fm_path_meaning.specs.Walk.{offset_at}
 use Rattle.fm_segment.specs.Region.{Region}
 use Rattle.fm_segment.proofs.Access.{known_still}
-use Rattle.fm_query.specs.Plan.{IsPlan, Plan}
-use Rattle.fm_query.specs.declared.condition.Condition.{Condition}
-use Rattle.fm_query.specs.declared.fold.Fold.TheVariants as fold
-use Rattle.fm_query.specs.declared.item.Asked.{Asked}
-use Rattle.fm_query.specs.declared.item.Asked.TheVariants as asked
-use Rattle.fm_query.specs.declared.item.Item.{Item}
+use Rattle.fm_records_query.specs.Plan.{IsPlan, Plan}
+use Rattle.fm_records_query.specs.declared.condition.Condition.{Condition}
+use Rattle.fm_records_query.specs.declared.fold.Fold.TheVariants as fold
+use Rattle.fm_records_query.specs.declared.item.Asked.{Asked}
+use Rattle.fm_records_query.specs.declared.item.Asked.TheVariants as asked
+use Rattle.fm_records_query.specs.declared.item.Item.{Item}
 use Rattle.fm_records.specs.declared.found.Found.{Found}
 use Rattle.fm_records.specs.declared.found.Found.TheVariants.{Listed}
 use Rattle.fm_records.specs.Answers.{chosen as chosen_of, found_in, found_over, item_found}

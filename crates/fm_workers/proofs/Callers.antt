@@ -5,8 +5,8 @@ use Rattle.fm_base.specs.declared.caller.Caller.{Caller}
 use Rattle.fm_base.specs.Calls.{Entry}
 use Rattle.fm_base.specs.Histories.{made_by}
 use Rattle.fm_base.specs.Finds.{Gathered}
-use Rattle.fm_pool_facts.specs.Splits.{as_gathered}
-use Rattle.fm_pool_facts.specs.Views.{View}
+use Rattle.fm_rule_facts.specs.Splits.{as_gathered}
+use Rattle.fm_rule_facts.specs.Views.{View}
 use Rattle.fm_workers.specs.Crew.{AreDone, CrewWorked, by_caller, callers}
 
 module _ {T : Type 0} (Does : Caller → T → T → List Entry → Type 0) (more : List Entry) where

@@ -3,17 +3,17 @@ use Rattle.std.proofs.Common.{◌≡◌, ℕ, ◌+◌, ◌-◌, ◌*◌, ◌/◌
 use Rattle.std.specs.List.{range_with_len}
 use Rattle.std.proofs.Math.Nat.{mul-mod_left, zero-div}
 use Rattle.std.proofs.lemmas.List.{map-append}
-use Rattle.fm_bytes.specs.Words.{byte_at}
+use Rattle.fm_base_bytes.specs.Words.{byte_at}
 use Rattle.fm_base.specs.declared.caller.Caller.{Caller}
 use Rattle.fm_base.specs.Arenas.{State, arena_of}
 use Rattle.fm_base.specs.Calls.{Entry}
 use Rattle.fm_base.specs.Histories.{made_by}
 use Rattle.fm_segment.specs.Region.{Region, part_of}
-use Rattle.fm_query.specs.Plan.{IsPlan, Plan}
-use Rattle.fm_query.specs.declared.fold.Fold.TheVariants as fold
-use Rattle.fm_query.specs.declared.item.Asked.{Asked}
-use Rattle.fm_query.specs.declared.item.Asked.TheVariants as asked
-use Rattle.fm_query.specs.declared.item.Item.{Item}
+use Rattle.fm_records_query.specs.Plan.{IsPlan, Plan}
+use Rattle.fm_records_query.specs.declared.fold.Fold.TheVariants as fold
+use Rattle.fm_records_query.specs.declared.item.Asked.{Asked}
+use Rattle.fm_records_query.specs.declared.item.Asked.TheVariants as asked
+use Rattle.fm_records_query.specs.declared.item.Item.{Item}
 use Rattle.fm_records.specs.Alone.{bytes_at_places}
 use Rattle.fm_records.specs.Answers.{answer, chosen, found_in, found_over, item_found}
 use Rattle.fm_records.specs.Bytes.{FindAs, FindsAs}
@@ -22,7 +22,7 @@ use Rattle.fm_records.specs.Records.{pieces, records}
 use Rattle.fm_records.specs.Shares.{IsSpared}
 use Rattle.fm_records.proofs.AnsweringBytes.{answer_of_bytes, length-places}
 use Rattle.fm_records.proofs.Joining.{answer-append}
-use Rattle.fm_lists.proofs.Each.{all_split}
+use Rattle.fm_base_lists.proofs.Each.{all_split}
 use Rattle.fm_records.proofs.Behind.{range_append}
 use Rattle.fm_records.proofs.Sharing.{spared_found}
 use Rattle.fm_workers.specs.Counts.{AreCounts, AreTallied, IsTally, ListsBytes, listed, numbers_listed}

@@ -2,16 +2,16 @@
 use Rattle.std.proofs.Common.{◌≡◌, ℕ, ◌+◌, ◌-◌, ◌*◌, ◌/◌, ◌%◌, ◌≤◌, Some, List, [], ◌∷◌, ◌++◌, length, map, refl, sym, ap, ◌∙◌, subst, inl, inr, arith, Ok}
 use Rattle.std.specs.List.{range_with_len, slice_get}
 use Rattle.std.proofs.Math.Nat.{mul-div_cancel, mul-mod_left, zero-div}
-use Rattle.fm_bytes.specs.Words.{byte_at}
-use Rattle.fm_lists.proofs.Among.{among_left}
-use Rattle.fm_lists.proofs.Each.{all_split}
+use Rattle.fm_base_bytes.specs.Words.{byte_at}
+use Rattle.fm_base_lists.proofs.Among.{among_left}
+use Rattle.fm_base_lists.proofs.Each.{all_split}
 use Rattle.fm_base.specs.declared.caller.Caller.{Caller}
 use Rattle.fm_base.specs.Arenas.{State, arena_of}
 use Rattle.fm_base.specs.Calls.{Entry}
 use Rattle.fm_base.specs.Histories.{made_by}
 use Rattle.fm_path.specs.Resolution.{Resolution}
 use Rattle.fm_segment.specs.Region.{Region}
-use Rattle.fm_query.specs.Plan.{IsPlan, Plan}
+use Rattle.fm_records_query.specs.Plan.{IsPlan, Plan}
 use Rattle.fm_records.specs.Alone.{bytes_at_places}
 use Rattle.fm_records.specs.Bytes.{FindAs, FindsAs, HasRead}
 use Rattle.fm_records.specs.Laws.{IsAsked, value_in}

@@ -3,7 +3,7 @@ use Rattle.std.proofs.Common.{◌≡◌, ◌+◌, ◌<◌, true, List, [], ◌�
 use Rattle.std.specs.List.{AllByRecursion}
 use Rattle.std.proofs.lemmas.List.{append-nil, map-append}
 use Rattle.std.proofs.lemmas.List.Elements.{filter-append}
-use Rattle.fm_lists.proofs.Each.{all_both}
+use Rattle.fm_base_lists.proofs.Each.{all_both}
 use Rattle.fm_words.specs.declared.shape.Shape.{Shape}
 use Rattle.fm_base.specs.declared.caller.Caller.{Caller}
 use Rattle.fm_base.specs.declared.refusal.Refusal.{Refusal}
@@ -12,10 +12,10 @@ use Rattle.fm_base.specs.Calls.{Entry}
 use Rattle.fm_base.specs.Histories.{made_by}
 use Rattle.fm_base.specs.Finds.{Find, Gathered}
 use Rattle.fm_words.specs.Places.{groups}
-use Rattle.fm_pool_facts.specs.Hands.{no_number}
-use Rattle.fm_pool_facts.specs.Views.{View, In, HasCaller}
-use Rattle.fm_pool_facts.specs.Splits.{view_of}
-use Rattle.fm_pool_facts.proofs.Keeping.{in_append}
+use Rattle.fm_rule_facts.specs.Hands.{no_number}
+use Rattle.fm_rule_facts.specs.Views.{View, In, HasCaller}
+use Rattle.fm_rule_facts.specs.Splits.{view_of}
+use Rattle.fm_rule_facts.proofs.Keeping.{in_append}
 use Rattle.fm_rule.specs.declared.pool.Pool.{Pool}
 use Rattle.fm_rule.specs.Draws.{Asked, Drawn, Drew, NoneDrawn, FoundNone, Looked}
 use Rattle.fm_gate.specs.Standing.{IsOutside}

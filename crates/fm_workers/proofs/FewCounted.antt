@@ -7,7 +7,7 @@ use Rattle.fm_base.specs.declared.refusal.Refusal.{Refusal}
 use Rattle.fm_base.specs.Calls.{Entry}
 use Rattle.fm_base.specs.Histories.{made_by}
 use Rattle.fm_segment.specs.Region.{Region}
-use Rattle.fm_query.specs.Plan.{IsPlan}
+use Rattle.fm_records_query.specs.Plan.{IsPlan}
 use Rattle.fm_records.specs.Adds.{AddsRecords}
 use Rattle.fm_records.specs.Reads.{record_places}
 use Rattle.fm_records.proofs.Behind.{length-record_places}

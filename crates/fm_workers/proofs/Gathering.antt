@@ -3,14 +3,14 @@ use Rattle.std.proofs.Common.{◌≡◌, List, [], ◌∷◌, ◌++◌, length, 
 use Rattle.std.specs.List.{AllByRecursion}
 use Rattle.std.proofs.lemmas.List.{append-nil, take_at}
 use Rattle.std.proofs.lemmas.List.Elements.{recursion_from_All, All-take, All-same}
-use Rattle.fm_lists.proofs.Each.{all_split}
+use Rattle.fm_base_lists.proofs.Each.{all_split}
 use Rattle.fm_base.specs.declared.caller.Caller.{Caller}
 use Rattle.fm_base.specs.Calls.{Entry}
 use Rattle.fm_base.specs.Histories.{made_by}
 use Rattle.fm_base.specs.Finds.{Gathered}
-use Rattle.fm_pool_facts.specs.Hands.{no_number}
-use Rattle.fm_pool_facts.specs.Views.{View}
-use Rattle.fm_pool_facts.specs.Splits.{as_gathered}
+use Rattle.fm_rule_facts.specs.Hands.{no_number}
+use Rattle.fm_rule_facts.specs.Views.{View}
+use Rattle.fm_rule_facts.specs.Splits.{as_gathered}
 use Rattle.fm_rule.specs.declared.pool.Pool.{Pool}
 use Rattle.fm_rule.specs.Draws.{CanGather, Gathers}
 use Rattle.fm_gate.specs.Standing.{IsOutside}

@@ -2,7 +2,7 @@
 use Rattle.fm_workers.specs.Asking.{known_later}
 use Rattle.fm_records.proofs.Few.{few_answer}
 use Rattle.fm_segment.specs.Access.{IsKnown}
-use Rattle.fm_calls.specs.Told.{view_of_pass}
+use Rattle.fm_rule_calls.specs.Told.{view_of_pass}
 use Rattle.std.proofs.Common.{◌≡◌, ℕ, ◌/◌, ◌%◌, List, [], length, refl, sym, ap, ◌∙◌, subst, arith, inl, inr, ⊎_elim, Result, Ok, Err, IfOk}
 use Rattle.std.specs.Prelude.{◌⊎◌, ⊤}
 use Rattle.std.specs.List.{AllByRecursion}
@@ -14,9 +14,9 @@ use Rattle.fm_base.specs.declared.refusal.Refusal.{Refusal}
 use Rattle.fm_base.specs.declared.refusal.Refusal.TheVariants.{Ragged, WrongThread, Closed, NoPass, Memory}
 use Rattle.fm_base.specs.Finds.{Gathered}
 use Rattle.fm_base.specs.Histories.{made_by}
-use Rattle.fm_pool_facts.specs.Views.{View, IsSound}
+use Rattle.fm_rule_facts.specs.Views.{View, IsSound}
 use Rattle.fm_segment.specs.Region.{Region}
-use Rattle.fm_query.specs.Plan.{Plan, IsPlan}
+use Rattle.fm_records_query.specs.Plan.{Plan, IsPlan}
 use Rattle.fm_records.specs.declared.found.Found.{Found}
 use Rattle.fm_records.specs.Few.{AreFew}
 use Rattle.fm_workers.specs.Crew.{AreTooMany, CrewWorked, by_caller, callers}

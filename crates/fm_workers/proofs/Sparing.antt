@@ -2,8 +2,8 @@
 use Rattle.std.proofs.Common.{◌≡◌, ℕ, Bool, true, false, List, [], ◌∷◌, refl, sym, ap, ◌∙◌, subst, inl, inr, ⊎_elim, eq-eqb}
 use Rattle.std.specs.Prelude.{◌⊎◌, cond}
 use Rattle.std.specs.List.{AllByRecursion, flat_map}
-use Rattle.fm_lists.specs.Among.{IsAmong}
-use Rattle.fm_lists.proofs.Each.{all_both}
+use Rattle.fm_base_lists.specs.Among.{IsAmong}
+use Rattle.fm_base_lists.proofs.Each.{all_both}
 use Rattle.fm_base.specs.declared.caller.Caller.{Caller}
 use Rattle.fm_base.specs.declared.arena_id.ArenaId.{ArenaId}
 use Rattle.fm_base.specs.Arenas.{are_one}
@@ -11,10 +11,10 @@ use Rattle.fm_base.specs.Calls.{Entry}
 use Rattle.fm_base.specs.Histories.{made_by}
 use Rattle.fm_base.specs.Untouched.{Spares}
 use Rattle.fm_base.specs.Visits.{refused_visit}
-use Rattle.fm_pool_facts.specs.Views.{View, IsSound, limit_of, state_in}
-use Rattle.fm_calls.proofs.Going.{reached_by}
+use Rattle.fm_rule_facts.specs.Views.{View, IsSound, limit_of, state_in}
+use Rattle.fm_rule_calls.proofs.Going.{reached_by}
 use Rattle.fm_segment.specs.Region.{Region}
-use Rattle.fm_query.specs.Plan.{Plan, IsPlan}
+use Rattle.fm_records_query.specs.Plan.{Plan, IsPlan}
 use Rattle.fm_records.specs.declared.found.Found.{Found}
 use Rattle.fm_records.specs.Reads.{read_visit}
 use Rattle.fm_records.specs.Shares.{Share, AreSpared, IsSpared}

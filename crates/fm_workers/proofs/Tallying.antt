@@ -7,11 +7,11 @@ use Rattle.fm_base.specs.declared.kind.Kind.TheVariants.{Confined}
 use Rattle.fm_base.specs.declared.refusal.Refusal.{Refusal}
 use Rattle.fm_base.specs.View.{Did, View}
 use Rattle.fm_base.proofs.Making.{Makes-then}
-use Rattle.fm_pool_facts.specs.Views.{View as Passes}
-use Rattle.fm_calls.specs.Told.{view_of_pass}
+use Rattle.fm_rule_facts.specs.Views.{View as Passes}
+use Rattle.fm_rule_calls.specs.Told.{view_of_pass}
 use Rattle.fm_segment.specs.Access.{IsKnown}
 use Rattle.fm_segment.specs.Region.{Region}
-use Rattle.fm_query.specs.Plan.{Plan}
+use Rattle.fm_records_query.specs.Plan.{Plan}
 use Rattle.fm_workers.specs.Adding.{DoesAdd, HasCounts}
 use Rattle.fm_workers.specs.Counts.{IsTally}
 use Rattle.fm_workers.specs.Parts.{AreRuns, CanAsk}

@@ -11,7 +11,7 @@ use Rattle.fm_base.specs.Calls.{Entry}
 use Rattle.fm_base.specs.Histories.{made_by}
 use Rattle.fm_base.specs.Visits.{refused_visit}
 use Rattle.fm_segment.specs.Region.{Region}
-use Rattle.fm_query.specs.Plan.{IsPlan, Plan}
+use Rattle.fm_records_query.specs.Plan.{IsPlan, Plan}
 use Rattle.fm_records.specs.Reads.{IsWordOf}
 use Rattle.fm_workers.specs.Adding.{AddsAt, AddsBelow, DoesAdd, HasCounts, adds, count_word, none_yet, nothing, one_more}
 use Rattle.fm_workers.specs.Parts.{AreRuns}

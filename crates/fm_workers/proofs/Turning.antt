@@ -2,12 +2,12 @@
 use Rattle.std.proofs.Common.{◌≡◌, List, [], ◌∷◌, ◌++◌, Result, refl, reverse, ap, sym, ◌∙◌, subst}
 use Rattle.std.specs.List.{AllByRecursion}
 use Rattle.std.proofs.lemmas.List.{reverse-append, reverse-reverse}
-use Rattle.fm_lists.proofs.Each.{all_both}
+use Rattle.fm_base_lists.proofs.Each.{all_both}
 use Rattle.fm_base.specs.declared.caller.Caller.{Caller}
 use Rattle.fm_base.specs.declared.refusal.Refusal.{Refusal}
 use Rattle.fm_base.specs.Finds.{Gathered}
-use Rattle.fm_pool_facts.specs.Views.{View}
-use Rattle.fm_pool_facts.specs.Splits.{as_gathered}
+use Rattle.fm_rule_facts.specs.Views.{View}
+use Rattle.fm_rule_facts.specs.Splits.{as_gathered}
 use Rattle.fm_workers.specs.declared.worker.Worker.{Worker}
 use Rattle.fm_workers.specs.Crew.{DrewEach, callers}
 use Rattle.fm_workers.specs.Rounds.{AfterDraws, CalledUp, IsDrawn, crew_of, order_of, tasks_of}

@@ -3,10 +3,10 @@ use Rattle.std.proofs.Common.{◌≡◌, ℕ, ◌+◌, ◌<◌, ◌≤◌, ◌==
 use Rattle.fm_words.specs.declared.shape.Shape.{Shape}
 use Rattle.fm_words.specs.Places.{groups}
 use Rattle.fm_base.specs.Finds.{Find, Gathered, is_draw}
-use Rattle.fm_pool_facts.specs.Hands.{no_number, last_term, most_draws}
-use Rattle.fm_pool_facts.specs.Views.{View, In, IsSound}
-use Rattle.fm_pool_facts.proofs.Keeping.{in_left, in_right}
-use Rattle.fm_pool_facts.proofs.Wanting.{of_last_term, too_few}
+use Rattle.fm_rule_facts.specs.Hands.{no_number, last_term, most_draws}
+use Rattle.fm_rule_facts.specs.Views.{View, In, IsSound}
+use Rattle.fm_rule_facts.proofs.Keeping.{in_left, in_right}
+use Rattle.fm_rule_facts.proofs.Wanting.{of_last_term, too_few}
 use Rattle.fm_rule.specs.Draws.{FoundZero}
 use Rattle.fm_workers.specs.Crew.{AreTooMany, FoundNoNumber, how_many_last}
 

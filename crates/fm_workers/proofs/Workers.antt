@@ -4,20 +4,20 @@ use Rattle.std.specs.Prelude.{slice_index_or}
 use Rattle.std.specs.List.{AllByRecursion, AllZip}
 use Rattle.std.proofs.lemmas.List.{append-nil, map-append}
 use Rattle.std.proofs.lemmas.List.Elements.{filter-append, recursion_from_All}
-use Rattle.fm_lists.proofs.Each.{all_both, all_split}
+use Rattle.fm_base_lists.proofs.Each.{all_both, all_split}
 use Rattle.fm_base.specs.declared.caller.Caller.{Caller}
 use Rattle.fm_base.specs.Calls.{Entry}
 use Rattle.fm_base.specs.Histories.{made_by}
 use Rattle.fm_base.specs.Finds.{Find, Gathered, Rest, is_draw}
 use Rattle.fm_base.specs.View.{Did}
-use Rattle.fm_pool_facts.specs.Views.{View, In}
-use Rattle.fm_pool_facts.specs.Splits.{as_gathered}
+use Rattle.fm_rule_facts.specs.Views.{View, In}
+use Rattle.fm_rule_facts.specs.Splits.{as_gathered}
 use Rattle.fm_rule.specs.declared.pool.Pool.{Pool}
 use Rattle.fm_rule.specs.Passes.{IsOf}
-use Rattle.fm_calls.specs.Kept.{Lasts}
-use Rattle.fm_calls.specs.Told.{view_of_pass}
-use Rattle.fm_calls.proofs.Going.{reached_by, lasts_by}
-use Rattle.fm_calls.proofs.Sweeps.{no_sweeps}
+use Rattle.fm_rule_calls.specs.Kept.{Lasts}
+use Rattle.fm_rule_calls.specs.Told.{view_of_pass}
+use Rattle.fm_rule_calls.proofs.Going.{reached_by, lasts_by}
+use Rattle.fm_rule_calls.proofs.Sweeps.{no_sweeps}
 use Rattle.fm_arena.proofs.Lasting.{keeps}
 use Rattle.fm_workers.specs.declared.worker.Worker.{Worker}
 use Rattle.fm_workers.specs.Crew.{IsFresh, IsIn, AreDone, callers}

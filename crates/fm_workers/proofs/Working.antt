@@ -10,14 +10,14 @@ use Rattle.fm_base.specs.Calls.{Entry}
 use Rattle.fm_base.specs.Histories.{made_by}
 use Rattle.fm_base.specs.Finds.{Find, Gathered, is_draw}
 use Rattle.fm_words.specs.declared.shape.Shape.{Shape}
-use Rattle.fm_pool_facts.specs.Hands.{no_number}
-use Rattle.fm_pool_facts.specs.Views.{View, In}
-use Rattle.fm_pool_facts.specs.Splits.{as_gathered}
-use Rattle.fm_pool_facts.proofs.Keeping.{in_append, in_left, in_right}
+use Rattle.fm_rule_facts.specs.Hands.{no_number}
+use Rattle.fm_rule_facts.specs.Views.{View, In}
+use Rattle.fm_rule_facts.specs.Splits.{as_gathered}
+use Rattle.fm_rule_facts.proofs.Keeping.{in_append, in_left, in_right}
 use Rattle.fm_rule.specs.Draws.{Looked}
-use Rattle.fm_pool_steps.proofs.Reading.{eqb_true}
-use Rattle.fm_calls.specs.Kept.{Lasts}
-use Rattle.fm_calls.proofs.Going.{reached_by, lasts_by}
+use Rattle.fm_rule_steps.proofs.Reading.{eqb_true}
+use Rattle.fm_rule_calls.specs.Kept.{Lasts}
+use Rattle.fm_rule_calls.proofs.Going.{reached_by, lasts_by}
 use Rattle.fm_workers.specs.declared.worker.Worker.{Worker}
 use Rattle.fm_workers.specs.Crew.{DrewEach, IsFresh, IsIn, IsWhole, FoundNoNumber, CrewGathered, CrewWorked, AreDone, callers}
 use Rattle.fm_workers.specs.Rounds.{Went, CalledUp, IsWorked, GatheredCrew, tasks_of, crew_of, passes_of}

@@ -1,11 +1,11 @@
 -- What is known is known later, so a part can be asked later too.
 use Rattle.fm_segment.specs.Region.{Region}
 use Rattle.fm_segment.specs.Access.{IsKnown}
-use Rattle.fm_calls.specs.Told.{view_of_pass}
+use Rattle.fm_rule_calls.specs.Told.{view_of_pass}
 use Rattle.std.proofs.Common.{le_trans}
-use Rattle.fm_pool_facts.specs.Views.{View}
-use Rattle.fm_calls.specs.Kept.{Lasts}
-use Rattle.fm_query.specs.Plan.{Plan}
+use Rattle.fm_rule_facts.specs.Views.{View}
+use Rattle.fm_rule_calls.specs.Kept.{Lasts}
+use Rattle.fm_records_query.specs.Plan.{Plan}
 use Rattle.fm_workers.specs.declared.part.Part.{Part}
 use Rattle.fm_workers.specs.Parts.{CanAsk}
 use Rattle.fm_workers.specs.Tallies.{CanTally, Tallied, Tallying}

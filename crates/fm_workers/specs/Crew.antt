@@ -1,5 +1,5 @@
 -- What a crew of passes did, each at a task of its own, for the pass that drew them and gathered them again.
-use Rattle.fm_calls.specs.Kept.{Lasts}
+use Rattle.fm_rule_calls.specs.Kept.{Lasts}
 use Rattle.std.specs.Prelude.{◌≡◌, ◌≢◌, ◌⊎◌, ◌+◌, ◌<◌, ◌==◌, true, if◌then◌else◌, ℕ, List, [], ◌∷◌, ◌++◌, length, map, All, Result, Ok, Err, None, ⊤}
 use Rattle.std.specs.List.{AllByRecursion}
 use Rattle.fm_words.specs.declared.shape.Shape.{Shape}
@@ -8,13 +8,13 @@ use Rattle.fm_base.specs.declared.caller.Caller.{Caller}
 use Rattle.fm_base.specs.declared.refusal.Refusal.{Refusal}
 use Rattle.fm_base.specs.declared.refusal.Refusal.TheVariants.{Memory, NoPass}
 use Rattle.fm_base.specs.Calls.{Entry}
-use Rattle.fm_lists.specs.Among.{IsAmong, AreApart}
+use Rattle.fm_base_lists.specs.Among.{IsAmong, AreApart}
 use Rattle.fm_base.specs.Histories.{made_by}
 use Rattle.fm_base.specs.Arenas.{only_caller}
 use Rattle.fm_base.specs.Finds.{Find, Gathered, is_draw, is_number}
-use Rattle.fm_pool_facts.specs.Hands.{last_term, most_draws}
-use Rattle.fm_pool_facts.specs.Splits.{as_gathered}
-use Rattle.fm_pool_facts.specs.Views.{View, In, IsSound, HasCaller}
+use Rattle.fm_rule_facts.specs.Hands.{last_term, most_draws}
+use Rattle.fm_rule_facts.specs.Splits.{as_gathered}
+use Rattle.fm_rule_facts.specs.Views.{View, In, IsSound, HasCaller}
 use Rattle.fm_rule.specs.Draws.{Drew, FoundNone}
 
 -- the callers, in their order

@@ -5,11 +5,11 @@ use Rattle.fm_base.specs.declared.caller.Caller.{Caller}
 use Rattle.fm_base.specs.declared.refusal.Refusal.{Refusal}
 use Rattle.fm_base.specs.declared.refusal.Refusal.TheVariants.{Memory}
 use Rattle.fm_base.specs.Calls.{Entry}
-use Rattle.fm_pool_facts.specs.Views.{View}
-use Rattle.fm_calls.specs.Told.{view_of_pass}
+use Rattle.fm_rule_facts.specs.Views.{View}
+use Rattle.fm_rule_calls.specs.Told.{view_of_pass}
 use Rattle.fm_segment.specs.Access.{IsKnown}
 use Rattle.fm_segment.specs.Region.{Region, part_of}
-use Rattle.fm_query.specs.Plan.{Plan}
+use Rattle.fm_records_query.specs.Plan.{Plan}
 use Rattle.fm_records.specs.declared.found.Found.{Found}
 use Rattle.fm_records.specs.Answers.{answer}
 use Rattle.fm_records.specs.Few.{AreFew}

@@ -1,6 +1,6 @@
 -- What a query by a crew asks for, and what its caller learns.
 use Rattle.fm_records.specs.Texts.{IsAnswerOf}
-use Rattle.fm_calls.specs.Kept.{Lasts}
+use Rattle.fm_rule_calls.specs.Kept.{Lasts}
 use Rattle.std.specs.Prelude.{◌≡◌, ◌≢◌, ◌⊎◌, ◌+◌, ◌-◌, ◌*◌, ◌/◌, ◌<◌, ◌≤◌, ◌%◌, ℕ, List, ◌∷◌, ◌++◌, length, Result, Ok, Err, IfOk}
 use Rattle.std.specs.List.{AllByRecursion}
 use Rattle.fm_base.specs.declared.caller.Caller.{Caller}
@@ -11,15 +11,15 @@ use Rattle.fm_base.specs.Calls.{Entry}
 use Rattle.fm_base.specs.Finds.{Find, Gathered}
 use Rattle.fm_base.specs.Histories.{made_by}
 use Rattle.fm_base.specs.Untouched.{Spares}
-use Rattle.fm_lists.specs.Among.{IsAmong}
+use Rattle.fm_base_lists.specs.Among.{IsAmong}
 use Rattle.fm_path.specs.Resolution.{Resolution}
-use Rattle.fm_pool_facts.specs.Views.{View, IsSound, state_in}
-use Rattle.fm_calls.specs.Told.{view_of_pass}
+use Rattle.fm_rule_facts.specs.Views.{View, IsSound, state_in}
+use Rattle.fm_rule_calls.specs.Told.{view_of_pass}
 use Rattle.fm_rule.specs.declared.pool.Pool.{Pool}
 use Rattle.fm_gate.specs.Standing.{IsOutside}
 use Rattle.fm_segment.specs.Access.{IsKnown}
 use Rattle.fm_segment.specs.Region.{Region, part_of}
-use Rattle.fm_query.specs.Plan.{Plan}
+use Rattle.fm_records_query.specs.Plan.{Plan}
 use Rattle.fm_records.specs.declared.found.Found.{Found}
 use Rattle.fm_records.specs.Alone.{bytes_at_places}
 use Rattle.fm_records.specs.Answers.{answer}

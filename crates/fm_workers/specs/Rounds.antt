@@ -9,9 +9,9 @@ use Rattle.fm_base.specs.Calls.{Entry}
 use Rattle.fm_base.specs.Histories.{made_by}
 use Rattle.fm_base.specs.Finds.{Find, Gathered, is_draw, is_number}
 use Rattle.fm_base.specs.View.{Did}
-use Rattle.fm_pool_facts.specs.Views.{View, In, IsSound}
-use Rattle.fm_pool_facts.specs.Splits.{view_of, as_gathered}
-use Rattle.fm_calls.specs.Told.{view_of_pass}
+use Rattle.fm_rule_facts.specs.Views.{View, In, IsSound}
+use Rattle.fm_rule_facts.specs.Splits.{view_of, as_gathered}
+use Rattle.fm_rule_calls.specs.Told.{view_of_pass}
 use Rattle.fm_rule.specs.declared.pool.Pool.{Pool}
 use Rattle.fm_rule.specs.Passes.{IsOf}
 use Rattle.fm_workers.specs.declared.worker.Worker.{Worker}

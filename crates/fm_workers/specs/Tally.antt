@@ -12,15 +12,15 @@ use Rattle.fm_base.specs.Counting.{OnlyAdds, adds_to}
 use Rattle.fm_base.specs.Finds.{Find, Gathered}
 use Rattle.fm_base.specs.Histories.{made_by}
 use Rattle.fm_base.specs.Visits.{refused_visit, visit}
-use Rattle.fm_lists.specs.Among.{IsAmong}
-use Rattle.fm_pool_facts.specs.Views.{View, IsSound, state_in}
-use Rattle.fm_calls.specs.Kept.{Lasts}
-use Rattle.fm_calls.specs.Told.{view_of_pass}
+use Rattle.fm_base_lists.specs.Among.{IsAmong}
+use Rattle.fm_rule_facts.specs.Views.{View, IsSound, state_in}
+use Rattle.fm_rule_calls.specs.Kept.{Lasts}
+use Rattle.fm_rule_calls.specs.Told.{view_of_pass}
 use Rattle.fm_rule.specs.declared.pool.Pool.{Pool}
 use Rattle.fm_path.specs.Resolution.{Resolution}
 use Rattle.fm_segment.specs.Access.{IsKnown}
 use Rattle.fm_segment.specs.Region.{Region, part_of}
-use Rattle.fm_query.specs.Plan.{Plan}
+use Rattle.fm_records_query.specs.Plan.{Plan}
 use Rattle.fm_records.specs.Alone.{bytes_at_places}
 use Rattle.fm_records.specs.Answers.{answer}
 use Rattle.fm_records.specs.Laws.{IsAsked, value_in}

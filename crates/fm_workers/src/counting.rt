@@ -7,8 +7,8 @@ use crate::adding::add_counts;
 use crate::counts::Counts;
 use crate::cutting::records_of;
 use fm_base::{Memory, Refusal};
-use fm_query::Query;
 use fm_records::{Answer, Found, Numbers, query_segment};
+use fm_records_query::Query;
 use fm_segment::Segment;
 use std::alloc::Global;
 

@@ -4,7 +4,7 @@ ghost use Rattle.fm_workers.specs.Parts.{AreLevel, IsCut, IsRun, least_in};
 
 use crate::part::Part;
 use fm_base::Refusal;
-use fm_query::Query;
+use fm_records_query::Query;
 use fm_segment::Segment;
 use std::alloc::Global;
 

@@ -4,8 +4,8 @@ ghost use Rattle.fm_workers.specs.Parts.{AnswersFew, CanJoinPart, ComesTo, Joins
 
 use crate::part::Part;
 use fm_base::Refusal;
-use fm_query::Query;
 use fm_records::{Answer, of_no_records};
+use fm_records_query::Query;
 use std::alloc::Global;
 
 /// The answer over all parts, from the answers over each.

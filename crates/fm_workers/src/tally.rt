@@ -15,7 +15,7 @@ use fm_arena::Shared;
 use fm_base::Refusal;
 use fm_io::Gate;
 use fm_lanes::ValueKind;
-use fm_query::{Asked, Fold, Query};
+use fm_records_query::{Asked, Fold, Query};
 use fm_rule::{Pass, Pool};
 use fm_segment::Segment;
 use std::alloc::Global;

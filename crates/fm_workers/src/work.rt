@@ -6,9 +6,9 @@ pub trait Work<T>: Sync {
     ghost use Rattle.std.specs.Prelude.{◌≡◌, List, None};
     ghost use Rattle.fm_base.specs.Calls.{Entry};
     ghost use Rattle.fm_base.specs.View.{Did};
-    ghost use Rattle.fm_pool_facts.specs.Views.{View};
-    ghost use Rattle.fm_calls.specs.Kept.{Lasts};
-    ghost use Rattle.fm_calls.specs.Told.{view_of_pass};
+    ghost use Rattle.fm_rule_facts.specs.Views.{View};
+    ghost use Rattle.fm_rule_calls.specs.Kept.{Lasts};
+    ghost use Rattle.fm_rule_calls.specs.Told.{view_of_pass};
 
     /// Whether the work can be done at a task by who has seen so much.
     ghost can: { Self → View → T → Type 0 };

@@ -1,10 +1,10 @@
 ghost use Rattle.fm_handle.specs.Learnt.{CanCall, CanPut, AfterGet, AfterSet};
 
 use super::VarHandle;
-use fm_access::{get_value, put_value};
 use fm_base::{Memory, Refusal};
 use fm_lanes::{Order, Value, ValueKind};
 use fm_segment::Segment;
+use fm_segment_access::{get_value, put_value};
 use std::sync::Wait;
 
 impl VarHandle {

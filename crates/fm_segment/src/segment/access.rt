@@ -5,10 +5,10 @@ ghost use Rattle.fm_segment.specs.Learnt.{CanGet, CanSet, AfterGet, AfterSet, Af
 
 use super::Segment;
 use crate::alignment::is_aligned;
-use fm_access::{get_value, put_value};
 use fm_base::{Memory, Refusal};
 use fm_lanes::{Order, Value, ValueKind};
 use fm_layout::{Form, Layout};
+use fm_segment_access::{get_value, put_value};
 use std::sync::Wait;
 
 impl Segment {

@@ -3,8 +3,8 @@ ghost use Rattle.fm_segment.specs.Learnt.{CanUse, AfterPutBytes};
 ghost use Rattle.fm_segment.specs.Puts.{checked_put};
 
 use super::Segment;
-use fm_access::put_bytes;
 use fm_base::{Memory, Refusal};
+use fm_segment_access::put_bytes;
 use std::sync::Wait;
 
 impl Segment {

@@ -4,7 +4,7 @@ ghost use Rattle.fm_segment.specs.Learnt.{CanUseBoth, AfterCopy};
 
 use super::Segment;
 use fm_base::{Memory, Refusal};
-use fm_copies::copy_range;
+use fm_segment_copies::copy_range;
 use std::sync::Wait;
 
 impl Segment {

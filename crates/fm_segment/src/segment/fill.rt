@@ -3,8 +3,8 @@ ghost use Rattle.fm_segment.specs.Fills.{checked_write};
 ghost use Rattle.fm_segment.specs.Learnt.{CanUse, AfterFill};
 
 use super::Segment;
-use fm_access::fill;
 use fm_base::{Memory, Refusal};
+use fm_segment_access::fill;
 use std::sync::Wait;
 
 impl Segment {

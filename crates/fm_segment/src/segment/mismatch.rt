@@ -5,7 +5,7 @@ ghost use Rattle.fm_segment.specs.Learnt.{CanUseBoth, AfterMismatch};
 
 use super::Segment;
 use fm_base::{Memory, Refusal};
-use fm_copies::mismatch_range;
+use fm_segment_copies::mismatch_range;
 
 impl Segment {
     /// The offset of the first byte in which it differs from `other`. Where one has all bytes of the other, and then

@@ -1,7 +1,7 @@
 use Rattle.std.specs.Prelude.{◌≡◌, ◌≤◌}
-use Rattle.fm_calls.specs.Kept.{Lasts}
+use Rattle.fm_rule_calls.specs.Kept.{Lasts}
 use Rattle.fm_gate.specs.Standing.{IsInside}
-use Rattle.fm_pool_facts.specs.Views.{given_of}
+use Rattle.fm_rule_facts.specs.Views.{given_of}
 use Rattle.fm_bench.proofs.reuse.put_all.Given as goal
 
 abbrev pub invariant-loop-word : goal.invariant-loop-word

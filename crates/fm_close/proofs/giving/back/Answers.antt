@@ -1,6 +1,6 @@
 use Rattle.std.proofs.Common.{sym, subst}
-use Rattle.fm_pool_facts.specs.Views.{View, In}
-use Rattle.fm_calls.proofs.Waiting.{waits}
+use Rattle.fm_rule_facts.specs.Views.{View, In}
+use Rattle.fm_rule_calls.proofs.Waiting.{waits}
 use Rattle.fm_gate.proofs.Takes.{waited_of}
 use Rattle.fm_close.proofs.Backs.{backs_on, after_back}
 use Rattle.fm_close.proofs.giving.back.Goals as goal

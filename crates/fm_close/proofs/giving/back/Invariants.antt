@@ -1,4 +1,4 @@
-use Rattle.fm_calls.proofs.Waiting.{Waited}
+use Rattle.fm_rule_calls.proofs.Waiting.{Waited}
 use Rattle.fm_close.proofs.giving.back.Given as goal
 
 abbrev pub invariant-loop : goal.invariant-loop

@@ -1,5 +1,5 @@
 use Rattle.std.proofs.Common.{[]}
-use Rattle.fm_pool_facts.specs.Parts.{wiping}
+use Rattle.fm_rule_facts.specs.Parts.{wiping}
 use Rattle.fm_close.specs.Sweeps.{SweepsOn}
 use Rattle.fm_close.proofs.sweeping.wipe.Given as goal
 

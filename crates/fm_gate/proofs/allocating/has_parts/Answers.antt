@@ -1,6 +1,6 @@
 use Rattle.std.proofs.Common.{◌≡◌, ◌*◌, ◌/◌, ◌≤◌, ℕ, ap, sym, ◌∙◌, subst, arith}
 use Rattle.fm_words.specs.declared.shape.Shape.{Shape}
-use Rattle.fm_pool_facts.specs.Views.{View, limit_of}
+use Rattle.fm_rule_facts.specs.Views.{View, limit_of}
 use Rattle.fm_pages.specs.Covers.{page_bytes}
 use Rattle.fm_pages.proofs.Parts.{of_way, way_read, pages_way}
 use Rattle.fm_pages.proofs.Ranges.{past_reach}

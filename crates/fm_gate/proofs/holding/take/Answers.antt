@@ -1,4 +1,4 @@
-use Rattle.fm_calls.proofs.Waiting.{waits}
+use Rattle.fm_rule_calls.proofs.Waiting.{waits}
 use Rattle.fm_gate.proofs.Takes.{waited_of, waited_may, takes_on, after_take}
 use Rattle.fm_gate.proofs.holding.take.Goals as goal
 

@@ -1,4 +1,4 @@
-use Rattle.fm_pool_facts.specs.Steps.{HasPlace}
+use Rattle.fm_rule_facts.specs.Steps.{HasPlace}
 use Rattle.fm_gate.proofs.Tries.{Trying}
 use Rattle.fm_gate.proofs.patching.patch.Given as goal
 

@@ -1,5 +1,5 @@
 use Rattle.fm_handle.specs.Place.{value_place}
-use Rattle.fm_access.proofs.Values.{puts_then_gets}
+use Rattle.fm_segment_access.proofs.Values.{puts_then_gets}
 use Rattle.fm_handle.proofs.laws.sets_then_gets.Goals as goal
 
 pub returns : goal.returns

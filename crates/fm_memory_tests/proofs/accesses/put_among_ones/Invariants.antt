@@ -1,4 +1,4 @@
-use Rattle.fm_access.specs.Learnt.{CanTouch}
+use Rattle.fm_segment_access.specs.Learnt.{CanTouch}
 use Rattle.fm_memory_tests.proofs.accesses.put_among_ones.Given as goal
 
 abbrev pub invariant-loop-at : goal.invariant-loop-at

@@ -1,4 +1,4 @@
-use Rattle.fm_access.specs.Learnt.{CanTouch}
+use Rattle.fm_segment_access.specs.Learnt.{CanTouch}
 use Rattle.fm_memory_tests.proofs.copies.copy_inside.Given as goal
 
 abbrev pub invariant-loop-place : goal.invariant-loop-place

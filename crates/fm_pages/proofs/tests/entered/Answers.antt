@@ -6,9 +6,9 @@ use Rattle.fm_base.specs.Histories.{state_after}
 use Rattle.fm_base.specs.Machine.{opened}
 use Rattle.fm_base.proofs.Lookup.{has_arena-opened}
 use Rattle.fm_base.proofs.Making.{state_after-append}
-use Rattle.fm_pool_facts.specs.Steps.{Stepped, none_noted}
-use Rattle.fm_pool_facts.specs.Views.{View, IsKnown, limit_of}
-use Rattle.fm_calls.proofs.Going.{goes_of, known_on, no_draws}
+use Rattle.fm_rule_facts.specs.Steps.{Stepped, none_noted}
+use Rattle.fm_rule_facts.specs.Views.{View, IsKnown, limit_of}
+use Rattle.fm_rule_calls.proofs.Going.{goes_of, known_on, no_draws}
 use Rattle.fm_pages.proofs.tests.entered.Goals as goal
 
 -- an arena that was opened is known

@@ -1,7 +1,7 @@
 -- The conditions are tested one by one.
 use Rattle.std.proofs.Common.{false, Ok, Err, refl, ap, sym, subst}
 use Rattle.fm_base.specs.declared.refusal.Refusal.TheVariants.{Closed}
-use Rattle.fm_lists.proofs.Each.{all_at}
+use Rattle.fm_base_lists.proofs.Each.{all_at}
 use Rattle.fm_records.specs.Adds.{IsTestable}
 use Rattle.fm_records.proofs.Testing.{none_tested, test_holds, test_ends, all_tested}
 use Rattle.fm_records.proofs.Seeing.{sees_still}

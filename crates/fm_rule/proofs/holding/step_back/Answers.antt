@@ -1,5 +1,5 @@
 use Rattle.std.proofs.Common.{ap, sym, subst}
-use Rattle.fm_pool_facts.specs.Views.{View, In}
+use Rattle.fm_rule_facts.specs.Views.{View, In}
 use Rattle.fm_rule.specs.Views.{numbers_of}
 use Rattle.fm_rule.proofs.Knowing.{in_pool, session_below, knows, fits, owner_below}
 use Rattle.fm_rule.proofs.Making.{may_back}

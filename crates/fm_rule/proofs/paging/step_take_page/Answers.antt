@@ -1,6 +1,6 @@
 use Rattle.std.proofs.Common.{ap, ◌∙◌}
-use Rattle.fm_pool_facts.specs.Views.{View}
-use Rattle.fm_pool_facts.proofs.Groups.{group_of_page}
+use Rattle.fm_rule_facts.specs.Views.{View}
+use Rattle.fm_rule_facts.proofs.Groups.{group_of_page}
 use Rattle.fm_rule.specs.Views.{numbers_of}
 use Rattle.fm_rule.proofs.Knowing.{in_pool, page_bits_below}
 use Rattle.fm_rule.proofs.Making.{may_take_page}

@@ -1,7 +1,7 @@
 use Rattle.std.proofs.Common.{ap, ◌∙◌, ◌≡◌, refl, arith}
 use Rattle.fm_base.specs.declared.caller.Caller.{Caller}
-use Rattle.fm_pool_facts.specs.Hands.{learnt}
-use Rattle.fm_pool_facts.specs.Views.{View}
+use Rattle.fm_rule_facts.specs.Hands.{learnt}
+use Rattle.fm_rule_facts.specs.Views.{View}
 use Rattle.fm_rule.specs.Views.{numbers_of}
 use Rattle.fm_rule.proofs.Knowing.{in_pool, session_below, valid, number_below, slot_in_hand}
 use Rattle.fm_rule.proofs.Making.{may_open}

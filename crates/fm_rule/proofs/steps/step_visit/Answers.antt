@@ -1,8 +1,8 @@
 use Rattle.std.proofs.Common.{ap, ◌∙◌, ◌<◌, sym, subst}
 use Rattle.fm_words.specs.declared.shape.Shape.{Shape}
-use Rattle.fm_pool_facts.specs.Views.{View}
-use Rattle.fm_pool_facts.specs.Closes.{passed_of}
-use Rattle.fm_pool_facts.specs.Words.{own_word}
+use Rattle.fm_rule_facts.specs.Views.{View}
+use Rattle.fm_rule_facts.specs.Closes.{passed_of}
+use Rattle.fm_rule_facts.specs.Words.{own_word}
 use Rattle.fm_rule.specs.Views.{numbers_of}
 use Rattle.fm_rule.proofs.Knowing.{in_pool, mark_below, shape_is}
 use Rattle.fm_rule.proofs.Making.{may_visit}

@@ -1,7 +1,7 @@
 use Rattle.std.proofs.Common.{ap, ◌∙◌}
-use Rattle.fm_pool_facts.specs.Views.{View}
-use Rattle.fm_pool_facts.specs.Closes.{passed_of}
-use Rattle.fm_pool_facts.proofs.Groups.{page_group}
+use Rattle.fm_rule_facts.specs.Views.{View}
+use Rattle.fm_rule_facts.specs.Closes.{passed_of}
+use Rattle.fm_rule_facts.proofs.Groups.{page_group}
 use Rattle.fm_rule.specs.Views.{numbers_of}
 use Rattle.fm_rule.proofs.Knowing.{in_pool, page_bits_below, all_swept, swept_over, page_in_sweep}
 use Rattle.fm_rule.proofs.Making.{may_return_page}

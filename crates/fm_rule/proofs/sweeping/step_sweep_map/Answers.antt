@@ -1,6 +1,6 @@
 use Rattle.std.proofs.Common.{ap, ◌∙◌}
-use Rattle.fm_pool_facts.specs.Views.{View}
-use Rattle.fm_pool_facts.specs.Closes.{passed_of}
+use Rattle.fm_rule_facts.specs.Views.{View}
+use Rattle.fm_rule_facts.specs.Closes.{passed_of}
 use Rattle.fm_rule.specs.Views.{numbers_of}
 use Rattle.fm_rule.proofs.Knowing.{in_pool, map_below, shape_is, swept_fits, valid}
 use Rattle.fm_rule.proofs.Making.{may_sweep_map}

@@ -1,6 +1,6 @@
 use Rattle.std.proofs.Common.{ap, ◌∙◌, refl}
-use Rattle.fm_pool_facts.specs.Hands.{taken}
-use Rattle.fm_pool_facts.specs.Views.{View}
+use Rattle.fm_rule_facts.specs.Hands.{taken}
+use Rattle.fm_rule_facts.specs.Views.{View}
 use Rattle.fm_rule.specs.Views.{numbers_of}
 use Rattle.fm_rule.proofs.Knowing.{in_pool, session_below, slot_in_hand}
 use Rattle.fm_rule.proofs.Making.{may_learn_generation}

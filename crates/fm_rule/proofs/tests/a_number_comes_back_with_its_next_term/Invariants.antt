@@ -1,5 +1,5 @@
 use Rattle.std.specs.Prelude.{◌≡◌}
-use Rattle.fm_pool_facts.specs.Hands.{no_number}
+use Rattle.fm_rule_facts.specs.Hands.{no_number}
 use Rattle.fm_rule.specs.Passes.{IsOf}
 use Rattle.fm_rule.proofs.tests.a_number_comes_back_with_its_next_term.Given as goal
 

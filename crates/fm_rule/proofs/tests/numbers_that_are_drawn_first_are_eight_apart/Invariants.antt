@@ -1,5 +1,5 @@
 use Rattle.std.specs.Prelude.{◌≡◌}
-use Rattle.fm_pool_facts.specs.Hands.{no_number}
+use Rattle.fm_rule_facts.specs.Hands.{no_number}
 use Rattle.fm_rule.specs.Passes.{IsOf}
 use Rattle.fm_rule.proofs.tests.numbers_that_are_drawn_first_are_eight_apart.Given as goal
 

@@ -1,8 +1,8 @@
 use Rattle.std.proofs.Common.{ap, ◌∙◌, sym, subst, ◌+◌, ◌≤◌}
 use Rattle.fm_base.proofs.Growing.{power_pos}
-use Rattle.fm_pool_facts.specs.Views.{View, limit_of}
+use Rattle.fm_rule_facts.specs.Views.{View, limit_of}
 use Rattle.fm_base.specs.Machine.{rounded_up}
-use Rattle.fm_pool_facts.specs.Steps.{HasParts}
+use Rattle.fm_rule_facts.specs.Steps.{HasParts}
 use Rattle.fm_rule.specs.Views.{numbers_of}
 use Rattle.fm_rule.proofs.Knowing.{in_pool, given_below, inside_slot, shape_is}
 use Rattle.fm_rule.proofs.Making.{may_allocate}

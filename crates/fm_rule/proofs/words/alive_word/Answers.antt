@@ -1,6 +1,6 @@
 use Rattle.std.proofs.Common.{ap, ◌∙◌, ℕ}
 use Rattle.fm_words.specs.Sessions.{session_word, alive}
-use Rattle.fm_pool_facts.specs.Words.{alive_word}
+use Rattle.fm_rule_facts.specs.Words.{alive_word}
 use Rattle.fm_rule.proofs.words.alive_word.Goals as goal
 
 pub returns : goal.returns

@@ -1,6 +1,6 @@
 use Rattle.std.proofs.Common.{ap, ◌∙◌, ℕ}
 use Rattle.fm_words.specs.Sessions.{session_word, closing}
-use Rattle.fm_pool_facts.specs.Words.{closing_word}
+use Rattle.fm_rule_facts.specs.Words.{closing_word}
 use Rattle.fm_rule.proofs.words.closing_word.Goals as goal
 
 pub returns : goal.returns

@@ -1,5 +1,5 @@
 use Rattle.std.proofs.Common.{◌≡◌, ◌+◌, ◌-◌, Bool, if◌then◌else◌, ap, ◌∙◌, sym, eq-eqb, ne_eqb, arith}
-use Rattle.fm_pool_facts.specs.Words.{kept}
+use Rattle.fm_rule_facts.specs.Words.{kept}
 use Rattle.fm_rule.proofs.words.generation_after.Goals as goal
 
 pub returns-then-next-generations : goal.returns-then-next-generations

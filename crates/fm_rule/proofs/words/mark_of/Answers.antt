@@ -1,4 +1,4 @@
-use Rattle.fm_pool_facts.specs.Words.{mark_of}
+use Rattle.fm_rule_facts.specs.Words.{mark_of}
 use Rattle.fm_rule.proofs.words.mark_of.Goals as goal
 
 pub returns : goal.returns

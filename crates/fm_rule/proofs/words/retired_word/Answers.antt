@@ -1,6 +1,6 @@
 use Rattle.std.proofs.Common.{ap, ◌∙◌, ℕ}
 use Rattle.fm_words.specs.Sessions.{session_word, free_session}
-use Rattle.fm_pool_facts.specs.Words.{free_word}
+use Rattle.fm_rule_facts.specs.Words.{free_word}
 use Rattle.fm_rule.proofs.words.retired_word.Goals as goal
 
 pub returns : goal.returns

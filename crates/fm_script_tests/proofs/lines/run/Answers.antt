@@ -1,7 +1,7 @@
 use Rattle.std.proofs.Common.{◌≡◌, List, subst, sym, arith}
 use Rattle.std.proofs.lemmas.Result.{IfOk-at_ok}
-use Rattle.fm_run.specs.declared.standing.Standing.{Standing}
-use Rattle.fm_run.specs.Tokens.{Backs}
+use Rattle.fm_script_lines.specs.declared.standing.Standing.{Standing}
+use Rattle.fm_script_lines.specs.Tokens.{Backs}
 use Rattle.fm_script_tests.proofs.lines.run.Goals as goal
 
 pub play-requires-clause-ready : goal.play-requires-clause-ready

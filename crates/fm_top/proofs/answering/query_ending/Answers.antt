@@ -1,5 +1,5 @@
 use Rattle.std.proofs.Common.{Some}
-use Rattle.fm_load.specs.Limits.{record_file_limit}
+use Rattle.fm_top_load.specs.Limits.{record_file_limit}
 use Rattle.fm_top.specs.Outcome.{RecordsEnd, no_file, too_many}
 use Rattle.fm_top.specs.Queries.{IsAnswered}
 use Rattle.fm_top.specs.declared.question.Question.TheVariants.{Query}

@@ -1,5 +1,5 @@
 use Rattle.std.proofs.Common.{ℕ, List, subst, sym}
-use Rattle.fm_options.specs.Options.{texts}
+use Rattle.fm_top_options.specs.Options.{texts}
 use Rattle.fm_top.specs.Words.{IsThreaded, three}
 use Rattle.fm_top.proofs.Numbers.{on_none}
 use Rattle.fm_top.proofs.Requests.{no_ask}

@@ -1,5 +1,5 @@
 use Rattle.std.proofs.lemmas.Result.{IfOk-weaker}
-use Rattle.fm_query.specs.Plan.{Plan}
+use Rattle.fm_records_query.specs.Plan.{Plan}
 use Rattle.fm_top.specs.Ending.{shown}
 use Rattle.fm_top.specs.Queries.{IsPlanned, over_layout}
 use Rattle.fm_top.proofs.Outcomes.{refused-layout, both_ok}

@@ -1,5 +1,5 @@
 use Rattle.std.proofs.lemmas.Result.{IfOk-weaker}
-use Rattle.fm_options.specs.Options.{texts}
+use Rattle.fm_top_options.specs.Options.{texts}
 use Rattle.fm_top.specs.Asked.{request_of}
 use Rattle.fm_top.specs.Ending.{shown}
 use Rattle.fm_top.specs.Run.{faulty, asked}

@@ -1,6 +1,6 @@
 use Rattle.std.proofs.Common.{subst}
 use Rattle.std.proofs.lemmas.Result.{IfOk-weaker}
-use Rattle.fm_script.specs.Scripts.{IsNoScript}
+use Rattle.fm_script_text.specs.Scripts.{IsNoScript}
 use Rattle.fm_top.specs.Ending.{shown}
 use Rattle.fm_top.proofs.Scripts.{refused_ends}
 use Rattle.fm_top.proofs.scripting.bytes_ending.Goals as goal

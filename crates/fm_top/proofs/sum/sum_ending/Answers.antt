@@ -1,5 +1,5 @@
 use Rattle.std.proofs.Common.{Some}
-use Rattle.fm_load.specs.Limits.{record_file_limit}
+use Rattle.fm_top_load.specs.Limits.{record_file_limit}
 use Rattle.fm_top.specs.Outcome.{RecordsEnd, IsSummed, no_file, too_many}
 use Rattle.fm_top.proofs.Unloaded.{unloaded_ends, unloaded_tells}
 use Rattle.fm_top.proofs.sum.sum_ending.Goals as goal

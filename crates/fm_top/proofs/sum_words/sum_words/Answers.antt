@@ -1,4 +1,4 @@
-use Rattle.fm_options.specs.Options.{texts}
+use Rattle.fm_top_options.specs.Options.{texts}
 use Rattle.fm_top.specs.Words.{five}
 use Rattle.fm_top.proofs.Numbers.{five_texts, none_summed, on_none}
 use Rattle.fm_top.proofs.sum_words.sum_words.Goals as goal

@@ -1,7 +1,7 @@
 use Rattle.std.proofs.Common.{rules, refl, ◌++◌, List, [], ◌∷◌, sym, ap, ◌∙◌, subst, append_assoc}
 use Rattle.std.proofs.lemmas.List.{append-nil}
-use Rattle.fm_pool_facts.specs.Hands.{no_number}
-use Rattle.fm_pool_facts.specs.Views.{View}
+use Rattle.fm_rule_facts.specs.Hands.{no_number}
+use Rattle.fm_rule_facts.specs.Views.{View}
 use Rattle.fm_rule.specs.Draws.{Gathers}
 use Rattle.fm_workers.specs.declared.worker.Worker.{Worker}
 use Rattle.fm_workers.specs.Rounds.{IsSpare, tasks_of}

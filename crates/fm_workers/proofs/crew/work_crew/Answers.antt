@@ -2,7 +2,7 @@ use Rattle.std.proofs.Common.{◌≡◌, ◌++◌, List, length, reverse, take, 
 use Rattle.std.specs.List.{AllByRecursion}
 use Rattle.std.proofs.lemmas.List.{append-nil, take_at}
 use Rattle.std.proofs.lemmas.List.Elements.{All-same, All-from_recursion, recursion_from_All}
-use Rattle.fm_pool_facts.specs.Views.{View}
+use Rattle.fm_rule_facts.specs.Views.{View}
 use Rattle.fm_workers.specs.declared.worker.Worker.{Worker}
 use Rattle.fm_workers.specs.Rounds.{IsSpare, GatheredCrew, tasks_of}
 use Rattle.fm_workers.proofs.Turning.{moved_back}

@@ -1,5 +1,5 @@
 use Rattle.std.proofs.Common.{rules, ◌≡◌, ◌+◌, ◌-◌, ◌/◌, ◌<◌, ◌≤◌, ℕ, List, [], ◌∷◌, arith, sym, ap, ◌∙◌, subst}
-use Rattle.fm_lists.proofs.Each.{all_both}
+use Rattle.fm_base_lists.proofs.Each.{all_both}
 use Rattle.fm_workers.specs.declared.part.Part.{Part}
 use Rattle.fm_workers.specs.Parts.{AreLevel, AreRuns, IsLevel}
 use Rattle.fm_workers.proofs.Runs.{AreLeft, all_left, last_end, next_end, run_level, runs_push, takes_share}

@@ -1,7 +1,7 @@
 use Rattle.std.proofs.Common.{◌≡◌, ◌<◌, ◌-◌, ◌/◌, ◌%◌, ℕ, ap, ◌∙◌, arith}
 use Rattle.fm_words.specs.Places.{at, page_word}
 use Rattle.fm_words.specs.Maps.{map_word}
-use Rattle.fm_bytes.specs.Words.{byte_of}
+use Rattle.fm_base_bytes.specs.Words.{byte_of}
 use Rattle.fm_rule.proofs.GivenBytes.{Stands, stands, shape_in, finished_in}
 use Rattle.fm_rule.proofs.finishing.Finished.byte.Goals as goal
 use Rattle.fm_rule.proofs.finishing.Finished.byte.Goals.{After-from-size}

@@ -1,6 +1,6 @@
 use Rattle.std.proofs.Common.{◌≡◌, take}
 use Rattle.fm_base.specs.Arenas.{arena_of}
-use Rattle.fm_bytes.specs.Words.{bytes_in}
+use Rattle.fm_base_bytes.specs.Words.{bytes_in}
 use Rattle.fm_rule.specs.GivenBytes.{state_of}
 use Rattle.fm_rule.proofs.finishing.Finished.collect.Given as goal
 

@@ -1,7 +1,7 @@
 use Rattle.fm_rule.proofs.Knowing.{one_table}
 use Rattle.std.proofs.Common.{refl, ap, sym, ◌∙◌}
 use Rattle.std.specs.Mem.Slots.{slots_items}
-use Rattle.fm_pool_facts.specs.Views.{View}
+use Rattle.fm_rule_facts.specs.Views.{View}
 use Rattle.fm_rule.specs.Views.{NoteView}
 use Rattle.fm_rule.proofs.Resting.{finished}
 use Rattle.fm_rule.proofs.pool.Pool.finish.Goals as goal

@@ -1,6 +1,6 @@
 use Rattle.std.proofs.Common.{ap, ◌∙◌, arith}
-use Rattle.fm_pool_facts.specs.Views.{View}
-use Rattle.fm_pool_steps.proofs.Gathering.{gather_joins}
+use Rattle.fm_rule_facts.specs.Views.{View}
+use Rattle.fm_rule_steps.proofs.Gathering.{gather_joins}
 use Rattle.fm_rule.specs.Views.{numbers_of}
 use Rattle.fm_rule.proofs.Knowing.{one_table, in_pool, front_below}
 use Rattle.fm_rule.proofs.Making.{may_look}

@@ -4,10 +4,10 @@ use Rattle.fm_words.specs.declared.shape.Shape.{Shape}
 use Rattle.fm_words.specs.Places.{at, draw, slot_bits}
 use Rattle.fm_words.specs.Bits.{ones}
 use Rattle.fm_base.specs.Arenas.{only_caller}
-use Rattle.fm_pool_facts.specs.Views.{IsSound}
-use Rattle.fm_pool_facts.specs.Splits.{first_view}
-use Rattle.fm_pool_facts.specs.Facts.{Rule}
-use Rattle.fm_pool_steps.proofs.First.{two_words}
+use Rattle.fm_rule_facts.specs.Views.{IsSound}
+use Rattle.fm_rule_facts.specs.Splits.{first_view}
+use Rattle.fm_rule_facts.specs.Facts.{Rule}
+use Rattle.fm_rule_steps.proofs.First.{two_words}
 use Rattle.fm_rule.specs.Beginning.{IsBegun}
 use Rattle.fm_rule.proofs.Beginning.{begun_none, begun_rule, begun_sound}
 use Rattle.fm_rule.specs.Views.{Keeps}

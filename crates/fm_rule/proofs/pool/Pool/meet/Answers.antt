@@ -1,6 +1,6 @@
 use Rattle.std.proofs.Common.{ap, ◌∙◌, subst}
-use Rattle.fm_pool_facts.specs.Views.{View}
-use Rattle.fm_pool_steps.proofs.Splitting.{meet_joins}
+use Rattle.fm_rule_facts.specs.Views.{View}
+use Rattle.fm_rule_steps.proofs.Splitting.{meet_joins}
 use Rattle.fm_rule.specs.Passes.{GoesOnFrom}
 use Rattle.fm_rule.specs.Views.{NoteView, numbers_of}
 use Rattle.fm_rule.proofs.Knowing.{one_table, in_pool, front_below}

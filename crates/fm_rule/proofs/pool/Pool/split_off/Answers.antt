@@ -1,7 +1,7 @@
 use Rattle.fm_rule.proofs.Knowing.{one_table}
 use Rattle.std.proofs.Common.{ap, sym, ◌∙◌, subst, None}
-use Rattle.fm_pool_facts.specs.Views.{View, IsSound}
-use Rattle.fm_pool_steps.proofs.Halving.{draw_splits}
+use Rattle.fm_rule_facts.specs.Views.{View, IsSound}
+use Rattle.fm_rule_steps.proofs.Halving.{draw_splits}
 use Rattle.fm_rule.specs.Views.{inside_of, Keeps}
 use Rattle.fm_rule.proofs.Allowed.{sound_homed}
 use Rattle.fm_rule.proofs.Noting.{some_words}

@@ -1,4 +1,4 @@
-use Rattle.fm_pool_facts.specs.Hands.{no_number}
+use Rattle.fm_rule_facts.specs.Hands.{no_number}
 use Rattle.fm_rule.specs.Draws.{Seeks}
 use Rattle.fm_rule.proofs.pool.Pool.take_number.Given as goal
 

@@ -1,5 +1,5 @@
 use Rattle.std.proofs.Common.{ap, ◌∙◌, ◌==◌, ◌+◌, length, ℕ}
-use Rattle.fm_pool_facts.specs.Views.{View}
+use Rattle.fm_rule_facts.specs.Views.{View}
 use Rattle.fm_rule.proofs.Asking.{looked, still_gathered}
 use Rattle.fm_rule.proofs.pool.Pool.whole.Goals as goal
 

@@ -1,5 +1,0 @@
-use Rattle.fm_access_laws.proofs.Tidying.{tidy}
-use Rattle.fm_access_laws.proofs.accesses_are_tidy.Goals as goal
-
-pub returns : goal.returns
-returns c = tidy

@@ -1,5 +1,0 @@
-use Rattle.fm_access_laws.proofs.Handling.{lone_handles_tidy}
-use Rattle.fm_access_laws.proofs.lone_handles_are_tidy.Goals as goal
-
-pub returns : goal.returns
-returns c = lone_handles_tidy

@@ -1,5 +1,0 @@
-use Rattle.fm_access_laws.proofs.Handling.{paths_inside}
-use Rattle.fm_access_laws.proofs.paths_stay_inside.Goals as goal
-
-pub returns : goal.returns
-returns c = paths_inside c.args.layout.now c.size-size.ensures.well_formed

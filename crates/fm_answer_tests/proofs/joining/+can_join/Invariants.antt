@@ -1,5 +1,0 @@
-use Rattle.std.proofs.Common.{length}
-use Rattle.fm_answer_tests.proofs.joining.+can_join.Given as goal
-
-abbrev pub decreases-can_join : goal.decreases-can_join
-decreases-can_join l = length l.a.now

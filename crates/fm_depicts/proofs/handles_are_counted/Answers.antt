@@ -1,5 +1,0 @@
-use Rattle.fm_depicts.proofs.Handles.{handles_counted}
-use Rattle.fm_depicts.proofs.handles_are_counted.Goals as goal
-
-pub returns : goal.returns
-returns c = handles_counted

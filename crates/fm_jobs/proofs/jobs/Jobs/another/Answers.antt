@@ -1,5 +1,0 @@
-use Rattle.fm_jobs.proofs.Moves.{forks}
-use Rattle.fm_jobs.proofs.jobs.Jobs.another.Goals as goal
-
-pub another-requires-clause-rule : goal.another-requires-clause-rule
-another-requires-clause-rule c = forks _ _ c.requires.role

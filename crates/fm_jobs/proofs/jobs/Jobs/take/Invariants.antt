@@ -1,5 +1,0 @@
-use Rattle.fm_jobs.specs.Turns.{account_of, HasAccount}
-use Rattle.fm_jobs.proofs.jobs.Jobs.take.Given as goal
-
-abbrev pub invariant-loop : goal.invariant-loop
-invariant-loop g l = HasAccount l.self l.turn (account_of l.fn.turn)

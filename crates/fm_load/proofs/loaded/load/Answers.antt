@@ -1,8 +1,0 @@
-use Rattle.std.proofs.Common.{length, ap, arith}
-use Rattle.fm_load.proofs.GivenBytes.{length-loaded}
-use Rattle.fm_load.proofs.loaded.load.Goals as goal
-
-pub returns-in-Ok-load_into-clause-short : goal.returns-in-Ok-load_into-clause-short
-returns-in-Ok-load_into-clause-short g c =
-    let loaded = c.in-Ok-load_into.ensures in
-    omega (arith, ap length c.of.ensures, length-loaded loaded.ready, loaded.short)

@@ -1,6 +1,0 @@
-use Rattle.std.proofs.Common.{◌≡◌, map, take}
-use Rattle.fm_run.specs.Standings.{arena_of, standing_as}
-use Rattle.fm_play.proofs.joining.opened_by.Given as goal
-
-abbrev pub invariant-loop-name : goal.invariant-loop-name
-invariant-loop-name l = l.opened.items ≡ map (λ name. arena_of (standing_as name)) (take l.name-index l.lent)

@@ -1,4 +1,0 @@
-pub mod Alive
-pub mod Players
-pub mod Runs
-pub mod Staying

@@ -1,6 +1,0 @@
-ghost use Rattle.fm_play.specs.Alive.{AliveFit};
-
-/// A report tells at most as many arenas that are alive as its pool has slots.
-pub fn alive_arenas_fit()
-    ensures { AliveFit }
-{}

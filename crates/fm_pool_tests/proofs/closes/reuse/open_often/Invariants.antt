@@ -1,5 +1,0 @@
-use Rattle.fm_gate.specs.Standing.{IsOutside}
-use Rattle.fm_pool_tests.proofs.closes.reuse.open_often.Given as goal
-
-abbrev pub invariant-loop-opened : goal.invariant-loop-opened
-invariant-loop-opened g l = IsOutside l.fn.pool l.pass

@@ -1,5 +1,0 @@
-use Rattle.fm_query.proofs.Reading.{IsReading}
-use Rattle.fm_query.proofs.parse.read.Given as goal
-
-abbrev pub invariant-loop-at : goal.invariant-loop-at
-invariant-loop-at l = IsReading l.text l.at l.spot

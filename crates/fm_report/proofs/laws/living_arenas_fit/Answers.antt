@@ -1,5 +1,0 @@
-use Rattle.fm_report.proofs.Living.{living_fit}
-use Rattle.fm_report.proofs.laws.living_arenas_fit.Goals as goal
-
-pub returns : goal.returns
-returns c = living_fit

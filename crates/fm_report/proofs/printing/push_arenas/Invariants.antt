@@ -1,8 +1,0 @@
-use Rattle.std.proofs.Common.{◌≡◌, ◌++◌, take}
-use Rattle.std.specs.List.{flat_map}
-use Rattle.std.specs.String.{string_bytes}
-use Rattle.fm_report.specs.Texts.{arena_text}
-use Rattle.fm_report.proofs.printing.push_arenas.Given as goal
-
-abbrev pub invariant-loop-arena : goal.invariant-loop-arena
-invariant-loop-arena l = string_bytes l.text ≡ string_bytes l.initial.text ++ flat_map arena_text (take l.arena-index l.alive)

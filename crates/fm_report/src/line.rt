@@ -1,9 +1,0 @@
-use fm_run::Reply;
-use fm_script::Text;
-
-/// A script's line, with all its words, and what it was answered.
-#[derive(Debug, Drop)]
-pub struct ReportLine {
-    pub text: Text,
-    pub reply: Reply,
-}

@@ -1,0 +1,67 @@
+-- Calls of a pass as calls of a memory that tells its history.
+use Rattle.std.proofs.Common.{◌≡◌, true, List, ◌++◌, refl, ap, ◌∙◌, inl, inr}
+use Rattle.std.proofs.lemmas.List.Elements.{filter-append}
+use Rattle.fm_base.specs.Calls.{Entry}
+use Rattle.fm_base.specs.Histories.{made_by}
+use Rattle.fm_base.specs.View as memory
+use Rattle.fm_base.specs.View.{Makes, Did, IsByItself}
+use Rattle.fm_rule_facts.specs.Views.{View, limit_of, IsSound}
+use Rattle.fm_rule_calls.specs.Kept.{Goes, rest_of, Kept}
+use Rattle.fm_rule_calls.specs.Told.{view_of_pass, silent_view}
+use Rattle.fm_rule_calls.proofs.Going.{reached}
+
+-- A sound pass tells a sound view.
+pub sound_view : (p : View) → IsSound p → memory.IsSound (view_of_pass p)
+sound_view p s = record { limit = s.limit; told = (s.legal, refl, refl) }
+
+by_itself : (p : View) → IsByItself (view_of_pass p) → p.whole ≡ true
+by_itself p (inl e) = absurd (cc)
+by_itself p (inr w) = w
+
+silent : (p : View) → ¬ (IsByItself (silent_view p))
+silent p (inl e) = absurd (cc)
+silent p (inr w) = w
+
+-- A pass's way, whatever it has then, is that of a memory that tells nothing.
+pub silent_makes : {p q : View} {own : List Entry} → Goes p q own → Makes (silent_view p) (silent_view q) own
+silent_makes {p = p} g =
+    let r = reached g in
+    record {
+      all = g.more;
+      legal = r.legal;
+      reached = r.state;
+      by_caller = g.by_pass;
+      alone = λ h. absurd (silent p h);
+      inside = g.inside;
+      same_limit = ap limit_of g.same_shape;
+      same_caller = g.same_caller;
+      same_alone = refl;
+      told = tt;
+    }
+
+-- A pass's way that leaves what it has is the memory's.
+pub makes_of : (p q : View) (own : List Entry) → Goes p q own → rest_of q ≡ rest_of p → Makes (view_of_pass p) (view_of_pass q) own
+makes_of p q own g same =
+    let r = reached g in
+    record {
+      all = g.more;
+      legal = r.legal;
+      reached = r.state;
+      by_caller = g.by_pass;
+      alone = λ h. g.alone (by_itself p h);
+      inside = g.inside;
+      same_limit = ap limit_of g.same_shape;
+      same_caller = g.same_caller;
+      same_alone = refl;
+      told = record {
+        seen = g.seen;
+        mine = ap (λ c. made_by c q.seen) g.same_caller ∙ (ap (λ (es : List Entry). made_by p.caller es) g.seen ∙ (filter-append _ p.seen g.more
+            ∙ ap (λ (es : List Entry). made_by p.caller p.seen ++ es) g.by_pass));
+        finds = g.finds;
+        rest = same;
+        quiet = g.apart;
+      };
+    }
+
+pub did_of : (p q : View) (P : List Entry → Type 0) → Kept p q P → Did (view_of_pass p) (view_of_pass q) P
+did_of p q P k = record { own = k.own; does = k.does; makes = makes_of p q k.own k.goes k.rest }

@@ -1,0 +1,109 @@
+-- Loans of a history that goes on.
+use Rattle.std.proofs.Common.{◌≡◌, ◌≢◌, ◌⊎◌, ℕ, ◌==◌, Bool, true, false, not, cond, filter, List, [], ◌∷◌, ◌++◌, sym, refl, ap, ◌∙◌, subst, inl, inr, ⊎_elim, arith, eq-eqb}
+use Rattle.std.proofs.lemmas.List.Elements.{All-contains, All-contains_itself, All-filter, Contains-append_left, Contains-append_right, Contains-append_cases, Contains-push, Contains-push_cases}
+use Rattle.std.specs.Prelude.{Contains}
+use Rattle.fm_base.specs.declared.caller.Caller.{Caller}
+use Rattle.fm_base.specs.Arenas.{Life, Alive, Closing, Ended, State, has_arena, arena_of}
+use Rattle.fm_base.specs.Calls.{Call, Open, Enter, Read, Write, SwapIf, Add, Allocate, Leave, Hold, Unhold, Shut, End, Lend, Back, Entry}
+use Rattle.fm_base.specs.Machine.{after}
+use Rattle.fm_base.specs.Histories.{IsLegal, state_after}
+use Rattle.fm_rule_facts.specs.Loans.{Loan, loans_by, loans_after, IsRightlyLentIn, IsRightlyLentFrom}
+use Rattle.fm_base.proofs.Making.{state_after-append}
+use Rattle.fm_base_machine.specs.Functions.{Fresh, Over, stage_of, Machine, Depicts, moved}
+use Rattle.fm_rule_facts.specs.Moves.{LendsBy, MayLend, MayMake}
+use Rattle.fm_rule_facts.proofs.Frame.{legal_on}
+
+-- ---- histories put together
+
+pub loans_after-append : (loans : List Loan) (es fs : List Entry) → loans_after loans (es ++ fs) ≡ loans_after (loans_after loans es) fs
+loans_after-append loans [] fs = refl
+loans_after-append loans (e ∷ es) fs = loans_after-append (loans_by loans e.call) es fs
+
+pub lent-append : (size limit : ℕ) (s : State) (loans : List Loan) (es fs : List Entry) → IsRightlyLentFrom size limit s loans es
+    → IsRightlyLentFrom size limit (state_after limit s es) (loans_after loans es) fs → IsRightlyLentFrom size limit s loans (es ++ fs)
+lent-append size limit s loans [] fs p q = q
+lent-append size limit s loans (e ∷ es) fs p q = (p.0, lent-append size limit (after limit s e) (loans_by loans e.call) es fs p.1 q)
+
+-- ---- what the functions allow is right
+
+there : (b : Bool) (l : Life) → stage_of b l ≢ Fresh → b ≡ true
+there true l n = refl
+there false l n = absurd (n refl)
+
+on_going : (b : Bool) (l : Life) → stage_of b l ≢ Fresh → stage_of b l ≢ Over → l ≢ Ended
+on_going true Alive n o e = absurd (cc)
+on_going true Closing n o e = absurd (cc)
+on_going true Ended n o e = o refl
+on_going false l n o e = n refl
+
+pub over_now : (b : Bool) (l : Life) → stage_of b l ≡ Over → l ≡ Ended
+over_now true Alive o = absurd (cc)
+over_now true Closing o = absurd (cc)
+over_now true Ended o = refl
+over_now false l o = absurd (cc)
+
+right_by : (size limit : ℕ) (s : State) (t : Machine) (loans : List Loan) (call : Call) → Depicts limit s t → LendsBy size t loans call
+    → IsRightlyLentIn size s loans call
+right_by size limit s t loans (Lend block id part) d m =
+    let n : stage_of (has_arena s id) (arena_of s id).life ≢ Fresh = (λ f. m.1 (d.life id ∙ f)) in
+    (m.0, there (has_arena s id) (arena_of s id).life n, on_going (has_arena s id) (arena_of s id).life n (λ f. m.2 (d.life id ∙ f)), m.3)
+right_by size limit s t loans (Back block) d m = (m.0, m.1, m.2, over_now (has_arena s m.0) (arena_of s m.0).life (sym (d.life m.0) ∙ m.3))
+right_by size limit s t loans (Read id word) d m = m
+right_by size limit s t loans (Write id word value) d m = m
+right_by size limit s t loans (SwapIf id word old new) d m = m
+right_by size limit s t loans (Add id word n) d m = m
+right_by size limit s t loans (Open id) d m = tt
+right_by size limit s t loans (Enter id) d m = tt
+right_by size limit s t loans (Allocate id length align) d m = tt
+right_by size limit s t loans (Leave id) d m = tt
+right_by size limit s t loans (Hold id) d m = tt
+right_by size limit s t loans (Unhold id) d m = tt
+right_by size limit s t loans (Shut id) d m = tt
+right_by size limit s t loans (End id) d m = tt
+
+-- entries that the functions allow are rightly lent where a legal history goes on with them
+pub lent_on : (size limit : ℕ) (c : Caller) (h : List Entry) (loans : List Loan) (es : List Entry) (t : Machine) → IsLegal limit [] h
+    → Depicts limit (state_after limit [] h) t
+    → MayMake limit t c es → MayLend size t loans es → IsRightlyLentFrom size limit (state_after limit [] h) loans es
+lent_on size limit c h loans [] t l d p m = tt
+lent_on size limit c h loans (e ∷ es) t l d p m =
+    let one = legal_on limit c h (e ∷ []) t l d (p.0, p.1, p.2, tt) in
+    let rest = lent_on size limit c (h ++ e ∷ []) (loans_by loans e.call) es (moved t e.caller e.call e.reply) one.0 one.1 p.3 m.1 in (
+      right_by size limit (state_after limit [] h) t loans e.call d m.0,
+      subst (λ (s : State). IsRightlyLentFrom size limit s (loans_by loans e.call) es) (state_after-append limit [] h (e ∷ [])) rest,
+    )
+
+-- ---- loans after each kind of entry
+
+first_loan : (l : Loan) (loans : List Loan) → Contains (l ∷ loans) l
+first_loan l loans = Contains-append_left (l ∷ []) loans l (Contains-push [] l)
+
+more_loans : (l x : Loan) (loans : List Loan) → Contains loans x → Contains (l ∷ loans) x
+more_loans l x loans h = Contains-append_right (l ∷ []) loans x h
+
+pub loan_cases : (l x : Loan) (loans : List Loan) → Contains (l ∷ loans) x → (l ≡ x) ⊎ Contains loans x
+loan_cases l x loans h = ⊎_elim
+    (λ (one : Contains (l ∷ []) x). ⊎_elim (λ (none : Contains [] x). absurd (let b = none.1 in omega arith)) (λ (e : l ≡ x). inl e)
+    (Contains-push_cases [] l x one))
+    (λ (more : Contains loans x). inr more)
+    (Contains-append_cases (l ∷ []) loans x h)
+
+-- what was lent of other blocks is lent still, when one is taken back
+pub loan_kept : (p : Loan → Bool) (loans : List Loan) (x : Loan) → Contains loans x → p x ≡ true → Contains (filter p loans) x
+loan_kept p [] x h e = absurd (let l = h.1 in omega arith)
+loan_kept p (y ∷ ys) x h e = go (p y) refl (loan_cases y x ys h) (λ i. loan_kept p ys x i e)
+  where
+    go : (b : Bool) → p y ≡ b → (y ≡ x) ⊎ Contains ys x → (Contains ys x → Contains (filter p ys) x) → Contains (cond b (y ∷ filter p ys) (filter p ys)) x
+    go true t (inl i) ih = subst (λ (w : Loan). Contains (w ∷ filter p ys) x) (sym i) (first_loan x (filter p ys))
+    go true t (inr i) ih = more_loans y x (filter p ys) (ih i)
+    go false t (inl i) ih = absurd (let q : true ≡ false = sym e ∙ (ap p (sym i) ∙ t) in cc)
+    go false t (inr i) ih = ih i
+
+pub loan_was : (p : Loan → Bool) (loans : List Loan) (x : Loan) → Contains (filter p loans) x → Contains loans x
+loan_was p loans x = All-contains (Contains loans) (filter p loans) x (All-filter p (Contains loans) loans (All-contains_itself loans))
+
+which_loan : (l x : Loan) (loans : List Loan) → Contains (l ∷ loans) x → (l ≢ x) → Contains loans x
+which_loan l x loans h n = ⊎_elim (λ (e : l ≡ x). absurd (n e)) (λ (more : Contains loans x). more) (loan_cases l x loans h)
+
+other_block : (m n : ℕ) → not (m == n) ≡ true → m ≢ n
+other_block m n h e = let q : (m == n) ≡ true = eq-eqb m n e in let f : not true ≡ true = ap not (sym q) ∙ h in absurd (cc)

@@ -1,0 +1,243 @@
+-- The steps that mark, check, unmark and look.
+use Rattle.std.proofs.Common.{◌≡◌, ℕ, true, List, [], ◌∷◌, get_or, refl, ◌∙◌, Option, Some, None}
+use mathlib.Core.Option.{some}
+use lib.ListN.{get_elem?}
+use Rattle.fm_words.specs.declared.shape.Shape.{Shape}
+use Rattle.fm_words.specs.Places.{at as place_at, mark, session}
+use Rattle.fm_base.specs.declared.arena_id.ArenaId.{ArenaId}
+use Rattle.fm_base.specs.Arenas.{MayUse}
+use Rattle.fm_base.specs.Calls.{Enter, Leave, Fine, Closed, entry_of}
+use Rattle.fm_base_machine.specs.Functions.{put}
+use Rattle.fm_base_machine.proofs.Putting.{put_here, put_else, by_here}
+use Rattle.fm_rule_facts.specs.declared.step.Step.TheVariants.{Marks, Checks, Unmarks, Looks}
+use Rattle.fm_rule_facts.specs.Views.{View, IsKnown}
+use Rattle.fm_rule_facts.specs.Words.{mark_of, alive_holds, enter_found, inside_found}
+use Rattle.fm_rule_facts.specs.Steps.{part, entries, noted, acted, none_noted}
+use Rattle.fm_rule_facts.specs.Facts.{Memory, Rule}
+use Rattle.fm_rule_facts.specs.Moves.{MayStep, MayStore}
+use Rattle.fm_rule_facts.proofs.Worlds.{world_mark, world_enter, world_leave}
+use Rattle.fm_rule_facts.proofs.Shown.{shows_same, shows_mark}
+use Rattle.fm_rule_steps.proofs.Reading.{Says, says, enter_says}
+use Rattle.fm_rule_facts.proofs.Founds.{no_draw}
+use Rattle.fm_rule_steps.proofs.Quiet.{looks_on}
+use Rattle.fm_rule_steps.proofs.Plain.{same_but, own, low, known_now, Made, plain}
+
+module _ (z : Shape) (me : ℕ) (v : View) (l : v.live ≡ true) where
+  -- the mark goes up
+  pub mark_steps : (a : ArenaId) → v.inside ≡ None → MayStore z (Marks a) me v (place_at z (mark v.caller.number)) (mark_of a)
+  unfolding part entries noted
+  mark_steps a out = record {
+    may = λ ws vs r at.
+        let k = own z ws vs r me v at l in
+        let n : ℕ = v.caller.number in
+        let i : ℕ = place_at z (mark n) in
+        let m' : Memory = record r.memory { marks = put r.memory.marks n (Some a) } in
+        let g = plain z ws vs r me v at l i (mark_of a) (record v { mark = Some a }) [] none_noted no_draw m' (record {
+          may = tt;
+          ends = λ b. tt;
+          marks = put_else r.memory.marks n (Some a);
+          numbers = λ k. refl;
+          number = refl;
+          terms = λ k. refl;
+          draw = refl;
+          still = λ s g f. f;
+          back = λ s g f. f;
+          bits = refl;
+          same = same_but;
+          closes = refl;
+          hand = refl;
+          sweeps = refl;
+          ended = λ b o f. record { session = f; maps = λ i. refl; given = refl };
+          shown = λ b f. f;
+          was = λ b h. h;
+          holds = λ a. refl;
+          lends = tt;
+          pages = r.pages;
+          maps = refl;
+          cells = λ p j b w. refl;
+          reads = λ a e x i. (e, i);
+          paged = refl;
+          swept = refl;
+          shows = shows_mark z r.valid ws r.memory r.shows n (Some a) (low z ws vs r me v at l);
+          world = world_mark z r.memory r.machine r.world v.caller (Some a) k.term (k.inside ∙ out);
+          inside = k.inside;
+          mark = put_here r.memory.marks n (Some a);
+        }) in
+        (g.0, g.1, record { gives = g.2; learns = tt });
+  }
+
+  -- the session is looked at: after the mark, alive is an entrance
+  pub check_steps : (a : ArenaId) → v.inside ≡ None → v.mark ≡ Some a → IsKnown v a → MayUse a v.caller
+      → MayStep z (Checks a) me v (place_at z (session a.slot)) (λ n. n)
+  unfolding part entries noted
+  check_steps a out marked known use_it =
+      record { may = λ ws vs r at. let g = go ws vs r at (alive_holds a (found ws)) (read ws vs r at) in (g.0, g.1, record { gives = g.2; learns = tt }) }
+    where
+      found : List ℕ → ℕ
+      found ws = get_or ws (place_at z (session a.slot)) 0
+
+      read : (ws : List ℕ) (vs : List View) (r : Rule z ws vs) (at : get_elem? vs me ≡ some v) → Says r.machine a (alive_holds a (found ws))
+      read ws vs r at =
+          let known' = known_now z ws vs r me v at l a known in
+          says z r.memory r.machine r.world r.valid.passes.1 a known' (found ws) (r.shows.sessions a.slot (r.world.sessions.fits a known').slot)
+
+      go : (ws : List ℕ) (vs : List View) (r : Rule z ws vs) (at : get_elem? vs me ≡ some v) (o : Option ℕ) → Says r.machine a o
+          → Made z ws vs me v (place_at z (session a.slot)) (found ws) (record v { inside = inside_found a o; reads = [] })
+          (entry_of v.caller (Enter a) (enter_found o) ∷ []) none_noted
+      go ws vs r at None s =
+          let k = own z ws vs r me v at l in
+          let quiet = k.inside ∙ out in
+          plain z ws vs r me v at l (place_at z (session a.slot)) (found ws) (record v { inside = None; reads = [] })
+          (entry_of v.caller (Enter a) Closed ∷ []) none_noted no_draw r.memory (record {
+            may = (refl, (known_now z ws vs r me v at l a known, use_it, quiet), enter_says r.machine a None s, tt);
+            ends = λ b. ((λ h. h), tt);
+            marks = λ k h. refl;
+            numbers = λ k. refl;
+            number = refl;
+            terms = λ k. refl;
+            draw = refl;
+            still = λ s g f. f;
+            back = λ s g f. f;
+            bits = refl;
+            same = same_but;
+            closes = refl;
+            hand = refl;
+            sweeps = refl;
+            ended = λ b o f. record { session = f; maps = λ i. refl; given = refl };
+            shown = λ b f. f;
+            was = λ b h. h;
+            holds = λ a. refl;
+            lends = (tt, tt);
+            pages = r.pages;
+            maps = refl;
+            cells = λ p j b w. refl;
+            reads = λ b e x i. absurd i;
+            paged = refl;
+            swept = refl;
+            shows = shows_same z r.valid ws r.memory r.shows (place_at z (session a.slot));
+            world = r.world;
+            inside = quiet;
+            mark = k.mark;
+          })
+      go ws vs r at (Some n) s =
+          let k = own z ws vs r me v at l in
+          let quiet = k.inside ∙ out in
+          plain z ws vs r me v at l (place_at z (session a.slot)) (found ws) (record v { inside = Some a; reads = [] })
+          (entry_of v.caller (Enter a) Fine ∷ []) none_noted no_draw r.memory (record {
+            may = (refl, (known_now z ws vs r me v at l a known, use_it, quiet), enter_says r.machine a (Some n) s, tt);
+            ends = λ b. ((λ h. h), tt);
+            marks = λ k h. refl;
+            numbers = λ k. refl;
+            number = refl;
+            terms = λ k. refl;
+            draw = refl;
+            still = λ s g f. f;
+            back = λ s g f. f;
+            bits = refl;
+            same = same_but;
+            closes = refl;
+            hand = refl;
+            sweeps = refl;
+            ended = λ b o f. record { session = f; maps = λ i. refl; given = refl };
+            shown = λ b f. f;
+            was = λ b h. h;
+            holds = λ a. refl;
+            lends = (tt, tt);
+            pages = r.pages;
+            maps = refl;
+            cells = λ p j b w. refl;
+            reads = λ b e x i. absurd i;
+            paged = refl;
+            swept = refl;
+            shows = shows_same z r.valid ws r.memory r.shows (place_at z (session a.slot));
+            world = world_enter z r.memory r.machine r.world v.caller a (low z ws vs r me v at l) k.term (k.mark ∙ marked) s.0;
+            inside = by_here r.machine.inside v.caller (Some a);
+            mark = k.mark;
+          })
+
+  -- the mark goes down, and a caller that was inside leaves
+  pub unmark_steps : MayStore z Unmarks me v (place_at z (mark v.caller.number)) 0
+  unfolding part entries noted
+  unmark_steps = record { may = λ ws vs r at. let g = go ws vs r at v.inside refl in (g.0, g.1, record { gives = g.2; learns = tt }) }
+    where
+      go : (ws : List ℕ) (vs : List View) (r : Rule z ws vs) (at : get_elem? vs me ≡ some v) (o : Option ArenaId) → v.inside ≡ o
+          → Made z ws vs me v (place_at z (mark v.caller.number)) 0 (record v { inside = None; mark = None }) (acted o v.caller Leave Fine) none_noted
+      go ws vs r at None e =
+          let k = own z ws vs r me v at l in
+          let n : ℕ = v.caller.number in
+          plain z ws vs r me v at l (place_at z (mark n)) 0 (record v { inside = None; mark = None }) [] none_noted no_draw
+          (record r.memory { marks = put r.memory.marks n None }) (record {
+            may = tt;
+            ends = λ b. tt;
+            marks = put_else r.memory.marks n None;
+            numbers = λ k. refl;
+            number = refl;
+            terms = λ k. refl;
+            draw = refl;
+            still = λ s g f. f;
+            back = λ s g f. f;
+            bits = refl;
+            same = same_but;
+            closes = refl;
+            hand = refl;
+            sweeps = refl;
+            ended = λ b o f. record { session = f; maps = λ i. refl; given = refl };
+            shown = λ b f. f;
+            was = λ b h. h;
+            holds = λ a. refl;
+            lends = tt;
+            pages = r.pages;
+            maps = refl;
+            cells = λ p j b w. refl;
+            reads = λ b e x i. absurd (cc);
+            paged = refl;
+            swept = refl;
+            shows = shows_mark z r.valid ws r.memory r.shows n None (low z ws vs r me v at l);
+            world = world_mark z r.memory r.machine r.world v.caller None k.term (k.inside ∙ e);
+            inside = k.inside ∙ e;
+            mark = put_here r.memory.marks n None;
+          })
+      go ws vs r at (Some a) e =
+          let k = own z ws vs r me v at l in
+          let n : ℕ = v.caller.number in
+          plain z ws vs r me v at l (place_at z (mark n)) 0 (record v { inside = None; mark = None }) (entry_of v.caller (Leave a) Fine ∷ []) none_noted no_draw
+          (record r.memory { marks = put r.memory.marks n None }) (record {
+            may = (refl, k.inside ∙ e, refl, tt);
+            ends = λ b. ((λ h. h), tt);
+            marks = put_else r.memory.marks n None;
+            numbers = λ k. refl;
+            number = refl;
+            terms = λ k. refl;
+            draw = refl;
+            still = λ s g f. f;
+            back = λ s g f. f;
+            bits = refl;
+            same = same_but;
+            closes = refl;
+            hand = refl;
+            sweeps = refl;
+            ended = λ b o f. record { session = f; maps = λ i. refl; given = refl };
+            shown = λ b f. f;
+            was = λ b h. h;
+            holds = λ a. refl;
+            lends = (tt, tt);
+            pages = r.pages;
+            maps = refl;
+            cells = λ p j b w. refl;
+            reads = λ b e x i. absurd (cc);
+            paged = refl;
+            swept = refl;
+            shows = shows_mark z r.valid ws r.memory r.shows n None (low z ws vs r me v at l);
+            world = world_leave z r.memory r.machine r.world v.caller k.term;
+            inside = by_here r.machine.inside v.caller None;
+            mark = put_here r.memory.marks n None;
+          })
+
+  -- a look at any word
+  pub look_steps : (i : ℕ) → MayStep z Looks me v i (λ n. n)
+  unfolding part entries noted
+  look_steps i = record {
+    may = λ ws vs r at.
+        let g = looks_on z ws vs r me v at l i in
+        (g.0, g.1, record { gives = g.2; learns = tt });
+  }

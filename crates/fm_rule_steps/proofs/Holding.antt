@@ -1,0 +1,259 @@
+-- The steps that take and drop a hold.
+use Rattle.std.proofs.Common.{◌≡◌, ◌≢◌, ℕ, ◌+◌, ◌-◌, ◌%◌, ◌^◌, ◌<◌, ◌≤◌, ◌==◌, Bool, true, false, if◌then◌else◌, List, [], ◌∷◌, get_or, set, sym, refl, ap, ◌∙◌, subst, arith, ne_eqb, Option, Some, None}
+use mathlib.Core.Option.{some}
+use lib.ListN.{get_elem?}
+use prog.Atomic.{either}
+use Rattle.fm_words.specs.declared.shape.Shape.{Shape}
+use Rattle.fm_words.specs.Places.{at as place_at, session}
+use Rattle.fm_words.specs.Sessions.{session_word}
+use Rattle.fm_base.specs.declared.arena_id.ArenaId.{ArenaId}
+use Rattle.fm_base.specs.declared.kind.Kind.TheVariants.{Automatic}
+use Rattle.fm_base.specs.Arenas.{MayUse}
+use Rattle.fm_base.specs.Calls.{Hold, Unhold, Reply, Fine, Closed, TooManyHolds, Entry, entry_of}
+use Rattle.fm_base.specs.Machine.{most_holds}
+use Rattle.fm_base_machine.specs.Functions.{Stage, Fresh, Lives, Closes, Over, Machine, put, moved, hold_stage}
+use Rattle.fm_rule_facts.specs.declared.step.Step.TheVariants.{Holds, Unholds}
+use Rattle.fm_rule_facts.specs.Views.{View, Fits, In, IsKnown}
+use Rattle.fm_rule_facts.specs.Words.{alive_word, alive_holds, hold_found, held_by, held_word}
+use Rattle.fm_rule_facts.specs.Holds.{grips, with_grips, holds_after, released, holds_of}
+use Rattle.fm_rule_facts.specs.Steps.{part, entries, noted, none_noted, where_found}
+use Rattle.fm_rule_facts.specs.Facts.{session_code, Shows, Owns, Rule}
+use Rattle.fm_rule_facts.specs.Moves.{MayStep}
+use Rattle.fm_rule_facts.proofs.Worlds.{world_count}
+use Rattle.fm_rule_facts.proofs.Shown.{shows_count}
+use Rattle.fm_rule_facts.proofs.Summing.{total-has, one_more_hold, some_hold, one_hold_less}
+use Rattle.fm_rule_facts.proofs.Gripping.{holds_are, with_holds, with_same, held_now, held_lives, none_besides, keeps_grips}
+use Rattle.fm_rule_steps.proofs.Reading.{kind_below, Says, says, hold_says, eqb_true, eqb_false}
+use Rattle.fm_rule_facts.proofs.Founds.{no_draw}
+use Rattle.fm_rule_steps.proofs.Quiet.{answers_on, looks_on}
+use Rattle.fm_rule_steps.proofs.Plain.{same_but, own, known_now, Made, plain}
+
+-- one hold more in a session word
+more_word : (a : ArenaId) (n : ℕ) → alive_word a n + 1 ≡ alive_word a (n + 1)
+unfolding alive_word session_word
+more_word a n = omega arith
+
+-- and one less
+pub less_word : (a : ArenaId) (n : ℕ) → a.generation < 2 ^ 32 → a.owner < 4096 → 0 < n → n ≤ 65535
+    → (alive_word a n + (2 ^ 64 - 1)) % 2 ^ 64 ≡ alive_word a (n - 1)
+unfolding alive_word session_word
+less_word a n g o h l = let k = kind_below a.kind in omega arith
+
+-- an arena that is alive was opened
+pub known_lives : (t : Machine) (a : ArenaId) → t.life a ≡ Lives → t.life a ≢ Fresh
+known_lives t a al f = let y : Fresh ≡ Lives = sym f ∙ al in absurd (cc)
+
+-- what was read of an arena that is alive shows it so
+pub shows_alive : (t : Machine) (a : ArenaId) (o : Option ℕ) → Says t a o → t.life a ≡ Lives → o ≢ None
+shows_alive t a None s al e = s al
+shows_alive t a (Some n) s al e = absurd (cc)
+
+module _ (z : Shape) (me : ℕ) (v : View) (l : v.live ≡ true) (a : ArenaId) where
+  abbrev i : ℕ
+  i = place_at z (session a.slot)
+
+  abbrev gs : List ArenaId
+  gs = grips a v
+
+  abbrev held_as : List ArenaId → View
+  held_as hs = with_grips a hs v
+
+  module _ (ws : List ℕ) (vs : List View) (r : Rule z ws vs) (at : get_elem? vs me ≡ some v) (known : r.machine.life a ≢ Fresh) where
+    abbrev found : ℕ
+    found = get_or ws i 0
+
+    abbrev mine : Owns z r.history r.memory r.machine r.owners me v
+    mine = own z ws vs r me v at l
+
+    fit : Fits z a
+    fit = r.world.sessions.fits a known
+
+    -- the word of the arena that is alive
+    is_word : r.machine.life a ≡ Lives → found ≡ alive_word a (r.machine.holds a)
+    is_word al =
+        r.shows.sessions a.slot fit.slot ∙ (λ j. session_code z.generations (r.world.sessions.alive_shown a al j) (r.world.counts.shown a al j))
+
+    shown : (x n : ℕ) → r.machine.life a ≡ Lives → x ≡ alive_word a n → Shows z (set ws i x) (record r.memory { counts = put r.memory.counts a.slot n })
+    shown x n al is = subst (λ (y : ℕ). Shows z (set ws i y) (record r.memory { counts = put r.memory.counts a.slot n }))
+        ((λ j. session_code z.generations (r.world.sessions.alive_shown a al j) n) ∙ sym is)
+        (shows_count z r.valid ws r.memory r.shows a.slot n fit.slot)
+
+    -- its own holds are put in their place
+    same_grips : (x : ℕ) (es : List Entry) → Made z ws vs me v i x v es none_noted → Made z ws vs me v i x (held_as gs) es none_noted
+    same_grips x es m = subst (λ (p : View). Made z ws vs me v i x p es none_noted) (sym (with_same a v)) m
+
+    -- ---- a hold is taken
+
+    module _ (use_it : MayUse a v.caller) where
+      refuses : (reply : Reply) → reply ≡ hold_stage (r.machine.life a) (r.machine.holds a) → moved r.machine v.caller (Hold a) reply ≡ r.machine
+          → Made z ws vs me v i found v (entry_of v.caller (Hold a) reply ∷ []) none_noted
+      refuses reply is stays =
+          answers_on z ws vs r me v at l i (entry_of v.caller (Hold a) reply ∷ []) (refl, (known, use_it), is, tt) (λ b. ((λ h. h), tt)) (tt, tt) refl stays
+
+      takes : (n : ℕ) → r.machine.life a ≡ Lives → n ≡ r.machine.holds a → n ≢ most_holds
+          → Made z ws vs me v i (found + 1) (held_as (a ∷ gs)) (entry_of v.caller (Hold a) Fine ∷ []) none_noted
+      takes n al is few =
+          let h : ℕ = r.machine.holds a in
+          let p : View = held_as (a ∷ gs) in
+          let e : Entry = entry_of v.caller (Hold a) Fine in
+          let not_all : (h == most_holds) ≡ false = ne_eqb h most_holds (λ q. few (is ∙ q)) in
+          let answer : Fine ≡ hold_stage (r.machine.life a) h =
+          sym (ap (λ (b : Bool). if b then TooManyHolds else Fine) not_all) ∙ ap (λ (x : Stage). hold_stage x h) (sym al) in
+          let below : h + 1 ≤ 65535 = (let f = r.world.counts.few a in let q : h ≢ 65535 = (λ q. few (is ∙ q)) in omega arith) in
+          plain z ws vs r me v at l i (found + 1) p (e ∷ []) none_noted no_draw (record r.memory { counts = put r.memory.counts a.slot (h + 1) }) (record {
+            may = (refl, (known, use_it), answer, tt);
+            ends = λ b. ((λ h. h), tt);
+            marks = λ k h. refl;
+            numbers = λ k. refl;
+            number = refl;
+            terms = λ k. refl;
+            draw = refl;
+            still = λ s g f. f;
+            back = λ s g f. f;
+            bits = refl;
+            same = same_but;
+            closes = refl;
+            hand = refl;
+            sweeps = refl;
+            ended = λ b o f. record { session = f; maps = λ i. refl; given = refl };
+            shown = λ b f. f;
+            was = λ b h. h;
+            holds = keeps_grips v l r.machine a (a ∷ gs) (h + 1) (λ b. one_more_hold a b gs r.machine.holds);
+            lends = (tt, tt);
+            pages = r.pages;
+            maps = refl;
+            cells = λ p j b w. refl;
+            reads = λ a e x i. (e, i);
+            paged = refl;
+            swept = refl;
+            shows = shown (found + 1) (h + 1) al (ap (λ (x : ℕ). x + 1) (is_word al) ∙ more_word a h);
+            world = world_count z r.memory r.machine r.world a (h + 1) al below;
+            inside = mine.inside;
+            mark = mine.mark;
+          })
+
+      -- the expected word was found
+      answers : (o : Option ℕ) → Says r.machine a o
+          → Made z ws vs me v i (held_by found (hold_found o)) (held_as (holds_after true a (hold_found o) gs))
+          (entry_of v.caller (Hold a) (hold_found o) ∷ []) none_noted
+      answers None s = same_grips found (entry_of v.caller (Hold a) Closed ∷ []) (refuses Closed (hold_says r.machine a None s) refl)
+      answers (Some n) s = by (n == most_holds) refl
+        where
+          by : (b : Bool) → (n == most_holds) ≡ b
+              → Made z ws vs me v i (held_by found (if b then TooManyHolds else Fine)) (held_as (holds_after true a (if b then TooManyHolds else Fine) gs))
+              (entry_of v.caller (Hold a) (if b then TooManyHolds else Fine) ∷ []) none_noted
+          by true q = same_grips found (entry_of v.caller (Hold a) TooManyHolds ∷ [])
+              (refuses TooManyHolds (sym (ap (λ (c : Bool). if c then TooManyHolds else Fine) q) ∙ hold_says r.machine a (Some n) s) refl)
+          by false q = takes n s.0 s.1 (eqb_false n most_holds q)
+
+      misses : Made z ws vs me v i found v [] none_noted
+      misses = looks_on z ws vs r me v at l i
+
+      exchanged : (word : ℕ) → Says r.machine a (alive_holds a found) → (b : Bool) → (found == word) ≡ b
+          → Made z ws vs me v i (either b (held_word a word) found) (held_as (holds_after b a (hold_found (alive_holds a word)) gs))
+          (where_found b (entry_of v.caller (Hold a) (hold_found (alive_holds a word)) ∷ [])) none_noted
+      unfolding held_word
+      exchanged word s true e = subst (λ (x : ℕ). Made z ws vs me v i (held_word a x) (held_as (holds_after true a (hold_found (alive_holds a x)) gs))
+          (entry_of v.caller (Hold a) (hold_found (alive_holds a x)) ∷ []) none_noted)
+          (eqb_true found word e) (answers (alive_holds a found) s)
+      exchanged word s false e = same_grips found [] misses
+
+    -- ---- a hold is dropped
+
+    -- an arena that is held is alive
+    lives : 0 < r.machine.holds a → r.machine.life a ≡ Lives
+    lives held = go (r.machine.life a) refl
+      where
+        none : r.machine.life a ≢ Lives → ⊥
+        none n = let h = r.world.counts.only a n in absurd (omega arith)
+
+        go : (x : Stage) → r.machine.life a ≡ x → r.machine.life a ≡ Lives
+        go Lives e = e
+        go Fresh e = absurd (none (λ q. let f : Fresh ≡ Lives = sym e ∙ q in absurd (cc)))
+        go Closes e = absurd (none (λ q. let f : Closes ≡ Lives = sym e ∙ q in absurd (cc)))
+        go Over e = absurd (none (λ q. let f : Over ≡ Lives = sym e ∙ q in absurd (cc)))
+
+    pub drops : In a gs → 0 < r.machine.holds a
+        → Made z ws vs me v i ((found + (2 ^ 64 - 1)) % 2 ^ 64) (held_as (released a gs)) (entry_of v.caller (Unhold a) Fine ∷ []) none_noted
+    drops has held =
+        let h : ℕ = r.machine.holds a in
+        let x : ℕ = (found + (2 ^ 64 - 1)) % 2 ^ 64 in
+        let p : View = held_as (released a gs) in
+        let al = lives held in
+        let few = r.world.counts.few a in
+        let low : a.generation < 2 ^ 32 = (let g = fit.generation in let y = r.valid.generations.1 in omega arith) in
+        let owner : a.owner < 4096 = (let g = fit.owner in let y = r.valid.passes.1 in omega arith) in
+        plain z ws vs r me v at l i x p (entry_of v.caller (Unhold a) Fine ∷ []) none_noted no_draw
+        (record r.memory { counts = put r.memory.counts a.slot (h - 1) }) (record {
+          may = (refl, (al, held), refl, tt);
+          ends = λ b. ((λ h. h), tt);
+          marks = λ k h. refl;
+          numbers = λ k. refl;
+          number = refl;
+          terms = λ k. refl;
+          draw = refl;
+          still = λ s g f. f;
+          back = λ s g f. f;
+          bits = refl;
+          same = same_but;
+          closes = refl;
+          hand = refl;
+          sweeps = refl;
+          ended = λ b o f. record { session = f; maps = λ i. refl; given = refl };
+          shown = λ b f. f;
+          was = λ b h. h;
+          holds = keeps_grips v l r.machine a (released a gs) (h - 1) (λ b. one_hold_less a b gs r.machine.holds has held);
+          lends = (tt, tt);
+          pages = r.pages;
+          maps = refl;
+          cells = λ p j b w. refl;
+          reads = λ a e x i. (e, i);
+          paged = refl;
+          swept = refl;
+          shows = shown x (h - 1) al (ap (λ (y : ℕ). (y + (2 ^ 64 - 1)) % 2 ^ 64) (is_word al) ∙ less_word a h low owner held few);
+          world = world_count z r.memory r.machine r.world a (h - 1) al (omega arith);
+          inside = mine.inside;
+          mark = mine.mark;
+        })
+
+  -- an arena that the pass holds is alive
+  pub its_alive : (ws : List ℕ) (vs : List View) (r : Rule z ws vs) → get_elem? vs me ≡ some v → In a gs → r.machine.life a ≡ Lives
+  its_alive ws vs r at has = held_lives a r.machine (r.world.counts.only a) (
+      let one = some_hold a gs has in
+      let mine = held_now a v l in
+      let all = total-has (holds_of a) vs me v at in
+      let sum = r.held a in
+      omega arith)
+
+  -- a hold is taken where the session word is the expected one
+  pub hold_steps : (word : ℕ) → IsKnown v a → MayUse a v.caller → MayStep z (Holds a word) me v i (λ n. either (n == word) (held_word a word) n)
+  unfolding part entries noted
+  hold_steps word known use_it = record {
+    may = λ ws vs r at.
+        let x : ℕ = get_or ws i 0 in
+        let opened = known_now z ws vs r me v at l a known in
+        let s = says z r.memory r.machine r.world r.valid.passes.1 a opened x (r.shows.sessions a.slot (r.world.sessions.fits a opened).slot) in
+        let g = exchanged ws vs r at opened use_it word s (x == word) refl in
+        (g.0, g.1, record { gives = g.2; learns = λ has. shows_alive r.machine a (alive_holds a x) s (its_alive ws vs r at has) });
+  }
+
+  -- a hold that the pass has is dropped
+  pub unhold_steps : In a v.holds → a.kind ≢ Automatic → MayStep z (Unholds a) me v i (λ n. (n + (2 ^ 64 - 1)) % 2 ^ 64)
+  unfolding part entries noted
+  unhold_steps has kind = record {
+    may = λ ws vs r at.
+        let his : In a gs = subst (In a) (sym (holds_are a v kind)) has in
+        let al = its_alive ws vs r at his in
+        let held : 0 < r.machine.holds a = (
+        let one = some_hold a gs his in
+        let mine = held_now a v l in
+        let all = total-has (holds_of a) vs me v at in
+        let sum = r.held a in
+        let only = none_besides a r.machine kind in
+        omega arith) in
+        let x : ℕ = (get_or ws i 0 + (2 ^ 64 - 1)) % 2 ^ 64 in
+        let g = subst (λ (p : View). Made z ws vs me v i x p (entry_of v.caller (Unhold a) Fine ∷ []) none_noted)
+        (with_holds a (released a gs) v kind ∙ ap (λ (hs : List ArenaId). record v { holds = released a hs }) (holds_are a v kind))
+        (drops ws vs r at (known_lives r.machine a al) his held) in
+        (g.0, g.1, record { gives = g.2; learns = tt });
+  }

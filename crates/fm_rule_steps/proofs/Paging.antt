@@ -1,0 +1,112 @@
+-- A step on page bits or map words, by a pass that isn't sweeping: it keeps the rule where it keeps the facts of pages.
+use Rattle.std.proofs.Common.{◌≡◌, ℕ, ◌+◌, true, List, length, set, sym, refl, ap, ◌∙◌, subst, inl, inr, Option}
+use mathlib.Core.Option.{some}
+use lib.ListN.{get_elem?}
+use Rattle.fm_words.specs.declared.shape.Shape.{Shape}
+use Rattle.fm_base.specs.declared.arena_id.ArenaId.{ArenaId}
+use Rattle.fm_base.specs.Calls.{Entry}
+use Rattle.fm_base.specs.Finds.{Find}
+use Rattle.fm_base_machine.specs.Functions.{Over, Machine}
+use Rattle.fm_base_machine.specs.Steps.{moved_by}
+use Rattle.fm_rule_facts.specs.Holds.{holds_of, all_holds}
+use Rattle.fm_rule_facts.specs.Loans.{lent}
+use Rattle.fm_rule_facts.specs.Gone.{FoundBy}
+use Rattle.fm_rule_facts.specs.Parts.{Mapping, Swept, unread, named, wiping}
+use Rattle.fm_rule_facts.specs.Views.{View, In, limit_of}
+use Rattle.fm_rule_facts.specs.Facts.{Memory, Owners, shut, Berth, unmapped, IsNext, HasSwept, HasPages, World, Shows, Owns, Rule}
+use Rattle.fm_rule_facts.specs.Moves.{MayMake, NoEnd, StaysEnded, Moved, Same, PagesMoved, KeepsPages, MayLend}
+use Rattle.fm_rule_facts.proofs.Founds.{NoneDrawn}
+use Rattle.fm_rule_facts.proofs.Ruling.{PagesAfter, AreLooked, keeps_with}
+use Rattle.fm_rule_facts.proofs.Keeping.{closing_on, sweeping_on}
+use Rattle.fm_rule_steps.proofs.Plain.{same_but, own, Made, numbers_stay, number_stays}
+
+module _ (z : Shape) (me : ℕ) (v : View) (l : v.live ≡ true) (ws : List ℕ) (vs : List View) (r : Rule z ws vs) (at : get_elem? vs me ≡ some v) where
+  abbrev mine : Owns z r.history r.memory r.machine r.owners me v
+  mine = own z ws vs r me v at l
+
+  -- what a step does to page bits, map words and the places of pages, and what the view has of them then
+  pub record Paging (i x : ℕ) (bits : ℕ → ℕ) (maps : ℕ → ℕ → Option ℕ) (berth : ℕ → Berth) (ps : List ℕ) (ms : List Mapping) (es : List Entry) : Type 0 where
+    pub may : MayMake (limit_of z) r.machine v.caller es
+    pub ends : (b : ArenaId) → NoEnd es b
+    pub stays : moved_by r.machine es ≡ r.machine
+    pub moved : PagesMoved me r.memory r.machine r.owners (record r.memory { page_bits = bits; maps = maps }) (record r.owners { berth = berth })
+    pub ended : (b : ArenaId) → r.machine.life b ≡ Over → r.memory.sessions b.slot ≡ shut b → (k : ℕ) → maps b.slot k ≡ r.memory.maps b.slot k
+    pub lends : MayLend z.page_words r.machine (lent r.history) es
+    pub pages : PagesAfter z r.history (record r.memory { page_bits = bits; maps = maps }) r.machine (record r.owners { berth = berth }) es
+    pub keep : KeepsPages me v (record v { pages = ps; reads = ms }) r.owners (record r.owners { berth = berth })
+    pub shows : Shows z (set ws i x) (record r.memory { page_bits = bits; maps = maps })
+    pub has : HasPages z maps r.memory.cells berth me v.inside ms ps v.sweeps v.swept
+
+  -- such a step keeps the rule
+  pub paged : (i x : ℕ) (bits : ℕ → ℕ) (maps : ℕ → ℕ → Option ℕ) (berth : ℕ → Berth) (ps : List ℕ) (ms : List Mapping) (es : List Entry) (fs : ℕ → List Find)
+      → NoneDrawn fs → ((f : Find) → In f (fs (length r.history)) → FoundBy z r.history r.memory r.owners.taker r.machine.life v.caller f)
+      → AreLooked r v fs → Paging i x bits maps berth ps ms es → Made z ws vs me v i x (record v { pages = ps; reads = ms }) es fs
+  paged i x bits maps berth ps ms es fs nd new looks q =
+      let m' : Memory = record r.memory { page_bits = bits; maps = maps } in
+      let o' : Owners = record r.owners { berth = berth } in
+      let p : View = record v { pages = ps; reads = ms } in
+      let same : Same v p = same_but in
+      let t' : Machine = moved_by r.machine es in
+      let stays_ended : (b : ArenaId) → r.machine.life b ≡ Over → r.memory.sessions b.slot ≡ shut b → StaysEnded r.memory m' b =
+      (λ b o f. record { session = f; maps = q.ended b o f; given = refl }) in
+      let d : Moved me z v.caller r.memory r.machine r.owners es m' o' = record {
+        allowed = q.may;
+        marks = λ k h. refl;
+        draw = refl;
+        who = λ k. refl;
+        rank = λ k. refl;
+        seat = λ k. refl;
+        own = record { owner = refl; bit = refl; term = refl };
+        numbers = λ n b f. (refl, b, refl);
+        closers = λ b f h. (refl, q.ends b);
+        sweepers = λ b f h n. (refl, stays_ended b f h);
+        holders = λ s g f b h. (refl, f, b, refl);
+        taken = λ s k x. inl x;
+        pages = q.moved;
+      } in
+      keeps_with z ws (set ws i x) vs r me v p es fs m' o' at l d same nd new looks q.lends q.pages
+      (λ b h. inr (ap (λ (t : Machine). t.life b) (sym q.stays) ∙ h, refl, (λ y. y)))
+      (λ b f h. inr (f, ap (λ (t : Machine). t.life b) (sym q.stays) ∙ h, refl, (λ y. y)))
+      (λ k g low f left b. inr (f, b, refl, (λ y. y)))
+      q.keep
+      (λ b. ap (λ (t : Machine). holds_of b v + all_holds b t) (sym q.stays))
+      (numbers_stay z ws vs r me v at l es m' o' p d same refl (λ k. refl) (λ k. refl) (λ k. refl))
+      q.shows
+      (subst (World z m') (sym q.stays) (record {
+        marked = λ c b j. let w = r.world.marked c b j in record { number = w.number; term = w.term; mark = w.mark; stands = w.stands };
+        sessions = r.world.sessions;
+        slots = r.world.slots;
+        counts = r.world.counts;
+        givens = r.world.givens;
+      }))
+      (record {
+        inside = ap (λ (t : Machine). t.inside v.caller) q.stays ∙ mine.inside;
+        mark = mine.mark;
+        closes = λ c j.
+            closing_on (limit_of z) r.history v.caller r.machine es q.may me r.owners o' c (mine.closes c j) refl (q.ends c.arena);
+        once = mine.once;
+        sweeps = λ c j.
+            let y = mine.sweeps c j in
+            sweeping_on (limit_of z) v.caller r.memory r.machine es m' q.may (λ k b i. (r.world.marked k b i).stands) z me r.owners o' c y refl
+            (stays_ended c.arena y.life y.session);
+        swept_once = mine.swept_once;
+        hand = mine.hand;
+        took = mine.took;
+        pages = q.has;
+        number = number_stays z ws vs r me v at l es m' o' p d same refl (λ k. refl) (λ k. refl) (λ k. refl);
+      })
+
+  -- what a sweep has is there still, where its map words and pages are
+  pub swept_still : (maps : ℕ → ℕ → Option ℕ) (berth : ℕ → Berth)
+      → ((b : ArenaId) → r.machine.life b ≡ Over → r.memory.sessions b.slot ≡ shut b → (k : ℕ) → maps b.slot k ≡ r.memory.maps b.slot k)
+      → ((q j i : ℕ) (a : ArenaId) → r.owners.berth q ≡ unmapped j a i → berth q ≡ r.owners.berth q) → HasSwept z maps r.memory.cells berth me v.sweeps v.swept
+  swept_still maps berth ended other = go v.swept mine.pages.sweep
+    where
+      still : (a : ArenaId) (i : ℕ) → IsNext v.sweeps a i → maps a.slot i ≡ r.memory.maps a.slot i
+      still a i n = let y = mine.sweeps n.sweep n.there in
+          subst (λ (b : ArenaId). maps b.slot i ≡ r.memory.maps b.slot i) n.arena (ended n.sweep.arena y.life y.session i)
+
+      go : (s : Swept) → HasSwept z r.memory.maps r.memory.cells r.owners.berth me v.sweeps s → HasSwept z maps r.memory.cells berth me v.sweeps s
+      go unread h = tt
+      go (named a i p) h = (h.0, still a i h.0 ∙ h.1)
+      go (wiping a i p w) h = record { next = h.next; owner = other p me i a h.owner ∙ h.owner; empty = still a i h.next ∙ h.empty; wiped = h.wiped }

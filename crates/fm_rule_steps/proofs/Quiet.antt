@@ -1,0 +1,88 @@
+-- Steps that leave the words, the machine and their own view: they look, or they make an entry that moves nothing.
+use Rattle.std.proofs.Common.{◌≡◌, ℕ, List, [], length, get_or, sym, refl, ap, ◌∙◌, subst, true, ◌+◌}
+use mathlib.Core.Option.{some}
+use lib.ListN.{get_elem?}
+use Rattle.fm_words.specs.declared.shape.Shape.{Shape}
+use Rattle.fm_base.specs.declared.arena_id.ArenaId.{ArenaId}
+use Rattle.fm_base.specs.Calls.{Entry}
+use Rattle.fm_base.specs.Finds.{Find}
+use Rattle.fm_base_machine.specs.Functions.{Machine}
+use Rattle.fm_base_machine.specs.Steps.{moved_by}
+use Rattle.fm_rule_facts.specs.Loans.{Loan, lent, loans_after}
+use Rattle.fm_rule_facts.specs.Views.{View, In, limit_of}
+use Rattle.fm_rule_facts.specs.Holds.{holds_of, all_holds}
+use Rattle.fm_rule_facts.specs.Steps.{none_noted}
+use Rattle.fm_rule_facts.specs.Facts.{Pages, World, Rule}
+use Rattle.fm_rule_facts.specs.Gone.{FoundBy}
+use Rattle.fm_rule_facts.specs.Moves.{MayMake, MayLend, NoEnd}
+use Rattle.fm_rule_facts.proofs.Founds.{NoneDrawn, NoDraw, no_draw}
+use Rattle.fm_rule_facts.proofs.Gone.{none_founded}
+use Rattle.fm_rule_facts.proofs.Ruling.{AreLooked, unlooked}
+use Rattle.fm_rule_facts.proofs.Shown.{shows_same}
+use Rattle.fm_rule_steps.proofs.Plain.{Made, own, same_but, stays_ended, plain_with}
+
+module _ (z : Shape) (ws : List ℕ) (vs : List View) (r : Rule z ws vs) (me : ℕ) (v : View) (at : get_elem? vs me ≡ some v) (l : v.live ≡ true) (i : ℕ) where
+  -- entries that move nothing and lend nothing
+  pub quiet : (es : List Entry) (fs : ℕ → List Find) → NoneDrawn fs
+      → ((f : Find) → In f (fs (length r.history)) → FoundBy z r.history r.memory r.owners.taker r.machine.life v.caller f)
+      → AreLooked r v fs → MayMake (limit_of z) r.machine v.caller es → ((b : ArenaId) → NoEnd es b)
+      → MayLend z.page_words r.machine (lent r.history) es
+      → loans_after (lent r.history) es ≡ lent r.history → moved_by r.machine es ≡ r.machine → Made z ws vs me v i (get_or ws i 0) v es fs
+  quiet es fs nd new looks may ends lends same stays =
+      let mine = own z ws vs r me v at l in
+      plain_with z ws vs r me v at l i (get_or ws i 0) v es fs nd new looks r.memory (record {
+        may = may;
+        ends = ends;
+        marks = λ k h. refl;
+        numbers = λ k. refl;
+        number = refl;
+        terms = λ k. refl;
+        draw = refl;
+        still = λ s g f. f;
+        back = λ s g f. f;
+        bits = refl;
+        same = same_but;
+        closes = refl;
+        hand = refl;
+        sweeps = refl;
+        ended = λ b o f. stays_ended r.memory b f;
+        shown = λ b f. f;
+        was = λ b h. ap (λ (t : Machine). t.life b) (sym stays) ∙ h;
+        holds = λ b. ap (λ (t : Machine). holds_of b v + all_holds b t) (sym stays);
+        lends = lends;
+        pages = subst (λ (x : List Loan × Machine).
+            Pages z x.0 r.memory.page_bits r.memory.maps r.memory.cells r.owners.berth r.memory.sessions x.1.life x.1.word x.1.given)
+            (λ j. (sym same j, sym stays j)) r.pages;
+        maps = refl;
+        cells = λ p j b w. refl;
+        reads = λ b e x h. (e, h);
+        paged = refl;
+        swept = refl;
+        shows = shows_same z r.valid ws r.memory r.shows i;
+        world = subst (World z r.memory) (sym stays) r.world;
+        inside = ap (λ (t : Machine). t.inside v.caller) stays ∙ mine.inside;
+        mark = mine.mark;
+      })
+
+  -- where no slot and no page was looked for
+  abbrev Unfound : (ℕ → List Find) → Type 0
+  Unfound fs = (f : Find) → In f (fs (length r.history)) → FoundBy z r.history r.memory r.owners.taker r.machine.life v.caller f
+
+  unfound : (fs : ℕ → List Find) → NoDraw fs → Unfound fs
+  unfound fs nd = none_founded z r.history r.memory r.owners.taker r.machine.life v.caller fs (λ n f j. let y = nd n f j in (y.2, y.3)) (length r.history)
+
+  none_drawn : (fs : ℕ → List Find) → NoDraw fs → NoneDrawn fs
+  none_drawn fs nd n f j = let y = nd n f j in (y.0, y.1)
+
+  pub answers_on : (es : List Entry) → MayMake (limit_of z) r.machine v.caller es → ((b : ArenaId) → NoEnd es b)
+      → MayLend z.page_words r.machine (lent r.history) es → loans_after (lent r.history) es ≡ lent r.history → moved_by r.machine es ≡ r.machine
+      → Made z ws vs me v i (get_or ws i 0) v es none_noted
+  answers_on es = quiet es none_noted (none_drawn none_noted no_draw) (unfound none_noted no_draw) (unlooked r v none_noted (λ n f i. absurd i))
+
+  -- a look, of which something may be noted
+  pub looks_with : (fs : ℕ → List Find) → NoDraw fs → Made z ws vs me v i (get_or ws i 0) v [] fs
+  looks_with fs nd = quiet [] fs (none_drawn fs nd) (unfound fs nd) (unlooked r v fs (λ n f i. (nd n f i).4)) tt (λ b. tt) tt refl refl
+
+  -- nothing is noted of most looks
+  pub looks_on : Made z ws vs me v i (get_or ws i 0) v [] none_noted
+  looks_on = looks_with none_noted no_draw

@@ -1,6 +1,0 @@
-use Rattle.fm_run.specs.Calls.{Asks}
-use Rattle.fm_run.proofs.Lines.{line_none}
-use Rattle.fm_run.proofs.arenas.ask.Goals as goal
-
-pub returns-in_default : goal.returns-in_default
-returns-in_default c = line_none c.args.m.now c.args.arena (Asks c.args.m.now.caller) c.plain.result c.in_default.is c.requires.outside c.plain.ensures

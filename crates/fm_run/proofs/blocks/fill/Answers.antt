@@ -1,7 +1,0 @@
-use Rattle.fm_run.specs.Calls.{Fills}
-use Rattle.fm_run.proofs.Lines.{line_none}
-use Rattle.fm_run.proofs.blocks.fill.Goals as goal
-
-pub returns-in_default : goal.returns-in_default
-returns-in_default g c = line_none c.args.m.now c.args.segment
-    (Fills c.args.m.now.caller c.args.byte) c.plain.result c.in_default.is c.requires.outside c.plain.ensures

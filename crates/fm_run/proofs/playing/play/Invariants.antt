@@ -1,9 +1,0 @@
-use Rattle.std.proofs.Common.{take, vec_capacity}
-use Rattle.fm_run.specs.Ordering.{is_by}
-use Rattle.fm_run.specs.Report.{lines_by}
-use Rattle.fm_run.proofs.Rows.{SoFar}
-use Rattle.fm_run.proofs.playing.play.Given as goal
-
-abbrev pub invariant-loop-line : goal.invariant-loop-line
-invariant-loop-line g l =
-    SoFar l.fn.m l.names l.fn.table (vec_capacity l.fn.replies) (lines_by (is_by l.who) (take l.line-index l.lines)) l.m l.table l.replies

@@ -1,5 +1,0 @@
-use Rattle.fm_run_laws.proofs.Workers.{workers_find}
-use Rattle.fm_run_laws.proofs.laws.finds_are_right.Goals as goal
-
-pub returns : goal.returns
-returns c = workers_find

@@ -1,5 +1,0 @@
-use Rattle.fm_run_laws.proofs.Passes.{line_tidy}
-use Rattle.fm_run_laws.proofs.laws.lines_are_tidy.Goals as goal
-
-pub returns : goal.returns
-returns c = line_tidy

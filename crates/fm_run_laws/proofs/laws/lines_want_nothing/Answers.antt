@@ -1,5 +1,0 @@
-use Rattle.fm_run_laws.proofs.Replies.{no_line_wants}
-use Rattle.fm_run_laws.proofs.laws.lines_want_nothing.Goals as goal
-
-pub returns : goal.returns
-returns c = no_line_wants

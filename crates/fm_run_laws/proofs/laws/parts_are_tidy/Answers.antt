@@ -1,5 +1,0 @@
-use Rattle.fm_run_laws.proofs.Parting.{in_parts}
-use Rattle.fm_run_laws.proofs.laws.parts_are_tidy.Goals as goal
-
-pub returns : goal.returns
-returns c = in_parts

@@ -1,5 +1,0 @@
-use Rattle.fm_run_laws.proofs.Passes.{lines_tidy}
-use Rattle.fm_run_laws.proofs.laws.rows_are_tidy.Goals as goal
-
-pub returns : goal.returns
-returns c = lines_tidy

@@ -1,0 +1,110 @@
+-- What the run of a script begins with, and what it leaves.
+use Rattle.std.proofs.Common.{◌≡◌, ℕ, ◌+◌, ◌-◌, ◌<◌, ◌≤◌, ◌^◌, List, length, sym, ap, ◌∙◌, subst, arith}
+use Rattle.fm_base.specs.declared.caller.Caller.{Caller}
+use Rattle.fm_base.specs.Finds.{Rest}
+use Rattle.fm_arena.specs.Shares.{CanShare}
+use Rattle.fm_rule_facts.specs.Views.{View, IsSound}
+use Rattle.fm_arena.proofs.Opening.{has_no_slot}
+use Rattle.fm_rule.specs.declared.pool.Pool.{Pool}
+use Rattle.fm_rule.specs.Finishing.{CanFinish, FinishedView, Finishes}
+use Rattle.fm_rule.specs.Views.{first_pass, numbers_of}
+use Rattle.fm_words.specs.declared.shape.Shape.{Shape}
+use Rattle.fm_script_text.specs.declared.line.Line.{Line}
+use Rattle.fm_script_text.specs.Scripts.{ScriptOf}
+use Rattle.fm_script_lines.specs.declared.numbers.Numbers.{Numbers}
+use Rattle.fm_script_lines.specs.Numbers.{AreNumbers}
+use Rattle.fm_script_lines.specs.Ordering.{AreStarts, in_order}
+use Rattle.fm_script.specs.declared.main_lines.MainLines.{MainLines}
+use Rattle.fm_script.specs.declared.player.Player.{Player}
+use Rattle.fm_script.specs.Players.{ArePlayers}
+use Rattle.fm_script.specs.Runs.{CanRun, HasRun, IsWritten, Ran}
+
+pub outside_first : (pool : Pool) (z : Shape) (p : View) → pool.shape ≡ z → p ≡ first_pass (numbers_of pool.table.shared.table_id) z → CanShare pool p
+outside_first pool z p shape is = record {
+  outside = record {
+    of = (ap (λ (v : View). v.home) is, ap (λ (v : View). v.shape) is ∙ sym shape);
+    outside = ap (λ (v : View). v.inside) is;
+    unmarked = ap (λ (v : View). v.mark) is;
+    no_number = ap (λ (v : View). v.number) is;
+    no_slot = ap (λ (v : View). v.hand) is;
+    no_part = ap (λ (v : View). v.swept) is;
+  };
+  no_page = ap (λ (v : View). v.pages) is;
+}
+
+-- A pass for each worker beside the first: so many that their numbers fit.
+pub few_workers : (s : ScriptOf) (starts : List ℕ) → IsWritten s → AreStarts s.lines (s.shape.passes - 1) starts → length starts < 2 ^ 32
+few_workers s starts w a =
+    let passes = w.valid.passes in
+    let many = a.many in
+    omega (arith, passes, many)
+
+pub some_pass : (s : ScriptOf) → IsWritten s → 1 ≤ s.shape.passes
+some_pass s w = w.valid.passes.0
+
+module _ (s : ScriptOf) (w : IsWritten s) (order : List Line) (names : Numbers) (starts : List ℕ) (players : List Player)
+    (in_printing : order ≡ in_order (s.shape.passes - 1) s.lines) (numbers : AreNumbers order names)
+    (are_starts : AreStarts s.lines (s.shape.passes - 1) starts) (are_players : ArePlayers s.lines starts players) where
+  workers : length players ≡ s.shape.passes - 1
+  workers = are_players.many ∙ are_starts.many
+
+  one_more : 1 + length players ≡ s.shape.passes
+  one_more =
+      let some = some_pass s w in
+      let many = workers in
+      omega (arith, some, many)
+
+  order_is : order ≡ in_order (length players) s.lines
+  order_is = in_printing ∙ ap (λ (n : ℕ). in_order n s.lines) (sym workers)
+
+  pub all_counted : length order ≡ length (in_order (length players) s.lines)
+  all_counted = ap (λ (ls : List Line). length ls) order_is
+
+  module _ (home : List ℕ) (p : View) (first : p ≡ first_pass home s.shape) (sound : IsSound p) where
+    pub can_run : CanRun names s.lines p players
+    can_run = record {
+      only = record {
+        whole = record { sound = sound; whole = ap (λ (v : View). v.whole) first };
+        unused = ap (λ (v : View). v.seen) first;
+        first = ap (λ (v : View). v.caller) first;
+        no_slot = has_no_slot p (ap (λ (v : View). v.hand) first) (ap (λ (v : View). v.sweeps) first);
+        no_close = ap (λ (v : View). v.closes) first;
+        alone = ap (λ (v : View). v.gathered) first;
+      };
+      rules = w.rules;
+      numbers = subst (λ (ls : List Line). AreNumbers ls names) order_is numbers;
+      starts = starts;
+      are_starts = subst (λ (n : ℕ). AreStarts s.lines n starts) (sym workers) are_starts;
+      are_players = are_players;
+      enough =
+          let all = one_more in
+          let shape = ap (λ (v : View). v.shape.passes) first in
+          omega (arith, all, shape);
+    }
+
+    pub has_run : (pool : Pool) (q : View) (caller : Caller) (next : List Player) (main : MainLines) (f : FinishedView)
+        → pool.shape ≡ s.shape → caller ≡ p.caller → Ran names s.lines p q players next main → Finishes pool q f
+        → HasRun s order names caller next main f
+    has_run pool q caller next main f shape by ran finishes = record {
+      old = p;
+      new = q;
+      tasks = players;
+      can = can_run;
+      ran = ran;
+      in_printing = order_is;
+      passes = one_more;
+      by = by;
+      of_shape = ap (λ (v : View). v.shape) first;
+      shape = finishes.shape ∙ shape;
+      history = finishes.history;
+      finished = finishes.finished;
+    }
+
+-- The pass that is left speaks for all.
+pub can_finish : (pool : Pool) (names : Numbers) (lines : List Line) (p q : View) (tasks players : List Player) (main : MainLines)
+    → CanShare pool q → Ran names lines p q tasks players main → CanFinish pool q
+can_finish pool names lines p q tasks players main outside ran = record {
+  of = outside.outside.of;
+  whole = ap (λ (r : Rest). r.whole) ran.all.last.went.rest ∙ ran.all.worked.crew.crew.whole ran.all.whole;
+  no_slot = outside.outside.no_slot;
+}

@@ -1,7 +1,0 @@
-use Rattle.std.proofs.Common.{arith}
-use Rattle.std.proofs.lemmas.Str.Pattern.{split_parts}
-use Rattle.fm_script.proofs.Cuts.{is_cut}
-use Rattle.fm_script.proofs.cutting.cut.Goals as goal
-
-pub returns : goal.returns
-returns c = is_cut c.args.text.now c.split_once.result (split_parts 32 c.args.text.now c.split_once.result c.split_once.ensures.cases (omega arith))

@@ -1,9 +1,0 @@
-use Rattle.std.proofs.Common.{◌∙◌}
-use Rattle.fm_script.specs.Rules.{given_back}
-use Rattle.fm_script.proofs.Keeping.{given_more}
-use Rattle.fm_script.proofs.names.Names.give_back.Goals as goal
-
-pub returns-clause-given_back : goal.returns-clause-given_back
-returns-clause-given_back c =
-    given_more c.args.self.now.given_back c.insert.new.self c.in-Ok.key c.in-Some.name.now (given_back c.args.command.now) c.in-Ok-insert.ensures.updates
-    (c.in-Ok.ensures.ok ∙ c.text_of.ensures) c.in-Some.ensures

@@ -1,0 +1,106 @@
+ghost use Rattle.std.specs.Prelude.{◌≡◌, ◌∷◌, ◌++◌, IfErr, IfOk, map};
+ghost use Rattle.std.specs.List.{flat_map};
+ghost use Rattle.fm_script_lines.specs.Ordering.{lines_at};
+ghost use Rattle.fm_script_lines.specs.Standings.{arena_of, standing_as};
+ghost use Rattle.fm_script_report.specs.Told.{IsRunOf};
+ghost use Rattle.fm_script.specs.Runs.{HasRun};
+
+use crate::main_lines::MainLines;
+use crate::player::Player;
+use fm_base::{ArenaId, Caller, Refusal};
+use fm_rule::Finished;
+use fm_script_lines::{Lent, Numbers, Reply};
+use fm_script_report::{Report, report_lines};
+use fm_script_text::{Line, Script};
+use std::alloc::Global;
+
+/// The arena that each of the names stands for, if it does. Refused: `Memory`.
+pub(crate) fn opened_by(alloc: Global, lent: &[Lent]) -> Result<Vec<Option<ArenaId>>, Refusal>
+    ensures opened { IfOk result (λ opened. opened.items ≡ map (λ name. arena_of (standing_as name)) lent.now) }
+    ensures memory { IfErr result (λ refusal. refusal ≡ Refusal.Memory) }
+{
+    let mut opened = Vec::new(alloc);
+    for name in lent {
+        if opened.push(name.arena()).is_err() {
+            return Err(Refusal::Memory);
+        }
+    }
+    Ok(opened)
+}
+
+/// The passes' callers, pass 0's first. Refused: `Memory`.
+pub(crate) fn callers_of(
+    alloc: Global,
+    main: Caller,
+    players: &[Player],
+) -> Result<Vec<Caller>, Refusal>
+    ensures callers { IfOk result (λ callers. callers.items ≡ main ∷ map (λ player. player.caller) players.now) }
+    ensures memory { IfErr result (λ refusal. refusal ≡ Refusal.Memory) }
+{
+    let mut callers = Vec::new(alloc);
+    if callers.push(main).is_err() {
+        return Err(Refusal::Memory);
+    }
+    for player in players {
+        if callers.push(player.caller).is_err() {
+            return Err(Refusal::Memory);
+        }
+    }
+    Ok(callers)
+}
+
+/// All replies in the order of printing. Refused: `Memory`.
+pub(crate) fn replies_of(
+    alloc: Global,
+    firsts: Vec<Reply>,
+    players: &[Player],
+    lasts: &[Reply],
+) -> Result<Vec<Reply>, Refusal>
+    ensures replies { IfOk result (λ all. all.items
+        ≡ firsts.items ++ (flat_map (λ player. player.replies.items) players.now ++ lasts.now)) }
+    ensures memory { IfErr result (λ refusal. refusal ≡ Refusal.Memory) }
+{
+    let mut replies = firsts;
+    for player in players {
+        if replies
+            .extend_from_slice(player.replies.as_slice())
+            .is_err()
+        {
+            return Err(Refusal::Memory);
+        }
+    }
+    if replies.extend_from_slice(lasts).is_err() {
+        return Err(Refusal::Memory);
+    }
+    Ok(replies)
+}
+
+/// The report of a script that has run, whose lines stand in the order of printing. Refused: `Memory`.
+pub(crate) fn report_run(
+    alloc: Global,
+    script: &Script,
+    order: &[&Line],
+    names: &Numbers,
+    caller: Caller,
+    players: &[Player],
+    main: MainLines,
+    finished: Finished,
+) -> Result<Report, Refusal>
+    requires { HasRun script.now (lines_at order.now) names.now caller players.now main finished }
+    ensures report { IfOk result (IsRunOf script.now) }
+    ensures memory { IfErr result (λ refusal. refusal ≡ Refusal.Memory) }
+{
+    let opened = opened_by(alloc, main.lent.as_slice())?;
+    let callers = callers_of(alloc, caller, players)?;
+    let replies = replies_of(alloc, main.firsts, players, main.lasts.as_slice())?;
+    let lines = report_lines(alloc, order, replies.as_slice())?;
+    Report::of(
+        alloc,
+        script,
+        names,
+        opened.as_slice(),
+        lines,
+        callers,
+        finished,
+    )
+}

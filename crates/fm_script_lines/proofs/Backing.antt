@@ -1,0 +1,275 @@
+-- A pass has what names stand for, as it goes on.
+use Rattle.std.proofs.Common.{◌≡◌, ◌≢◌, ℕ, zero, suc, ◌+◌, ◌-◌, ◌<◌, nat_lt, Bool, true, false, List, [], ◌∷◌, ◌++◌, length, get_or, set, refl, ap, sym, ◌∙◌, subst, arith, Option, Some, None, All}
+use Rattle.std.specs.Prelude.{IfSome}
+use Rattle.std.specs.Option.{option_map}
+use Rattle.std.proofs.lemmas.Bool.{ltb-true, ltb-false}
+use Rattle.std.proofs.lemmas.List.{get_or_past}
+use Rattle.std.proofs.lemmas.List.Elements.{All-push, All-set, All-weaker}
+use Rattle.fm_base.specs.declared.arena_id.ArenaId.{ArenaId}
+use Rattle.fm_base.specs.Arenas.{same_id}
+use Rattle.fm_base.specs.Outcomes.{Lasts}
+use Rattle.fm_base.proofs.Names.{same_id-self}
+use Rattle.fm_gate.specs.declared.held.Hold as held
+use Rattle.fm_rule_facts.specs.Holds.{how_many, one_if, released}
+use Rattle.fm_base.specs.declared.kind.Kind.TheVariants.{Automatic}
+use Rattle.fm_arena.specs.declared.handle.AutoHandle.{AutoHandle}
+use Rattle.fm_arena.specs.Handles.{HasHandle}
+use Rattle.fm_gate.specs.Makers.{made_by_pass}
+use Rattle.fm_arena.specs.Learnt.{CanUnhold}
+use Rattle.fm_segment.specs.Access as segment
+use Rattle.fm_rule_facts.specs.Views.{View, IsKnown}
+use Rattle.fm_rule_calls.specs.Told.{view_of_pass}
+use Rattle.fm_script_lines.specs.declared.lent.Lent.{Lent}
+use Rattle.fm_script_lines.specs.declared.lent.Lent.TheVariants as other
+use Rattle.fm_script_lines.specs.declared.standing.Standing.{Standing}
+use Rattle.fm_script_lines.specs.declared.standing.Standing.TheVariants as standing
+use Rattle.fm_script_lines.specs.declared.standing.Standing.TheVariants.{Nothing, Arena, Segment, Hold, Handle}
+use Rattle.fm_script_lines.specs.Standings.{IsBacked, IsHandleIn, standing_at, standing_of, arena_of, segment_of, hold_in, handle_in, hold_of, handle_of, lent, unheld, handed_back, standing_as}
+use Rattle.fm_script_lines.specs.Tokens.{Backs, HasTokens, among, onto, holds_with, handles_with}
+use Rattle.fm_script_lines.proofs.Naming.{unheld-hold, unheld-handle, handed-hold, handed-handle, owned, lent-handle_in, standing-others, standing-between, standing-own}
+use Rattle.fm_script_lines.proofs.Counting.{among_push, among_set, how_many_onto, token_in, token_more, token_less}
+
+some_weaker : {X : Type 0} (P Q : X → Type 0) (o : Option X) → ((x : X) → P x → Q x) → IfSome o P → IfSome o Q
+some_weaker P Q None f h = tt
+some_weaker P Q (Some x) f h = f x h
+
+-- Later too.
+pub backed_later : (p q : View) → Lasts (view_of_pass p) (view_of_pass q) → made_by_pass q ≡ made_by_pass p → (s : Standing) → IsBacked p s → IsBacked q s
+backed_later p q l same Nothing b = tt
+backed_later p q l same (Arena id) b = l.known id b
+backed_later p q l same (standing.Automatic id handle) b = (l.known id b.0, some_weaker _ _ handle (λ h k. (l.known h.arena k.0, k.1, k.2 ∙ sym same)) b.1)
+backed_later p q l same (Segment r) b = record { arena = l.known r.arena b.arena; given = let g = l.given r.arena in let k = b.given in omega (arith, g, k) }
+backed_later p q l same (Hold hold) b = some_weaker _ _ hold (λ h k. (l.known h.arena k.0, k.1, k.2 ∙ sym same)) b
+backed_later p q l same (Handle handle) b = some_weaker _ _ handle (λ h k. (l.known h.arena k.0, k.1, k.2 ∙ sym same)) b
+
+pub backed_unheld : (p : View) (s : Standing) → IsBacked p s → IsBacked p (unheld s)
+backed_unheld p Nothing b = b
+backed_unheld p (Arena id) b = b
+backed_unheld p (standing.Automatic id handle) b = b
+backed_unheld p (Segment r) b = b
+backed_unheld p (Hold hold) b = tt
+backed_unheld p (Handle handle) b = b
+
+pub backed_handed : (p : View) (s : Standing) → IsBacked p s → IsBacked p (handed_back s)
+backed_handed p Nothing b = b
+backed_handed p (Arena id) b = b
+backed_handed p (standing.Automatic id handle) b = (b.0, tt)
+backed_handed p (Segment r) b = b
+backed_handed p (Hold hold) b = b
+backed_handed p (Handle handle) b = tt
+
+pub backed_lent : (p : View) (s : Standing) → IsBacked p s → IsBacked p (lent s)
+backed_lent p Nothing b = b
+backed_lent p (Arena id) b = b
+backed_lent p (standing.Automatic id handle) b = b.0
+backed_lent p (Segment r) b = b
+backed_lent p (Hold hold) b = tt
+backed_lent p (Handle handle) b = tt
+
+-- ---- tokens
+
+module _ (token : Standing → Option ArenaId) where
+  -- A name more.
+  tokens_push : {all others : List ArenaId} (own : List Standing) (s : Standing) → HasTokens all (among token own) others
+      → HasTokens (onto (token s) all) (among token (own ++ s ∷ [])) others
+  tokens_push own s t = token_more (token s) (among token (own ++ s ∷ [])) t (λ a. among_push token a own s)
+
+  -- One is given back.
+  tokens_less : {all others : List ArenaId} (own : List Standing) (at : ℕ) (s : Standing) (b : ArenaId) → at < length own
+      → token (get_or own at Nothing) ≡ Some b → token s ≡ None → HasTokens all (among token own) others
+      → HasTokens (released b all) (among token (set own at s)) others
+  tokens_less own at s b l was is t = token_less b (among token (set own at s)) t some count
+    where
+      count : (a : ArenaId) → how_many a (among token own) ≡ how_many a (among token (set own at s)) + one_if (same_id b a)
+      count a =
+          let e = among_set token a own at s l in
+          let old : how_many a (onto (token (get_or own at Nothing)) []) ≡ one_if (same_id b a) + 0 = ap (λ (o : Option ArenaId). how_many a (onto o [])) was in
+          let new : how_many a (onto (token s) []) ≡ 0 = ap (λ (o : Option ArenaId). how_many a (onto o [])) is in
+          omega (arith, e, old, new)
+
+      some : 0 < how_many b (among token own)
+      some = let e = count b in let q : one_if (same_id b b) ≡ 1 = ap one_if (same_id-self b) in omega (arith, e, q)
+
+  -- All are as they were.
+  tokens_same : {all others : List ArenaId} (own : List Standing) (at : ℕ) (s : Standing) → at < length own
+      → token s ≡ token (get_or own at Nothing) → HasTokens all (among token own) others → HasTokens all (among token (set own at s)) others
+  tokens_same own at s l same t = record {
+    mine = t.mine;
+    are = t.are;
+    as_many = λ a.
+        let e = among_set token a own at s l in
+        let q : how_many a (onto (token s) []) ≡ how_many a (onto (token (get_or own at Nothing)) []) =
+        ap (λ (o : Option ArenaId). how_many a (onto o [])) same in
+        let many = t.as_many a in
+        omega (arith, e, q, many);
+  }
+
+-- ---- what a pass has
+
+module _ (p q : View) {holds handles : List ArenaId} {base own : List Standing} (b : Backs p holds handles base own)
+    (l : Lasts (view_of_pass p) (view_of_pass q)) (same : made_by_pass q ≡ made_by_pass p) where
+  others_later : All (λ s. IsBacked q (lent s)) base
+  others_later = All-weaker (λ s. IsBacked p (lent s)) (λ s. IsBacked q (lent s)) (λ s h. backed_later p q l same (lent s) h) base b.others_known
+
+  own_later : All (IsBacked q) own
+  own_later = All-weaker (IsBacked p) (IsBacked q) (λ s h. backed_later p q l same s h) own b.own_known
+
+  -- Nothing was taken and nothing given back.
+  pub backs_still : q.holds ≡ p.holds → q.handles ≡ p.handles → Backs q holds handles base own
+  backs_still hs ks = record {
+    others_known = others_later;
+    own_known = own_later;
+    has_holds = subst (λ (xs : List ArenaId). HasTokens xs (among hold_of own) holds) (sym hs) b.has_holds;
+    has_handles = subst (λ (xs : List ArenaId). HasTokens xs (among handle_of own) handles) (sym ks) b.has_handles;
+  }
+
+  -- A line's name more.
+  pub backs_more : (made : Standing) → q.holds ≡ holds_with made p.holds → q.handles ≡ handles_with made p.handles → IsBacked q made
+      → Backs q holds handles base (own ++ made ∷ [])
+  backs_more made hs ks backed = record {
+    others_known = others_later;
+    own_known = All-push (IsBacked q) own made own_later backed;
+    has_holds = subst (λ (xs : List ArenaId). HasTokens xs (among hold_of (own ++ made ∷ [])) holds) (sym hs) (tokens_push hold_of own made b.has_holds);
+    has_handles = subst (λ (xs : List ArenaId). HasTokens xs (among handle_of (own ++ made ∷ [])) handles) (sym ks)
+        (tokens_push handle_of own made b.has_handles);
+  }
+
+  -- A hold less.
+  pub backs_unheld : (at : ℕ) (a : ArenaId) → at < length own → hold_of (get_or own at Nothing) ≡ Some a → q.holds ≡ released a p.holds
+      → q.handles ≡ p.handles → Backs q holds handles base (set own at (unheld (get_or own at Nothing)))
+  backs_unheld at a k was hs ks =
+      let s = get_or own at Nothing in
+      record {
+        others_known = others_later;
+        own_known = All-set (IsBacked q) own at (unheld s) (backed_unheld q s (own_later at Nothing k)) own_later;
+        has_holds = subst (λ (xs : List ArenaId). HasTokens xs (among hold_of (set own at (unheld s))) holds) (sym hs)
+            (tokens_less hold_of own at (unheld s) a k was (unheld-hold s) b.has_holds);
+        has_handles = subst (λ (xs : List ArenaId). HasTokens xs (among handle_of (set own at (unheld s))) handles) (sym ks)
+            (tokens_same handle_of own at (unheld s) k (unheld-handle s) b.has_handles);
+      }
+
+  -- A handle less.
+  pub backs_handed : (at : ℕ) (a : ArenaId) → at < length own → handle_of (get_or own at Nothing) ≡ Some a → q.handles ≡ released a p.handles
+      → q.holds ≡ p.holds → Backs q holds handles base (set own at (handed_back (get_or own at Nothing)))
+  backs_handed at a k was ks hs =
+      let s = get_or own at Nothing in
+      record {
+        others_known = others_later;
+        own_known = All-set (IsBacked q) own at (handed_back s) (backed_handed q s (own_later at Nothing k)) own_later;
+        has_holds = subst (λ (xs : List ArenaId). HasTokens xs (among hold_of (set own at (handed_back s))) holds) (sym hs)
+            (tokens_same hold_of own at (handed_back s) k (handed-hold s) b.has_holds);
+        has_handles = subst (λ (xs : List ArenaId). HasTokens xs (among handle_of (set own at (handed_back s))) handles) (sym ks)
+            (tokens_less handle_of own at (handed_back s) a k was (handed-handle s) b.has_handles);
+      }
+
+-- Another pass's name more.
+pub backs_lent : (p : View) {holds handles : List ArenaId} {base own : List Standing} (o : Lent) → Backs p holds handles base own
+    → IsBacked p (standing_as o) → Backs p holds handles base (own ++ standing_as o ∷ [])
+backs_lent p other.Nothing b known =
+    backs_more p p b (record { known = λ id k. k; given = λ id. omega arith; limit = refl; caller = refl }) refl Nothing refl refl known
+backs_lent p (other.Arena id) b known =
+    backs_more p p b (record { known = λ id k. k; given = λ id. omega arith; limit = refl; caller = refl }) refl (Arena id) refl refl known
+backs_lent p (other.Segment r) b known =
+    backs_more p p b (record { known = λ id k. k; given = λ id. omega arith; limit = refl; caller = refl }) refl (Segment r) refl refl known
+
+-- ---- what it lets the pass do
+
+pub among_some : (token : Standing → Option ArenaId) (own : List Standing) (at : ℕ) (a : ArenaId) → at < length own → token (get_or own at Nothing) ≡ Some a
+    → 0 < how_many a (among token own)
+among_some token [] at a l e = absurd (omega (arith, l))
+among_some token (s ∷ ss) zero a l e =
+    let here = how_many_onto a (token s) (among token ss) in
+    let one : how_many a (onto (token s) []) ≡ one_if (same_id a a) + 0 = ap (λ (o : Option ArenaId). how_many a (onto o [])) e in
+    let q : one_if (same_id a a) ≡ 1 = ap one_if (same_id-self a) in
+    omega (arith, here, one, q)
+among_some token (s ∷ ss) (suc at) a l e =
+    let here = how_many_onto a (token s) (among token ss) in
+    let ih = among_some token ss at a (omega (arith, l)) e in
+    omega (arith, here, ih)
+
+backed_hold : (p : View) (s : Standing) (h : held.Hold) → IsBacked p s → hold_in s ≡ Some h
+    → IsKnown p h.arena × (h.arena.kind ≢ Automatic) × (h.maker ≡ made_by_pass p)
+backed_hold p Nothing h b e = absurd (cc)
+backed_hold p (Arena id) h b e = absurd (cc)
+backed_hold p (standing.Automatic id handle) h b e = absurd (cc)
+backed_hold p (Segment r) h b e = absurd (cc)
+backed_hold p (Hold hold) h b e =
+    subst (λ (o : Option held.Hold). IfSome o (λ x. IsKnown p x.arena × (x.arena.kind ≢ Automatic) × (x.maker ≡ made_by_pass p))) e b
+backed_hold p (Handle handle) h b e = absurd (cc)
+
+backed_handle : (p : View) (s : Standing) (h : AutoHandle) → IsBacked p s → handle_in s ≡ Some h
+    → IsKnown p h.arena × (h.arena.kind ≡ Automatic) × (h.maker ≡ made_by_pass p)
+backed_handle p Nothing h b e = absurd (cc)
+backed_handle p (Arena id) h b e = absurd (cc)
+backed_handle p (standing.Automatic id handle) h b e = subst (λ (o : Option AutoHandle). IsHandleIn p o) e b.1
+backed_handle p (Segment r) h b e = absurd (cc)
+backed_handle p (Hold hold) h b e = absurd (cc)
+backed_handle p (Handle handle) h b e = subst (λ (o : Option AutoHandle). IsHandleIn p o) e b
+
+module _ (p : View) {holds handles : List ArenaId} {base own : List Standing} (b : Backs p holds handles base own) where
+  pub can_unhold : (at : ℕ) (h : held.Hold) → at < length own → hold_in (get_or own at Nothing) ≡ Some h → CanUnhold p h
+  can_unhold at h l is =
+      let k = backed_hold p (get_or own at Nothing) h (b.own_known at Nothing l) is in
+      record {
+        maker = k.2;
+        known = k.0;
+        held = token_in h.arena b.has_holds (among_some hold_of own at h.arena l (ap (option_map (λ (x : held.Hold). x.arena)) is));
+        by_hand = k.1;
+      }
+
+  pub has_handle : (at : ℕ) (h : AutoHandle) → at < length own → handle_in (get_or own at Nothing) ≡ Some h → HasHandle p h
+  has_handle at h l is =
+      let k = backed_handle p (get_or own at Nothing) h (b.own_known at Nothing l) is in
+      record {
+        maker = k.2;
+        handled = record {
+          known = k.0;
+          has = token_in h.arena b.has_handles (among_some handle_of own at h.arena l (ap (option_map (λ (x : AutoHandle). x.arena)) is));
+          automatic = k.1;
+        };
+      }
+
+  pub is_handled : (start : ℕ) (number : Option ℕ) (h : AutoHandle) → handle_in (standing_of base start own number) ≡ Some h → HasHandle p h
+  is_handled start number h is = let o = owned handle_in lent-handle_in refl base start own number h is in has_handle o.0 h o.1.0 o.1.1
+
+  -- Each name, as an arena or a segment.
+  pub name_known : (start : ℕ) (number : Option ℕ) → IsBacked p (lent (standing_of base start own number))
+  name_known start None = tt
+  name_known start (Some n) = go (nat_lt n (length base)) refl (nat_lt n start) refl (nat_lt (n - start) (length own)) refl
+    where
+      go : (x : Bool) → nat_lt n (length base) ≡ x → (y : Bool) → nat_lt n start ≡ y → (z : Bool) → nat_lt (n - start) (length own) ≡ z
+          → IsBacked p (lent (standing_at base start own n))
+      go true e y f z g =
+          let l = ltb-true n (length base) e in
+          subst (λ (s : Standing). IsBacked p (lent s)) (sym (standing-others base start own n l))
+          (backed_lent p (lent (get_or base n Nothing)) (b.others_known n Nothing l))
+      go false e true f z g =
+          subst (λ (s : Standing). IsBacked p (lent s)) (sym (standing-between base start own n (ltb-false n (length base) e) (ltb-true n start f))) tt
+      go false e false f true g =
+          subst (λ (s : Standing). IsBacked p (lent s)) (sym (standing-own base start own n (ltb-false n (length base) e) (ltb-false n start f)))
+          (backed_lent p (get_or own (n - start) Nothing) (b.own_known (n - start) Nothing (ltb-true (n - start) (length own) g)))
+      go false e false f false g =
+          subst (λ (s : Standing). IsBacked p (lent s)) (sym (standing-own base start own n (ltb-false n (length base) e) (ltb-false n start f)
+          ∙ get_or_past own (n - start) Nothing (ltb-false (n - start) (length own) g))) tt
+
+pub segment_known : (p : View) (s : Standing) → IsBacked p (lent s) → IfSome (segment_of s) (segment.IsKnown (view_of_pass p))
+segment_known p Nothing b = tt
+segment_known p (Arena id) b = tt
+segment_known p (standing.Automatic id handle) b = tt
+segment_known p (Segment r) b = b
+segment_known p (Hold hold) b = tt
+segment_known p (Handle handle) b = tt
+
+pub arena_known : (p : View) (s : Standing) → IsBacked p (lent s) → IfSome (arena_of s) (IsKnown p)
+arena_known p Nothing b = tt
+arena_known p (Arena id) b = b
+arena_known p (standing.Automatic id handle) b = b
+arena_known p (Segment r) b = tt
+arena_known p (Hold hold) b = tt
+arena_known p (Handle handle) b = tt
+
+-- What was found by a map.
+pub some_mapped : {X A : Type 0} (P : A → Type 0) (f : X → A) (o : Option X) (r : Option A) → option_map f o ≡ r → ((a : A) → r ≡ Some a → P a)
+    → IfSome o (λ x. P (f x))
+some_mapped P f None r e h = tt
+some_mapped P f (Some x) r e h = h (f x) (sym e)

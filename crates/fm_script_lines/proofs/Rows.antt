@@ -1,0 +1,170 @@
+-- Lines in a row.
+use Rattle.std.specs.Prelude.{Vec, vec_capacity}
+use Rattle.std.specs.declared.alloc.Global.{Global}
+use Rattle.std.proofs.Common.{◌≡◌, ℕ, ◌+◌, List, [], ◌∷◌, ◌++◌, length, length-append, refl, ap, sym, ◌∙◌, subst, arith, append_assoc, None, Option}
+use Rattle.std.proofs.lemmas.List.{length-map, map-append, append-nil}
+use Rattle.fm_base.specs.declared.arena_id.ArenaId.{ArenaId}
+use Rattle.fm_base.specs.declared.caller.Caller.{Caller}
+use Rattle.fm_base.specs.Calls.{Entry}
+use Rattle.fm_base.specs.Histories.{made_by}
+use Rattle.fm_rule_facts.specs.Views.{View, Begins}
+use Rattle.fm_script_text.specs.declared.line.Line.{Line}
+use Rattle.fm_script_lines.specs.declared.numbers.Numbers.{Numbers}
+use Rattle.fm_script_lines.specs.declared.reply.Reply.{Reply}
+use Rattle.fm_script_lines.specs.declared.standing.Standing.{Standing}
+use Rattle.fm_script_lines.specs.declared.table.Table.{Table}
+use Rattle.fm_script_lines.specs.Calls.{CallDoes}
+use Rattle.fm_script_lines.specs.Lines.{LineRan}
+use Rattle.fm_script_lines.specs.Numbers.{number_at}
+use Rattle.fm_script_lines.specs.Outcomes.{outcome}
+use Rattle.fm_script_lines.specs.Pages.{AllocatesRightly, FindsFew, LendsRightly}
+use Rattle.fm_script_lines.specs.Playing.{LinesRan}
+use Rattle.fm_script_lines.specs.Report.{Done, AreRun, names_after, names_behind, runs}
+use Rattle.fm_script_lines.specs.Runs.{Went, WentOn}
+use Rattle.fm_script_lines.specs.Standings.{Names, stands_of, standing_at, standing_of}
+use Rattle.fm_script_lines.specs.Tokens.{Backs}
+use Rattle.fm_script_lines.proofs.Allocating.{allocates_rightly}
+use Rattle.fm_script_lines.proofs.Going.{lasts_then, went_none, went_then}
+use Rattle.fm_script_lines.proofs.Lending.{behind_as, behind_more, few_later, finds_few, lends_later, lends_rightly}
+use Rattle.fm_script_lines.proofs.Opening.{found_at, found_later, found_more, line_silent, opens_more, opens_rightly}
+
+-- What one more line leaves of names.
+names_after-push : (number : List ℕ → Option ℕ) (k : ℕ) (ds : List Done) (d : Done) (names : Names)
+    → names_after number k (ds ++ d ∷ []) names ≡ names_behind number (k + length ds) d (names_after number k ds names)
+names_after-push number k [] d names = ap (λ (m : ℕ). names_behind number m d names) (omega arith)
+names_after-push number k (e ∷ ds) d names =
+    names_after-push number (k + 1) ds d (names_behind number k e names)
+    ∙ ap (λ (m : ℕ). names_behind number m d (names_after number (k + 1) ds (names_behind number k e names))) (omega arith)
+
+-- One more line behind these.
+are_run-push : (c : Caller) (number : List ℕ → Option ℕ) (k : ℕ) (names : Names) (ds : List Done) (d : Done) → AreRun c number k names ds
+    → CallDoes c (λ name. stands_of (names_after number k ds names) (number name)) d.line.command (outcome d.reply d.made) d.run
+    → AreRun c number k names (ds ++ d ∷ [])
+are_run-push c number k names [] d rs r = (r, tt)
+are_run-push c number k names (e ∷ ds) d rs r = (rs.0, are_run-push c number (k + 1) (names_behind number k e names) ds d rs.1 r)
+
+runs-push : (ds : List Done) (d : Done) → runs (ds ++ d ∷ []) ≡ runs ds ++ d.run
+runs-push [] d = append-nil d.run
+runs-push (e ∷ ds) d = ap (λ (es : List Entry). e.run ++ es) (runs-push ds d) ∙ sym (append_assoc e.run (runs ds) d.run)
+
+module _ (p : View) (names : Numbers) (base : List Standing) (start : ℕ) (own : List Standing) where
+  -- No line yet.
+  pub lines_none : p.inside ≡ None → LinesRan p p names base start own own [] []
+  lines_none outside = record {
+    dones = [];
+    are = refl;
+    replied = refl;
+    calls = tt;
+    went = went_none p;
+    outside = outside;
+    lasts = record { known = λ id k. k; given = λ id. omega arith; limit = refl; caller = refl };
+    many = omega arith;
+    stands = refl;
+    exact = λ whole none. tt;
+    found = tt;
+    full = λ whole closed none. tt;
+    few = tt;
+    loans = tt;
+  }
+
+  -- A line more.
+  pub lines_more : (q r : View) (now next : List Standing) (lines : List Line) (l : Line) (replies : List Reply) (reply : Reply)
+      → LinesRan p q names base start own now lines replies → LineRan q r names base start now next l.command reply
+      → LinesRan p r names base start own next (lines ++ l ∷ []) (replies ++ reply ∷ [])
+  lines_more q r now next lines l replies reply a b =
+      let number = number_at names in
+      let k = start + length own in
+      let d : Done = record { line = l; reply = reply; run = b.run; made = b.made } in
+      let mine : List Entry = made_by p.caller p.seen in
+      let stood : List ℕ → Standing = λ name. standing_of base start now (number name) in
+      let later : Begins q.seen r.seen = (b.went.more, b.went.seen) in
+      let here : start + length now ≡ k + length a.dones = let m = a.many in omega (arith, m) in
+      record {
+        dones = a.dones ++ d ∷ [];
+        are = map-append (λ (x : Done). x.line) a.dones (d ∷ []) ∙ ap (λ (ls : List Line). ls ++ l ∷ []) a.are;
+        replied = map-append (λ (x : Done). x.reply) a.dones (d ∷ []) ∙ ap (λ (rs : List Reply). rs ++ reply ∷ []) a.replied;
+        calls = are_run-push p.caller number k (standing_at base start own) a.dones d a.calls
+            (subst (λ (ns : Names). CallDoes p.caller (λ name. stands_of ns (number name)) l.command (outcome reply b.made) b.run) a.stands
+            (subst (λ (c : Caller). CallDoes c (λ name. stands_of (standing_at base start now) (number name)) l.command (outcome reply b.made) b.run)
+            a.went.same_caller b.does));
+        went = subst (λ (es : List Entry). Went p r es) (sym (runs-push a.dones d)) (went_then p q r (runs a.dones) b.run a.went b.went);
+        outside = b.outside;
+        lasts = lasts_then p q r a.lasts b.lasts;
+        many = let m = a.many in let o = b.one_more in let g = length-append a.dones (d ∷ []) in omega (arith, m, o, g);
+        stands =
+            (λ i n. b.stands n i)
+            ∙ (ap (λ (m : ℕ). names_behind number m d (standing_at base start now)) here
+            ∙ (ap (λ (ns : Names). names_behind number (k + length a.dones) d ns) a.stands
+            ∙ sym (names_after-push number k a.dones d (standing_at base start own))));
+        exact = λ whole none. opens_more p.shape p.seen a.dones d (a.exact whole none) (λ o. opens_rightly d a.went (b.slots o) whole none);
+        found = found_more p.caller r.finds r.seen (made_by p.caller p.seen) a.dones d
+            (found_later p.caller q.finds q.seen r.finds r.seen b.went.finds (b.went.more, b.went.seen) (made_by p.caller p.seen) a.dones a.found)
+            (λ n. found_at a.went b.went ((b.slots n.opens).found n.refused)
+            (line_silent q.caller (λ name. stands_of (standing_at base start now) (number name)) l.command reply b.made b.run n.opens n.refused b.does));
+        full = λ whole closed none. behind_more (AllocatesRightly p.shape) p.seen a.dones d (a.full whole closed none)
+            (allocates_rightly d a.went whole closed none r stood l.command refl b.does b.pages);
+        few = behind_more (FindsFew p.shape p.caller r.seen) mine a.dones d
+            (behind_as (FindsFew p.shape p.caller q.seen) (FindsFew p.shape p.caller r.seen) (few_later p.shape p.caller q.seen r.seen later)
+            mine a.dones a.few)
+            (finds_few d a.went b.went stood l.command refl b.does b.pages);
+        loans = behind_more (LendsRightly p.shape p.caller r.seen) mine a.dones d
+            (behind_as (LendsRightly p.shape p.caller q.seen) (LendsRightly p.shape p.caller r.seen) (lends_later p.shape p.caller q.seen r.seen later)
+            mine a.dones a.loans)
+            (lends_rightly d a.went b.went stood l.command refl b.does b.pages);
+      }
+
+-- Whatever the lines were.
+pub ran_on : {p q : View} {names : Numbers} {base : List Standing} {start : ℕ} {own next : List Standing} {lines : List Line} {replies : List Reply}
+    → LinesRan p q names base start own next lines replies → WentOn p q
+ran_on r = record { run = runs r.dones; went = r.went; outside = r.outside; lasts = r.lasts }
+
+-- There is a name for each line, and a reply.
+pub ran_many : {p q : View} {names : Numbers} {base : List Standing} {start : ℕ} {own next : List Standing} {lines : List Line} {replies : List Reply}
+    → LinesRan p q names base start own next lines replies → length next ≡ length own + length lines
+ran_many {lines = lines} r =
+    let many = r.many in
+    let same = ap (λ (xs : List Line). length xs) r.are in
+    let mapped = length-map r.dones (λ (d : Done). d.line) in
+    omega (arith, many, same, mapped)
+
+pub replied_many : {p q : View} {names : Numbers} {base : List Standing} {start : ℕ} {own next : List Standing} {lines : List Line} {replies : List Reply}
+    → LinesRan p q names base start own next lines replies → length replies ≡ length lines
+replied_many {lines = lines} {replies = replies} r =
+    let told = ap (λ (xs : List Reply). length xs) r.replied in
+    let same = ap (λ (xs : List Line). length xs) r.are in
+    let lines_mapped = length-map r.dones (λ (d : Done). d.line) in
+    let replies_mapped = length-map r.dones (λ (d : Done). d.reply) in
+    omega (arith, told, same, lines_mapped, replies_mapped)
+
+-- Where a loop over lines stands: these ran, from the table that was
+pub record SoFar (p : View) (names : Numbers) (was : Table) (room : ℕ) (lines : List Line) (m : View) (now : Table) (replies : Vec Reply Global) : Type 0 where
+  pub base : now.base ≡ was.base
+  pub start : now.start ≡ was.start
+  pub ran : LinesRan p m names was.base.now was.start was.own.items now.own.items lines replies.items
+  pub backs : (holds handles : List ArenaId) → Backs p holds handles was.base.now was.own.items → Backs m holds handles was.base.now now.own.items
+  pub room_is : vec_capacity now.own ≡ vec_capacity was.own
+  pub answers : vec_capacity replies ≡ room
+
+-- A line more.
+pub so_far_more : (p : View) (names : Numbers) (was : Table) (room : ℕ) (lines : List Line) (m next : View) (now after : Table)
+    (replies told : Vec Reply Global) (l : Line) (reply : Reply) → SoFar p names was room lines m now replies
+    → LineRan m next names now.base.now now.start now.own.items after.own.items l.command reply
+    → after.base ≡ now.base → after.start ≡ now.start → vec_capacity after.own ≡ vec_capacity now.own
+    → ((holds handles : List ArenaId) → Backs m holds handles now.base.now now.own.items → Backs next holds handles now.base.now after.own.items)
+    → told.items ≡ replies.items ++ reply ∷ [] → vec_capacity told ≡ vec_capacity replies
+    → SoFar p names was room (lines ++ l ∷ []) next after told
+so_far_more p names was room lines m next now after replies told l reply i ran base start capacity backs items same_room =
+    let same : now.base.now ≡ was.base.now = λ j. (i.base j).now in
+    let line : LineRan m next names was.base.now was.start now.own.items after.own.items l.command reply =
+    subst (λ (n : ℕ). LineRan m next names was.base.now n now.own.items after.own.items l.command reply) i.start
+    (subst (λ (bs : List Standing). LineRan m next names bs now.start now.own.items after.own.items l.command reply) same ran) in
+    record {
+      base = base ∙ i.base;
+      start = start ∙ i.start;
+      ran = subst (λ (rs : List Reply). LinesRan p next names was.base.now was.start was.own.items after.own.items (lines ++ l ∷ []) rs) (sym items)
+          (lines_more p names was.base.now was.start was.own.items m next now.own.items after.own.items lines l replies.items reply i.ran line);
+      backs = λ holds handles b. subst (λ (bs : List Standing). Backs next holds handles bs after.own.items) same
+          (backs holds handles (subst (λ (bs : List Standing). Backs m holds handles bs now.own.items) (sym same) (i.backs holds handles b)));
+      room_is = capacity ∙ i.room_is;
+      answers = same_room ∙ i.answers;
+    }

@@ -1,0 +1,46 @@
+-- What a pass's next line does, to the pass and to what names stand for.
+use Rattle.std.specs.Prelude.{◌≡◌, ℕ, ◌+◌, ◌==◌, Bool, true, false, if◌then◌else◌, length, None, Option, Some, List}
+use Rattle.fm_base.specs.Calls.{Entry}
+use Rattle.fm_base.specs.Outcomes.{Lasts}
+use Rattle.fm_rule_facts.specs.Views.{View}
+use Rattle.fm_rule_calls.specs.Told.{view_of_pass}
+use Rattle.fm_script_text.specs.declared.command.Command.{Command}
+use Rattle.fm_script_text.specs.declared.command.Command.TheVariants as command
+use Rattle.fm_script_lines.specs.declared.numbers.Numbers.{Numbers}
+use Rattle.fm_script_lines.specs.declared.reply.Reply.{Reply}
+use Rattle.fm_script_lines.specs.declared.standing.Standing.{Standing}
+use Rattle.fm_script_lines.specs.Calls.{CallDoes}
+use Rattle.fm_script_lines.specs.Numbers.{number_at}
+use Rattle.fm_script_lines.specs.Outcomes.{outcome}
+use Rattle.fm_script_lines.specs.Pages.{PagesToldBy}
+use Rattle.fm_script_lines.specs.Runs.{Went}
+use Rattle.fm_script_lines.specs.Slots.{SlotsTold, opens}
+use Rattle.fm_script_lines.specs.Standings.{standing_at, standing_of, unheld, handed_back}
+
+abbrev pub is_number : Option ℕ → ℕ → Bool
+is_number None n = false
+is_number (Some m) n = n == m
+
+-- what the name of this number stands for behind a line that ran, where it stood for this
+abbrev pub behind : (List ℕ → Option ℕ) → Command → ℕ → Standing → Standing
+behind number (command.Unhold hold) n s = if is_number (number hold) n then unheld s else s
+behind number (command.Back handle) n s = if is_number (number handle) n then handed_back s else s
+behind number c n s = s
+
+-- The next of the pass's own lines ran
+pub record LineRan (old new : View) (names : Numbers) (base : List Standing) (start : ℕ) (own next : List Standing) (command : Command) (reply : Reply)
+    : Type 0 where
+  pub made : Standing
+  pub run : List Entry
+  pub does : CallDoes old.caller (λ name. standing_of base start own (number_at names name)) command (outcome reply made) run
+  pub went : Went old new run
+  pub outside : new.inside ≡ None
+  pub lasts : Lasts (view_of_pass old) (view_of_pass new)
+  -- its name stands for what it made, and a hold or handle that it gave back is none any more
+  pub one_more : length next ≡ length own + 1
+  pub stands : (n : ℕ) → standing_at base start next n
+      ≡ (if n == start + length own then made else behind (number_at names) command n (standing_at base start own n))
+  -- where it opens an arena, what it tells of slots
+  pub slots : opens command ≡ true → SlotsTold old new reply
+  -- where it allocates, what it tells of pages
+  pub pages : PagesToldBy (λ name. standing_of base start own (number_at names name)) old new command reply

@@ -1,0 +1,85 @@
+ghost use Rattle.std.specs.Prelude.{◌≡◌, None, IfSome};
+ghost use Rattle.fm_rule_facts.specs.Views.{IsKnown};
+ghost use Rattle.fm_script_lines.specs.Calls.{On, Opens, Asks, Closes};
+ghost use Rattle.fm_script_lines.specs.Runs.{RanLine};
+ghost use Rattle.fm_script_lines.specs.Slots.{SlotsTold};
+
+use crate::outcome::Outcome;
+use crate::reply::Reply;
+use crate::standing::Standing;
+use fm_arena::{AutoHandle, Shared};
+use fm_base::{ArenaId, Kind, Memory};
+use std::sync::Wait;
+
+/// `open NAME KIND`
+pub(crate) fn open<R: Wait>(rt: &R, m: &mut Shared, kind: Kind) -> Outcome
+    requires { m.old.inside ≡ None }
+    ensures ran { RanLine m.old m.new (Opens m.old.caller kind) result }
+    ensures slots { SlotsTold m.old m.new result.reply }
+{
+    match kind {
+        Kind::Automatic => open_automatic(rt, m),
+        Kind::Global | Kind::Confined | Kind::Shared => open_by_hand(rt, m, kind),
+    }
+}
+
+/// Of an automatic arena.
+fn open_automatic<R: Wait>(rt: &R, m: &mut Shared) -> Outcome
+    requires { m.old.inside ≡ None }
+    ensures ran { RanLine m.old m.new (Opens m.old.caller Kind.Automatic) result }
+    ensures slots { SlotsTold m.old m.new result.reply }
+{
+    match AutoHandle::start(rt, m) {
+        Ok(handle) => Outcome {
+            reply: Reply::Fine,
+            made: Standing::Automatic(handle.arena(), Some(handle)),
+        },
+        Err(refusal) => Outcome::plain(Reply::Refused(refusal)),
+    }
+}
+
+/// Of an arena of another kind.
+fn open_by_hand<R: Wait>(rt: &R, m: &mut Shared, kind: Kind) -> Outcome
+    requires outside { m.old.inside ≡ None }
+    requires by_hand { ¬ (kind ≡ Kind.Automatic) }
+    ensures ran { RanLine m.old m.new (Opens m.old.caller kind) result }
+    ensures slots { SlotsTold m.old m.new result.reply }
+{
+    match m.open_arena(rt, kind) {
+        Ok(arena) => Outcome {
+            reply: Reply::Fine,
+            made: Standing::Arena(arena),
+        },
+        Err(refusal) => Outcome::plain(Reply::Refused(refusal)),
+    }
+}
+
+/// `alive ARENA`
+pub(crate) fn ask(m: &mut Shared, arena: Option<ArenaId>) -> Outcome
+    requires outside { m.old.inside ≡ None }
+    requires known { IfSome arena (IsKnown m.old) }
+    ensures { RanLine m.old m.new (On arena (Asks m.old.caller)) result }
+{
+    let Some(arena) = arena else {
+        return Outcome::plain(Reply::Skipped);
+    };
+    match m.is_alive(arena) {
+        Ok(alive) => Outcome::plain(Reply::Truth(alive)),
+        Err(refusal) => Outcome::plain(Reply::Refused(refusal)),
+    }
+}
+
+/// `close ARENA`
+pub(crate) fn close<R: Wait>(rt: &R, m: &mut Shared, arena: Option<ArenaId>) -> Outcome
+    requires outside { m.old.inside ≡ None }
+    requires known { IfSome arena (IsKnown m.old) }
+    ensures { RanLine m.old m.new (On arena (Closes m.old.caller)) result }
+{
+    let Some(arena) = arena else {
+        return Outcome::plain(Reply::Skipped);
+    };
+    match m.close(rt, arena) {
+        Ok(_) => Outcome::plain(Reply::Fine),
+        Err(refusal) => Outcome::plain(Reply::Refused(refusal)),
+    }
+}

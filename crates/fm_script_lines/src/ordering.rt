@@ -1,0 +1,77 @@
+ghost use Rattle.std.specs.Prelude.{◌≡◌, ◌++◌, length, IfOk, IfErr, OnOk};
+ghost use Rattle.fm_script_lines.specs.Ordering.{AreStarts, in_order, is_by, lines_at};
+ghost use Rattle.fm_script_lines.specs.Report.{lines_by};
+
+use fm_base::Refusal;
+use fm_script_text::{Line, Who};
+use std::alloc::Global;
+
+/// The lines of a script in the order of printing.
+#[derive(Debug, Drop)]
+pub struct Order<'a> {
+    /// The first lines, those of worker 1 and so on, the last ones.
+    pub lines: Vec<&'a Line>,
+    /// For each worker the place of its first line.
+    pub starts: Vec<usize>,
+}
+
+/// The order of a script's lines, where it has so many workers. Refused: `Memory`.
+pub fn in_order<'a>(alloc: Global, lines: &'a [Line], workers: u32) -> Result<Order<'a>, Refusal>
+    ensures lines { IfOk result (λ order. lines_at order.lines.items ≡ in_order workers lines.now) }
+    ensures starts { IfOk result (λ order. AreStarts lines.now workers order.starts.items) }
+    ensures memory { IfErr result (λ refusal. refusal ≡ Refusal.Memory) }
+{
+    let mut order = Vec::new(alloc);
+    let mut starts = Vec::new(alloc);
+    add_lines(&mut order, lines, Who::First)?;
+    for worker in 0..workers {
+        if starts.push(order.len()).is_err() {
+            return Err(Refusal::Memory);
+        }
+        add_lines(&mut order, lines, Who::Worker(worker + 1))?;
+    }
+    add_lines(&mut order, lines, Who::Last)?;
+    Ok(Order {
+        lines: order,
+        starts,
+    })
+}
+
+/// How many of the lines are these.
+pub fn count_lines(lines: &[Line], who: Who) -> usize
+    ensures { result ≡ length (lines_by (is_by who) lines.now) }
+{
+    let mut count = 0;
+    for line in lines {
+        if is_by(who, line.who) {
+            count += 1;
+        }
+    }
+    count
+}
+
+/// Puts those of the lines that are these behind the others. Refused: `Memory`.
+fn add_lines<'a>(order: &mut Vec<&'a Line>, lines: &'a [Line], who: Who) -> Result<(), Refusal>
+    ensures lines { OnOk result (lines_at order.new.items ≡ lines_at order.old.items ++ lines_by (is_by who) lines.now) }
+    ensures memory { IfErr result (λ refusal. refusal ≡ Refusal.Memory) }
+{
+    for line in lines {
+        if is_by(who, line.who) {
+            if order.push(line).is_err() {
+                return Err(Refusal::Memory);
+            }
+        }
+    }
+    Ok(())
+}
+
+/// Whether a line of the second is one of the first.
+pub(crate) fn is_by(who: Who, other: Who) -> bool
+    ensures { result ≡ is_by who other }
+{
+    match (who, other) {
+        (Who::First, Who::First) | (Who::Last, Who::Last) => true,
+        (Who::Worker(number), Who::Worker(other)) => other == number,
+        _ => false,
+    }
+}

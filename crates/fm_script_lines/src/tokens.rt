@@ -1,0 +1,76 @@
+ghost use Rattle.std.specs.Prelude.{◌≡◌, None, IfSome};
+ghost use Rattle.std.specs.Option.{option_map};
+ghost use Rattle.fm_arena.specs.Handles.{HasHandle, CanGiveBack};
+ghost use Rattle.fm_arena.specs.Learnt.{CanUnhold};
+ghost use Rattle.fm_rule_facts.specs.Holds.{released};
+ghost use Rattle.fm_rule_facts.specs.Views.{IsKnown};
+ghost use Rattle.fm_script_lines.specs.Calls.{On, Holds, Unholds, TakesAgain, GivesBack};
+ghost use Rattle.fm_script_lines.specs.Outcomes.{plain};
+ghost use Rattle.fm_script_lines.specs.Runs.{RanLine, RanWith};
+
+use crate::outcome::Outcome;
+use crate::reply::Reply;
+use crate::standing::Standing;
+use fm_arena::{AutoHandle, Shared};
+use fm_base::ArenaId;
+use fm_close::GaveBack;
+use fm_gate::Hold;
+use std::sync::Wait;
+
+/// `hold ARENA NAME`
+pub(crate) fn hold<R: Wait>(rt: &R, m: &mut Shared, arena: Option<ArenaId>) -> Outcome
+    requires outside { m.old.inside ≡ None }
+    requires known { IfSome arena (IsKnown m.old) }
+    ensures { RanLine m.old m.new (On arena (Holds m.old.caller)) result }
+{
+    let Some(arena) = arena else {
+        return Outcome::plain(Reply::Skipped);
+    };
+    match m.hold(rt, arena) {
+        Ok(hold) => Outcome {
+            reply: Reply::Fine,
+            made: Standing::Hold(Some(hold)),
+        },
+        Err(refusal) => Outcome::plain(Reply::Refused(refusal)),
+    }
+}
+
+/// `unhold HOLD`
+pub(crate) fn unhold(m: &mut Shared, hold: Hold)
+    requires outside { m.old.inside ≡ None }
+    requires can { CanUnhold m.old hold }
+    ensures { RanWith m.old m.new (released hold.arena m.old.holds) m.old.handles
+        (Unholds m.old.caller hold.arena (plain Reply.Fine)) }
+{
+    m.unhold(hold);
+}
+
+/// `again HANDLE NAME`
+pub(crate) fn again<R: Wait>(rt: &R, m: &mut Shared, handle: Option<&AutoHandle>) -> Outcome
+    requires outside { m.old.inside ≡ None }
+    requires has { IfSome handle (λ h. HasHandle m.old h.now) }
+    ensures { RanLine m.old m.new (On (option_map (λ h. h.now.arena) handle.entry) (TakesAgain m.old.caller)) result }
+{
+    let Some(handle) = handle else {
+        return Outcome::plain(Reply::Skipped);
+    };
+    match handle.again(rt, m) {
+        Ok(other) => Outcome {
+            reply: Reply::Fine,
+            made: Standing::Handle(Some(other)),
+        },
+        Err(refusal) => Outcome::plain(Reply::Refused(refusal)),
+    }
+}
+
+/// `back HANDLE`
+pub(crate) fn give_back<R: Wait>(rt: &R, m: &mut Shared, handle: AutoHandle) -> Reply
+    requires { CanGiveBack m.old handle }
+    ensures { RanWith m.old m.new m.old.holds (released handle.arena m.old.handles)
+        (GivesBack m.old.caller handle.arena (plain result)) }
+{
+    match handle.give_back(rt, m) {
+        GaveBack::Kept => Reply::Kept,
+        GaveBack::Ended => Reply::Ended,
+    }
+}

@@ -1,0 +1,123 @@
+-- Words that spell numbers.
+use Rattle.std.proofs.Common.{◌≡◌, refl, sym, ap, subst, ◌∙◌, ℕ, ◌<◌, ◌^◌, suc, Bool, true, false, if◌then◌else◌, nat_le, eqb, Option, Some, None, Result, Ok, Err, List, [], ◌∷◌, arith, w64}
+use Rattle.std.specs.Prelude.{ℤ, pos, negsuc, neg_ℤ}
+use Rattle.std.specs.Fmt.{decimal, signed_decimal}
+use Rattle.std.specs.Int.Signed.{mag}
+use Rattle.std.specs.Char.{digit_value}
+use Rattle.std.specs.Str.{bytes_eq}
+use Rattle.std.specs.Str.Parse.{ParsesUnsigned, ParsesSigned, IsNumeral, digits_value}
+use Rattle.std.proofs.lemmas.Bool.{cond_both, eqb-true, ltb-true}
+use Rattle.std.proofs.lemmas.Bool.Decides.{not_from_Decides}
+use Rattle.std.proofs.lemmas.Fmt.{parse-decimal, parse-signed_decimal, decimal_is_IsNumeral}
+use Rattle.std.proofs.lemmas.Int.{ints, to_z-of_z}
+use mir.Val.{to_z, of_z}
+use Rattle.std.specs.Int.RustNames.{FitsSigned}
+use Rattle.std.proofs.lemmas.Slice.Eq.{bytes_eq-Decides}
+use Rattle.fm_lanes.specs.declared.value_kind.ValueKind.{ValueKind}
+use Rattle.fm_lanes.specs.declared.value_kind.ValueKind.TheVariants.{Byte, Boolean, Char, Short, Int, Long}
+use Rattle.fm_script_text.specs.Reader.{number_named, literal_named, number_value, is_of_kind}
+
+-- ---- without a sign
+
+-- a word that isn't read as a number spells none
+pub unread : {E : Type 0} (word : List ℕ) (r : Result ℕ E) (fault : E) → ParsesUnsigned 64 10 word r → r ≡ Err fault → (n : ℕ) → n < 2 ^ 64 → word ≡ decimal n
+    → ⊥
+unread {E} word r fault parsed failed n small spelled =
+    let both : ◌≡◌ {A = Result ℕ E} (Err fault) (Ok n) = sym failed ∙ parse-decimal 64 n word r small small spelled parsed in
+    cc
+
+-- a word that isn't the spelling of the number that was read from it spells none
+pub no_spelling : {E : Type 0} (word text : List ℕ) (r : Result ℕ E) (m : ℕ) (same : Bool) → ParsesUnsigned 64 10 word r → r ≡ Ok m → text ≡ decimal m
+    → same ≡ bytes_eq text word → same ≡ false → (n : ℕ) → n < 2 ^ 64 → word ≡ decimal n → ⊥
+no_spelling {E} word text r m same parsed read is tested other n small spelled =
+    let both : ◌≡◌ {A = Result ℕ E} (Ok m) (Ok n) = sym read ∙ parse-decimal 64 n word r small small spelled parsed in
+    let equal : m ≡ n = cc in
+    not_from_Decides (bytes_eq text word) (bytes_eq-Decides text word) (sym tested ∙ other) (is ∙ ap decimal equal ∙ sym spelled)
+
+-- a word is read as the number that it spells
+pub named_number : (most n : ℕ) (word : List ℕ) → n < 2 ^ 64 → word ≡ decimal n → number_named most word ≡ (if nat_le n most then Some n else None)
+named_number most n word small spelled =
+    let value : digits_value 10 word ≡ n = ap (digits_value 10) spelled ∙ (decimal_is_IsNumeral n small).1 in
+    let same : bytes_eq word (decimal n) ≡ true = (bytes_eq-Decides word (decimal n)).1 spelled in
+    rw (value, same) refl
+
+-- ---- with a sign
+
+-- a word that isn't read as a number spells none
+pub unread_signed : {E : Type 0} (word : List ℕ) (r : Result ℤ E) (fault : E) → ParsesSigned w64 10 word r → r ≡ Err fault → (n : ℤ) → mag n < 2 ^ 63
+    → word ≡ signed_decimal n → ⊥
+unread_signed {E} word r fault parsed failed n small spelled =
+    let both : ◌≡◌ {A = Result ℤ E} (Err fault) (Ok n) = sym failed ∙ parse-signed_decimal w64 n word r (omega (arith, ints)) small spelled parsed in
+    cc
+
+-- nor does one that isn't the spelling of the number that was read from it
+pub no_signed_spelling : {E : Type 0} (word text : List ℕ) (r : Result ℤ E) (m : ℤ) (same : Bool) → ParsesSigned w64 10 word r → r ≡ Ok m
+    → text ≡ signed_decimal m → same ≡ bytes_eq text word → same ≡ false → (n : ℤ) → mag n < 2 ^ 63 → word ≡ signed_decimal n → ⊥
+no_signed_spelling {E} word text r m same parsed read is tested other n small spelled =
+    let both : ◌≡◌ {A = Result ℤ E} (Ok m) (Ok n) = sym read ∙ parse-signed_decimal w64 n word r (omega (arith, ints)) small spelled parsed in
+    let equal : m ≡ n = cc in
+    not_from_Decides (bytes_eq text word) (bytes_eq-Decides text word) (sym tested ∙ other) (is ∙ ap signed_decimal equal ∙ sym spelled)
+
+-- what digits write has no sign
+value_of_digits : (ds : List ℕ) → IsNumeral 10 ds → number_value ds ≡ pos (digits_value 10 ds)
+value_of_digits [] h = absurd (omega (arith, h.0))
+value_of_digits (c ∷ cs) h = cond_both (eqb c 45) (neg_ℤ (pos (digits_value 10 cs))) (pos (digits_value 10 (c ∷ cs))) (λ z.
+    z ≡ pos (digits_value 10 (c ∷ cs))) (λ t. absurd (no_minus c (eqb_is c 45 t) h.1.0)) (λ f. refl)
+  where
+    eqb_is : (a b : ℕ) → eqb a b ≡ true → a ≡ b
+    eqb_is a b t = eqb-true a b t
+
+    no_minus : (c : ℕ) → c ≡ 45 → digit_value c < 10 → ⊥
+    no_minus c e h = let k : digit_value 45 < 10 = subst (λ x. digit_value x < 10) e h in omega arith
+
+-- the value of a number's text is the number
+pub value_spelled : (z : ℤ) → mag z < 2 ^ 63 → number_value (signed_decimal z) ≡ z
+value_spelled (pos n) small =
+    let numeral = decimal_is_IsNumeral n (omega arith) in
+    value_of_digits (decimal n) numeral.0 ∙ ap pos numeral.1
+value_spelled (negsuc n) small = ap (λ m. neg_ℤ (pos m)) (decimal_is_IsNumeral (suc n) (omega arith)).1
+
+-- a word is read as the number that it spells, if it is of the kind
+pub named_literal : (kind : ValueKind) (z : ℤ) (word : List ℕ) → mag z < 2 ^ 63 → word ≡ signed_decimal z
+    → literal_named kind word ≡ (if is_of_kind kind z then Some z else None)
+named_literal kind z word small spelled =
+    let value : number_value word ≡ z = ap number_value spelled ∙ value_spelled z small in
+    let same : bytes_eq word (signed_decimal z) ≡ true = (bytes_eq-Decides word (signed_decimal z)).1 spelled in
+    rw (value, same) refl
+
+-- a number of a kind has 64 bits
+pub kind_is_small : (kind : ValueKind) (z : ℤ) → is_of_kind kind z ≡ true → mag z < 2 ^ 63
+kind_is_small Byte (pos n) t = let h = ltb-true _ _ t in omega arith
+kind_is_small Boolean (pos n) t = let h = ltb-true _ _ t in omega arith
+kind_is_small Char (pos n) t = let h = ltb-true _ _ t in omega arith
+kind_is_small Short (pos n) t = let h = ltb-true _ _ t in omega arith
+kind_is_small Int (pos n) t = let h = ltb-true _ _ t in omega arith
+kind_is_small Long (pos n) t = let h = ltb-true _ _ t in omega arith
+kind_is_small Byte (negsuc n) t = let h = ltb-true _ _ t in omega arith
+kind_is_small Boolean (negsuc n) t = let h = ltb-true _ _ t in omega arith
+kind_is_small Char (negsuc n) t = let h = ltb-true _ _ t in omega arith
+kind_is_small Short (negsuc n) t = let h = ltb-true _ _ t in omega arith
+kind_is_small Int (negsuc n) t = let h = ltb-true _ _ t in omega arith
+kind_is_small Long (negsuc n) t = let h = ltb-true _ _ t in omega arith
+
+-- ---- as the machine holds them
+
+-- the machine holds a number of 64 bits as it is
+pub held : (z : ℤ) → mag z < 2 ^ 63 → to_z w64 (of_z w64 z) ≡ z
+held z small = to_z-of_z w64 z (omega (arith, ints))
+
+-- a number that was read has 64 bits
+pub parsed_held : {E : Type 0} (word : List ℕ) (r : Result ℤ E) (z : ℤ) → ParsesSigned w64 10 word r → r ≡ Ok z → to_z w64 (of_z w64 z) ≡ z
+parsed_held {E} word r z parsed read =
+    let p : ParsesSigned {E = E} w64 10 word (Ok z) = subst (ParsesSigned w64 10 word) read parsed in
+    to_z-of_z w64 z (subst (FitsSigned w64) (sym p.1) p.0.1)
+
+-- a number that a word spells is what the word is read as, where it is of the kind
+pub literal_found : (kind : ValueKind) (z : ℤ) (word : List ℕ) → mag z < 2 ^ 63 → word ≡ signed_decimal z → is_of_kind kind z ≡ true
+    → Some (to_z w64 (of_z w64 z)) ≡ literal_named kind word
+literal_found kind z word small spelled is = ap Some (held z small) ∙ sym (named_literal kind z word small spelled ∙ rw is refl)
+
+-- and as none where it isn't
+pub literal_missed : (kind : ValueKind) (z : ℤ) (word : List ℕ) → mag z < 2 ^ 63 → word ≡ signed_decimal z → is_of_kind kind z ≡ false
+    → ◌≡◌ {A = Option ℤ} None (literal_named kind word)
+literal_missed kind z word small spelled is = sym (named_literal kind z word small spelled ∙ rw is refl)

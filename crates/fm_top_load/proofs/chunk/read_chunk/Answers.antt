@@ -1,0 +1,27 @@
+use Rattle.std.proofs.Common.{ℕ, ◌+◌, arith}
+use Rattle.std.proofs.lemmas.List.{length-take}
+use Rattle.fm_top_load.proofs.Following.{filled_reads, goes_by}
+use Rattle.fm_top_load.proofs.chunk.read_chunk.Goals as goal
+
+pub returns-in-Err-Missing-clause-reads : goal.returns-in-Err-Missing-clause-reads
+returns-in-Err-Missing-clause-reads g c =
+    filled_reads c.fill.ensures.reads (omega arith) (omega (arith, length-take {A = ℕ})) (omega (arith, length-take {A = ℕ})) (λ next goes. tt)
+
+pub returns-in-Err-Failed-clause-reads : goal.returns-in-Err-Failed-clause-reads
+returns-in-Err-Failed-clause-reads g c =
+    filled_reads c.fill.ensures.reads (omega arith) (omega (arith, length-take {A = ℕ})) (omega (arith, length-take {A = ℕ})) (λ next goes. tt)
+
+pub returns-in-Err-Memory-clause-reads : goal.returns-in-Err-Memory-clause-reads
+returns-in-Err-Memory-clause-reads g c =
+    filled_reads c.fill.ensures.reads (omega arith) (omega (arith, length-take {A = ℕ})) (omega (arith, length-take {A = ℕ})) (λ next goes. tt)
+
+pub returns-then-count-rest-clause-reads : goal.returns-then-count-rest-clause-reads
+returns-then-count-rest-clause-reads g c =
+    filled_reads c.fill.ensures.reads (omega arith) (omega (arith, length-take {A = ℕ})) (omega (arith, length-take {A = ℕ})) (λ next goes. tt)
+
+pub returns-clause-reads : goal.returns-clause-reads
+returns-clause-reads g c =
+    let n = c.in-Ok.count in
+    filled_reads c.in-Ok.ensures.reads (omega arith) (omega (arith, length-take {A = ℕ})) (omega (arith, length-take {A = ℕ}))
+    (λ next goes. goes_by _ _ c.min-room.result n (c.args.at + n) next (omega (arith, length-take {A = ℕ}))
+    (omega (arith, length-take {A = ℕ}, c.in-Ok.ensures.count)) (omega arith) goes)

@@ -1,0 +1,112 @@
+ghost use Rattle.std.specs.Prelude.{◌≡◌, ◌≢◌, ◌+◌, ◌%◌, ◌≤◌, length, take, drop, IfOk, IsErrOf, Err};
+ghost use Rattle.fm_io.specs.Count.{Rose};
+ghost use Rattle.fm_io.specs.Files.{IsAbsent};
+ghost use Rattle.fm_layout.specs.Parts.{IsValue};
+ghost use Rattle.fm_layout.specs.Size.{size_of};
+ghost use Rattle.fm_layout.specs.Tree.{alignment_of};
+ghost use Rattle.fm_mono.specs.Shown.{view_of};
+ghost use Rattle.fm_segment.specs.Alone.{Means};
+ghost use Rattle.fm_top_load.specs.Held.{IsReady, loaded_in};
+ghost use Rattle.fm_top_load.specs.Reading.{ReadsSome};
+ghost use Rattle.fm_top_load.specs.Whole.{IsWhole, IsOver};
+
+use crate::held::{RECORD_FILE_LIMIT, open_held};
+use crate::load_fault::LoadFault;
+use crate::loading::load_into;
+use fm_base::Kind;
+use fm_io::Files;
+use fm_lanes::Value;
+use fm_layout::Layout;
+use fm_mono::Mono;
+use fm_segment::Segment;
+use std::alloc::Global;
+use std::marker::Model;
+use std::sync::Wait;
+
+/// The bytes of a record file, in an arena of one thread.
+#[derive(Drop)]
+pub struct Loaded {
+    memory: Mono,
+    segment: Segment,
+}
+
+impl Model for Loaded {
+    ghost use Rattle.std.specs.Prelude.{List, ℕ};
+
+    ghost Value = { List ℕ };
+
+    ghost use Rattle.fm_top_load.specs.Loaded.{loaded_bytes, HoldsFile};
+
+    ghost view = { loaded_bytes };
+
+    ghost invariant = { HoldsFile };
+}
+
+impl Loaded {
+    /// What was loaded into the segment.
+    pub(crate) fn of(memory: Mono, segment: Segment) -> Loaded
+        requires { IsReady (view_of memory) segment }
+        ensures { result ≡ loaded_in (view_of memory) segment }
+    {
+        Loaded { memory, segment }
+    }
+
+    /// How many bytes there are.
+    pub fn len(&self) -> u64
+        ensures { result ≡ length self.now }
+    {
+        self.segment.size()
+    }
+
+    /// The value of this layout that stands at a place, which is aligned for it.
+    #[inline(always)]
+    pub fn value(&mut self, layout: &Layout, place: u64) -> Value
+        requires value { IsValue layout.now }
+        requires aligned { place % alignment_of layout.now ≡ 0 }
+        requires within { place + size_of layout.now ≤ length self.old }
+        ensures value { Means layout.now (take (size_of layout.now) (drop place self.old)) result }
+        ensures same { self.new ≡ self.old }
+    {
+        match self.segment.get(&mut self.memory, layout, place) {
+            Ok(v) => v,
+            // The arena is alive, its owner reads, and the value fits.
+            Err(_) => unreachable!(),
+        }
+    }
+}
+
+/// Reads a whole record file into an arena of one thread.
+///
+/// It reads up to the file's end, or until more bytes than the limit came.
+pub fn load<R: Wait, F: Files>(
+    rt: &R,
+    alloc: Global,
+    files: &mut F,
+    name: &str,
+) -> Result<Loaded, LoadFault>
+    ensures whole { IfOk result (IsWhole (F.holds files.old) name.now) }
+    ensures short { IfOk result (λ bytes. length bytes ≤ RECORD_FILE_LIMIT) }
+    ensures too_long { IsErrOf result LoadFault.TooLong →
+        IsOver (F.holds files.old) name.now RECORD_FILE_LIMIT }
+    ensures absent { IsErrOf result LoadFault.Missing → IsAbsent (F.holds files.old) name.now }
+    ensures missing { IsErrOf result LoadFault.Missing → Rose (F.misses files.old) (F.misses files.new) }
+    ensures failed { IsErrOf result LoadFault.Failed → Rose (F.faults files.old) (F.faults files.new) }
+    ensures never { result ≢ Err LoadFault.PoolFull }
+
+    // It reads on where the bytes of its last read end, in pieces, and up to the first byte past the limit at most.
+    ensures reads { ReadsSome (F.reads files.old) (F.reads files.new) name.now RECORD_FILE_LIMIT }
+    ensures quiet { result ≢ Err LoadFault.Failed → F.faults files.new ≡ F.faults files.old }
+    ensures found { result ≢ Err LoadFault.Missing → F.misses files.new ≡ F.misses files.old }
+    ensures held { F.holds files.new ≡ F.holds files.old }
+    ensures faults_stay { F.faults files.old ≤ F.faults files.new }
+    ensures misses_stay { F.misses files.old ≤ F.misses files.new }
+{
+    let mut memory = Mono::make(alloc, RECORD_FILE_LIMIT);
+    let Ok(arena) = open_held(rt, &mut memory, Kind::Confined) else {
+        return Err(LoadFault::Memory);
+    };
+    match load_into(rt, alloc, files, name, &mut memory, arena) {
+        Ok(segment) => Ok(Loaded::of(memory, segment)),
+        Err(fault) => Err(fault),
+    }
+}

@@ -1,0 +1,229 @@
+-- Counts beside records in a pool: room for them, and what a crew counts.
+use Rattle.std.proofs.Common.{◌≡◌, ℕ, ◌+◌, ◌*◌, ◌%◌, ◌<◌, ◌≤◌, List, [], ◌∷◌, map, Result, Ok, Err, IfErr, refl, ap, sym, ◌∙◌, subst, inl, inr, arith}
+use Rattle.std.specs.Prelude.{◌⊎◌}
+use Rattle.std.specs.List.{AllByRecursion, range_with_len}
+use Rattle.std.proofs.lemmas.Nat.{mul-le}
+use Rattle.fm_base.specs.declared.arena_id.ArenaId.{ArenaId}
+use Rattle.fm_base.specs.declared.caller.Caller.{Caller}
+use Rattle.fm_base.specs.declared.kind.Kind.TheVariants.{Confined, Shared}
+use Rattle.fm_base.specs.declared.refusal.Refusal.{Refusal}
+use Rattle.fm_base.specs.declared.refusal.Refusal.TheVariants.{Unsupported, Ragged, WrongThread, Closed, NoPass, Memory}
+use Rattle.fm_base.specs.Arenas.{Arena, arena_of}
+use Rattle.fm_base.specs.Calls.{Add, Entry, Found}
+use Rattle.fm_base.specs.Histories.{made_by}
+use Rattle.fm_base.specs.Untouched.{ComesIn, Spares}
+use Rattle.fm_base.specs.Visits.{visit}
+use Rattle.fm_rule_calls.specs.Told.{view_of_pass}
+use Rattle.fm_base_bytes.specs.Words.{byte_at}
+use Rattle.fm_gate.specs.Learnt.{AllBusy}
+use Rattle.fm_gate.specs.Standing.{IsOutside}
+use Rattle.fm_base_lists.specs.Among.{IsAmong}
+use Rattle.fm_base_lists.proofs.Each.{all_both, all_weaker}
+use Rattle.fm_top_load.specs.Held.{HoldsThen}
+use Rattle.fm_rule_facts.specs.Loans.{lent}
+use Rattle.fm_rule_facts.specs.Scarcity.{parts_before}
+use Rattle.fm_rule_facts.specs.Views.{View, IsKnown, IsSound, limit_of, state_in, unlent}
+use Rattle.fm_records_query.specs.Plan.{Plan}
+use Rattle.fm_records.specs.Answers.{answer}
+use Rattle.fm_records.specs.Reads.{IsWordOf}
+use Rattle.fm_rule.specs.declared.pool.Pool.{Pool}
+use Rattle.fm_segment.specs.Region.{Region, region_of}
+use Rattle.fm_words.specs.declared.shape.Shape.{Shape}
+use Rattle.fm_workers.specs.Adding.{HasCounts}
+use Rattle.fm_workers.specs.Counts.{AreCounts, IsTally, listed}
+use Rattle.fm_workers.specs.Crew.{callers}
+use Rattle.fm_workers.specs.Query.{NobodyElseWrites}
+use Rattle.fm_workers.specs.Tally.{CanTallyWith, OnlyAddsTo, no_more, closed, one_add, OnlyTallies, TalliedWith}
+use Rattle.fm_top_pooled.specs.Asking.{Asked, HasPasses}
+use Rattle.fm_top_pooled.specs.Stocked.{HasPagesFor, IsLone, IsOpened, IsStock, IsStocked, KeepsArenas, bytes_in_pool}
+use Rattle.fm_top_pooled.specs.Tallied.{CanOpenSecond, HasRoomForCounts, IsBeside}
+use Rattle.fm_top_pooled.proofs.Crews.{AllTouch, Touches, bytes_stay, crew_touches, not_stopped, only_reads_touch, records_spared, stays_alive, stocked_still}
+use Rattle.fm_top_pooled.proofs.Lent.{lent_to_one, parts_within}
+use Rattle.fm_top_pooled.proofs.Opening.{pages_left}
+use Rattle.fm_top_pooled.proofs.Shows.{asked, can_ask, is_whole, never_wanting, pooled_is}
+
+-- ---- room for counts
+
+-- the pass can open a second arena, where the first one is all that it knows
+pub can_second : {pool : Pool} {q : View} (s : Region) → IsStock 2 pool q s → CanOpenSecond pool q s.arena
+can_second {pool = pool} {q = q} s h =
+    let shape : q.shape ≡ pool.shape = h.lone.outside.of.1 in
+    let same_pages : q.shape.pages ≡ pool.shape.pages = ap (λ (z : Shape). z.pages) shape in
+    let same_reach : q.shape.reach ≡ pool.shape.reach = ap (λ (z : Shape). z.reach) shape in
+    let pages = h.made.pages in
+    record {
+      lone = h.lone;
+      only = h.only;
+      slots = ap (λ (z : Shape). z.slots) shape ∙ h.made.slots;
+      more = omega (arith, same_pages, same_reach, pages);
+      wide = subst (λ (z : Shape). 256 ≤ z.page_words) (sym shape) h.made.wide;
+    }
+
+-- of two slots one is left, where only one arena was opened
+pub second_free : {pool : Pool} {p : View} {a : ArenaId} → CanOpenSecond pool p a → ¬ (AllBusy p)
+second_free {a = a} can busy =
+    let slots = can.slots in
+    let first = busy 0 (omega (arith, slots)) in
+    let second = busy 1 (omega (arith, slots)) in
+    let here : a.slot ≡ 0 = ap (λ (x : ArenaId). x.slot) (sym (can.only first.arena first.known)) ∙ first.in_slot in
+    let there : a.slot ≡ 1 = ap (λ (x : ArenaId). x.slot) (sym (can.only second.arena second.known)) ∙ second.in_slot in
+    absurd (omega (arith, here, there))
+
+-- and of the pages, since the first arena can't have all
+pub second_pages : {pool : Pool} {p q : View} {a b : ArenaId} → CanOpenSecond pool p a → IsOpened pool p q b → HasPagesFor q 2048
+second_pages {p = p} {a = a} can opened =
+    let z = p.shape in
+    let lent_few = lent_to_one p a can.lone.sound can.only in
+    let wide = can.wide in
+    let more = can.more in
+    let one : parts_before z 2048 ≤ 1 = parts_within z 2048 1 (omega (arith, wide)) (omega (arith, wide)) in
+    let left : parts_before z 2048 ≤ unlent z.pages (lent p.seen) = omega (arith, lent_few, more, one) in
+    pages_left 2048 can.lone opened left
+
+-- which have room for the counts
+pub second_room : {pool : Pool} {p : View} {a : ArenaId} → CanOpenSecond pool p a → 2048 ≤ limit_of pool.shape
+second_room {p = p} can =
+    let z = p.shape in
+    let page : 1 * 256 ≤ z.reach * z.page_words = mul-le 1 256 z.reach z.page_words can.lone.sound.valid.reach.0 can.wide in
+    let room : 2048 ≤ limit_of z = omega (arith, page) in
+    subst (λ (x : Shape). 2048 ≤ limit_of x) can.lone.outside.of.1 room
+
+-- ---- the records stand still
+
+module _ {pool : Pool} {p r : View} {s : Region} (h : IsStocked pool p s) (keeps : KeepsArenas p r) where
+  same_arena : arena_of (state_in r) s.arena ≡ arena_of (state_in p) s.arena
+  same_arena = keeps.same s.arena h.known.arena
+
+  pub stocked_beside : IsLone pool r → IsStocked pool r s
+  stocked_beside lone = record {
+    outside = lone.outside;
+    sound = lone.sound;
+    whole = lone.whole;
+    tidy = lone.tidy;
+    start = h.start;
+    known = record {
+      arena = keeps.known s.arena h.known.arena;
+      given = subst (λ (n : ℕ). s.first + s.size ≤ n) (ap (λ (x : Arena). x.given) (sym same_arena)) h.known.given;
+    };
+    alive = ap (λ (x : Arena). x.life) same_arena ∙ h.alive;
+    shared = h.shared;
+    passes = ap (λ (z : Shape). z.passes) (lone.outside.of.1 ∙ sym h.outside.of.1) ∙ h.passes;
+  }
+
+  pub bytes_beside : bytes_in_pool r s ≡ bytes_in_pool p s
+  unfolding bytes_in_pool
+  bytes_beside = ap (λ (x : Arena). map (byte_at x.words) (range_with_len s.first s.size)) same_arena
+
+pub has_room : (r : View) (a : ArenaId) (words : List ℕ) (s : Region) → HoldsThen (view_of_pass r) a 2048 words → a.kind ≡ Shared → s ≡ region_of a 0 2048
+    → HasRoomForCounts r s
+has_room r a words s held shared is =
+    subst (λ (x : Region). HasRoomForCounts r x) (sym is) (record {
+      known = record { arena = held.held.known; given = omega (arith, held.given_is) };
+      alive = held.held.alive;
+      shared = shared;
+      longs = record { size = refl; aligned = refl };
+      written = refl;
+    })
+
+-- in an arena that is new
+pub beside : {r : View} {s counts : Region} (p : View) → HasRoomForCounts r counts → IsKnown p s.arena → ¬ (IsKnown p counts.arena)
+    → IsBeside r s counts
+beside p room known unknown = record {
+  room = room;
+  other = λ is. unknown (subst (λ (a : ArenaId). IsKnown p a) (sym is) known);
+}
+
+pub can_tally : {pool : Pool} {p : View} {s counts : Region} (plan : Plan) (threads : ℕ) → IsStocked pool p s → IsBeside p s counts → 0 < threads
+    → threads ≤ 16 → CanTallyWith pool p plan s counts threads
+can_tally plan threads h b some few = record {
+  query = can_ask plan threads h some few;
+  known = b.room.known;
+  longs = b.room.longs;
+  written = b.room.written;
+  other = b.other;
+}
+
+-- ---- what the crew does
+
+-- a word of the counts may be added to
+abbrev MayCount : Region → ArenaId → ℕ → Type 0
+MayCount counts a word = (a ≡ counts.arena) × IsWordOf counts word
+
+adds_touch : (counts : Region) (c : Caller) (own : List Entry) → OnlyAddsTo counts c own → AllTouch (MayCount counts) own
+adds_touch counts c own no_more = tt
+adds_touch counts c own closed = (tt, tt)
+adds_touch counts c own (one_add word n found rest is more) =
+    all_both (λ e. Touches (MayCount counts) e.call) (visit c counts.arena ((Add counts.arena word n, Found found) ∷ [])) rest (tt, ((refl, is), (tt, tt)))
+    (adds_touch counts c rest more)
+
+tallies_touch : (s counts : Region) (c : Caller) (own : List Entry) → OnlyTallies s counts c own → AllTouch (MayCount counts) own
+tallies_touch s counts c own t =
+    subst (AllTouch (MayCount counts)) (sym t.parts)
+    (all_both (λ e. Touches (MayCount counts) e.call) t.reads t.adds (only_reads_touch (MayCount counts) s c t.reads t.are_reads)
+    (adds_touch counts c t.adds t.are_adds))
+
+not_confined : {pool : Pool} {p : View} {s counts : Region} → IsStocked pool p s → IsBeside p s counts
+    → (s.arena.kind ≡ Confined) ⊎ (counts.arena.kind ≡ Confined) → ⊥
+not_confined h b (inl is) = let kind : Confined ≡ Shared = sym is ∙ h.shared in absurd (cc)
+not_confined h b (inr is) = let kind : Confined ≡ Shared = sym is ∙ b.room.shared in absurd (cc)
+
+-- a word of the counts lies within them
+within : (counts : Region) → HasCounts counts → (a : ArenaId) (word : ℕ) → MayCount counts a word
+    → (a ≡ counts.arena) × (8 * word + 8 ≤ counts.first + counts.size)
+within counts longs a word may =
+    let aligned = longs.aligned in
+    let size = longs.size in
+    let below = may.1.below in
+    (may.0, omega (arith, aligned, size, below))
+
+module _ {pool : Pool} {p q : View} {s counts : Region} {plan : Plan} {threads : ℕ} (h : IsStocked pool p s) (b : IsBeside p s counts) (sound : IsSound q) where
+  touch : {r : Result (List ℕ) Refusal} (w : TalliedWith threads p q plan s counts r) → AllTouch (MayCount counts) w.crew.more
+  touch w =
+      let cs = callers w.crew.crew in
+      crew_touches (MayCount counts) cs w.crew.more (w.crew.alone (is_whole h))
+      (all_weaker (λ (c : Caller). OnlyTallies s counts c (made_by c w.crew.more)) (λ (c : Caller). AllTouch (MayCount counts) (made_by c w.crew.more))
+      (λ c t. tallies_touch s counts c (made_by c w.crew.more) t) cs w.visits)
+
+  -- neither arena is found closed
+  all_come : {r : Result (List ℕ) Refusal} (w : TalliedWith threads p q plan s counts r) (a : ArenaId) → (a ≡ s.arena) ⊎ (a ≡ counts.arena)
+      → AllByRecursion (ComesIn a) w.crew.more
+  all_come w a (inl is) = subst (λ (x : ArenaId). AllByRecursion (ComesIn x) w.crew.more) (sym is)
+      (stays_alive (MayCount counts) h w.crew sound (touch w) s.arena h.known.arena h.alive).1
+  all_come w a (inr is) = subst (λ (x : ArenaId). AllByRecursion (ComesIn x) w.crew.more) (sym is)
+      (stays_alive (MayCount counts) h w.crew sound (touch w) counts.arena b.room.known.arena b.room.alive).1
+
+  -- only memory can be wanting
+  pub only_wants : (r : Result (List ℕ) Refusal) → TalliedWith threads p q plan s counts r → IsTally plan → s.size % plan.size ≡ 0 → HasPasses p threads
+      → IfErr r (λ e. e ≡ Memory)
+  only_wants (Ok ns) w tally even passes = tt
+  only_wants (Err Unsupported) w tally even passes = absurd (w.ends.0 tally)
+  only_wants (Err (Ragged rest)) w tally even passes =
+      let some = w.ends.2 in
+      let is = w.ends.1 in
+      absurd (omega (arith, some, is, even))
+  only_wants (Err WrongThread) w tally even passes = absurd (not_confined h b w.ends.2)
+  only_wants (Err Closed) w tally even passes =
+      let found = w.ends.1 in
+      absurd (not_stopped found.arena found.caller w.crew.more found.before (all_come w found.arena found.either) found.last)
+  only_wants (Err NoPass) w tally even passes =
+      absurd (never_wanting threads h passes (w.wanting (is_whole h) refl))
+  only_wants (Err Memory) w tally even passes = refl
+  only_wants (Err r) w tally even passes = absurd w.ends
+
+  nobody_else : {r : Result (List ℕ) Refusal} (w : TalliedWith threads p q plan s counts r) → NobodyElseWrites s (callers w.crew.crew) w.crew.more
+  nobody_else w = λ place from below.
+      all_weaker (λ (e : Entry). IsAmong e.caller (callers w.crew.crew)) (λ (e : Entry). IsAmong e.caller (callers w.crew.crew) ⊎ Spares s.arena place e.call)
+      (λ e i. inl i) w.crew.more (w.crew.alone (is_whole h))
+
+  -- the counts are those of the numbers that are listed over the bytes
+  pub counts_all : (ns : List ℕ) → TalliedWith threads p q plan s counts (Ok ns) → AreCounts (listed (answer plan (bytes_in_pool p s))) ns
+  counts_all ns w =
+      subst (λ (bs : List ℕ). AreCounts (listed (answer plan bs)) ns) (sym (pooled_is p s)) (w.value (nobody_else w))
+
+  pub was_tallied : (ns : List ℕ) → TalliedWith threads p q plan s counts (Ok ns) → IsOutside pool q → Asked threads pool p q plan s
+  was_tallied ns w outside =
+      asked threads plan h w.crew w.one_each (w.read (nobody_else w))
+      (stocked_still (MayCount counts) h w.crew sound (touch w) outside w.known counts.arena (counts.first + counts.size) b.room.known.given
+      (within counts b.room.longs))
+      (bytes_stay (MayCount counts) h w.crew sound (touch w) (λ a word may is. b.other (sym may.0 ∙ is)))
+      (records_spared (MayCount counts) h w.crew sound (touch w) (λ a word may is. b.other (sym may.0 ∙ is)))

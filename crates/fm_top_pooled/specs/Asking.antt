@@ -1,0 +1,32 @@
+-- What a crew leaves that was asked of records in a pool, and what a finished pool keeps of its pass.
+use Rattle.std.specs.Prelude.{◌≡◌, ℕ, ◌+◌, ◌≤◌, List, ◌++◌, length}
+use Rattle.fm_base.specs.Calls.{Entry}
+use Rattle.fm_rule_facts.specs.Views.{View}
+use Rattle.fm_records_query.specs.Plan.{Plan}
+use Rattle.fm_records.specs.Shares.{AreSpared}
+use Rattle.fm_rule.specs.declared.pool.Pool.{Pool}
+use Rattle.fm_rule.specs.Finishing.{FinishedView}
+use Rattle.fm_segment.specs.Region.{Region}
+use Rattle.fm_top_pooled.specs.Shown.{AreRead, AsksWord, IsHistory}
+use Rattle.fm_top_pooled.specs.Stocked.{IsStocked, bytes_in_pool}
+
+-- so many passes can be drawn still
+abbrev pub HasPasses : View → ℕ → Type 0
+HasPasses p threads = length p.gathered + (1 + threads) ≤ p.shape.passes
+
+-- At most so many passes were drawn; the records stood, nobody changed them, and then others have read each word that is asked for
+pub record Asked (threads : ℕ) (pool : Pool) (old new : View) (p : Plan) (s : Region) : Type 0 where
+  pub before : IsStocked pool old s
+  pub stocked : IsStocked pool new s
+  pub same : bytes_in_pool new s ≡ bytes_in_pool old s
+  pub more : List Entry
+  pub seen : new.seen ≡ old.seen ++ more
+  pub spared : AreSpared s more
+  pub read : AreRead more (AsksWord p (bytes_in_pool old s)) s.arena
+  pub drawn : length new.gathered ≤ length old.gathered + threads
+
+-- the pool is of this shape, and its history all that the pass has seen
+pub record KeepsHistory (p : View) (f : FinishedView) : Type 0 where
+  pub is_history : IsHistory f
+  pub shape : f.shape ≡ p.shape
+  pub history : f.history ≡ p.seen

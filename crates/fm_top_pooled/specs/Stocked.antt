@@ -1,0 +1,103 @@
+-- Where the first pass of a pool stands, before bytes are put into an arena of it, and then.
+use Rattle.std.specs.Prelude.{◌≡◌, ◌⊎◌, ℕ, ◌+◌, ◌≤◌, true, List, []}
+use Rattle.fm_base.specs.declared.arena_id.ArenaId.{ArenaId}
+use Rattle.fm_base.specs.declared.kind.Kind.TheVariants.{Shared}
+use Rattle.fm_base.specs.Arenas.{Alive, arena_of}
+use Rattle.fm_base.specs.Histories.{IsTidy}
+use Rattle.fm_rule_calls.specs.Told.{view_of_pass}
+use Rattle.fm_gate.specs.Learnt.{AllBusy}
+use Rattle.fm_gate.specs.Standing.{IsOutside}
+use Rattle.fm_base.specs.View.{given_in}
+use Rattle.fm_top_load.specs.Held.{IsEmpty, IsHeld}
+use Rattle.fm_rule_facts.specs.Loans.{lent}
+use Rattle.fm_rule_facts.specs.Scarcity.{parts_before}
+use Rattle.fm_rule_facts.specs.Views.{View, IsKnown, IsSound, limit_of, state_in, unlent}
+use Rattle.fm_records.specs.Alone.{bytes_at_places}
+use Rattle.fm_rule.specs.declared.pool.Pool.{Pool}
+use Rattle.fm_segment.specs.Access.{IsKnown as IsKnownTo}
+use Rattle.fm_segment.specs.Region.{Region, region_of}
+use Rattle.fm_words.specs.declared.shape.Shape.{Shape}
+
+-- how many passes a pool has
+abbrev pub pool_passes : ℕ
+pool_passes = 136
+
+-- the history that it has seen changes only bytes that were given
+abbrev pub IsTidyPass : View → Type 0
+IsTidyPass p = IsTidy (limit_of p.shape) [] p.seen
+
+-- The first pass of the pool, before another was drawn: it is known to be whole, has no page in its hand and none of its arenas to end or
+-- to sweep, and its entries are tidy
+pub record IsLone (pool : Pool) (p : View) : Type 0 where
+  pub outside : IsOutside pool p
+  pub sound : IsSound p
+  pub whole : p.whole ≡ true
+  pub tidy : IsTidyPass p
+  pub none_gathered : p.gathered ≡ []
+  pub none_to_end : p.closes ≡ []
+  pub none_to_sweep : p.sweeps ≡ []
+  pub no_page : p.pages ≡ []
+
+-- an arena has no more parts for so many bytes than there are pages that aren't lent
+abbrev pub HasPagesFor : View → (size : ℕ) → Type 0
+HasPagesFor p size = parts_before p.shape size ≤ unlent p.shape.pages (lent p.seen)
+
+-- and a slot and the pages for so many bytes are left to it
+pub record CanStock (pool : Pool) (p : View) (size : ℕ) : Type 0 where
+  pub lone : IsLone pool p
+  pub free : ¬ (AllBusy p)
+  pub pages : HasPagesFor p size
+
+-- what was known is known, and stands as it was
+pub record KeepsArenas (p q : View) : Type 0 where
+  pub known : (b : ArenaId) → IsKnown p b → IsKnown q b
+  pub same : (b : ArenaId) → IsKnown p b → arena_of (state_in q) b ≡ arena_of (state_in p) b
+
+-- it opened a shared arena, and no other; nothing was lent
+pub record IsOpened (pool : Pool) (p q : View) (a : ArenaId) : Type 0 where
+  pub lone : IsLone pool q
+  pub empty : IsEmpty (view_of_pass q) a
+  pub shared : a.kind ≡ Shared
+  pub unknown : ¬ (IsKnown p a)
+  pub only : (b : ArenaId) → IsKnown q b → (b ≡ a) ⊎ IsKnown p b
+  pub keeps : KeepsArenas p q
+  pub loans : lent q.seen ≡ lent p.seen
+
+-- the bytes that stand in the segment
+unfoldable pub bytes_in_pool : View → Region → List ℕ
+bytes_in_pool p s = bytes_at_places (state_in p) s
+
+-- A pass that is known to be whole, and a segment that is the start of a shared arena, which is alive; all entries are tidy
+pub record IsStocked (pool : Pool) (p : View) (s : Region) : Type 0 where
+  pub outside : IsOutside pool p
+  pub sound : IsSound p
+  pub whole : p.whole ≡ true
+  pub tidy : IsTidyPass p
+  pub start : s ≡ region_of s.arena 0 s.size
+  pub known : IsKnownTo (view_of_pass p) s
+  pub alive : (arena_of (state_in p) s.arena).life ≡ Alive
+  pub shared : s.arena.kind ≡ Shared
+  pub passes : p.shape.passes ≡ pool_passes
+
+-- the pool was made for so many arenas: it has a page for each part of one, and one for another
+pub record IsMadeFor (arenas : ℕ) (z : Shape) : Type 0 where
+  pub passes : z.passes ≡ pool_passes
+  pub slots : z.slots ≡ arenas
+  pub pages : z.pages + 1 ≡ z.reach + arenas
+  pub wide : 256 ≤ z.page_words
+
+-- the first pass, before another was drawn, knows just this shared arena, which is alive and has given so many bytes
+pub record HasRoomIn (room : ℕ) (pool : Pool) (p : View) (a : ArenaId) : Type 0 where
+  pub lone : IsLone pool p
+  pub held : IsHeld (view_of_pass p) a
+  pub given : given_in (view_of_pass p) a ≡ room
+  pub limit : room ≤ limit_of pool.shape
+  pub shared : a.kind ≡ Shared
+  pub only : (b : ArenaId) → IsKnown p b → b ≡ a
+
+-- bytes stand alone in a pool that was made for so many arenas
+pub record IsStock (arenas : ℕ) (pool : Pool) (p : View) (s : Region) : Type 0 where
+  pub stocked : IsStocked pool p s
+  pub lone : IsLone pool p
+  pub only : (b : ArenaId) → IsKnown p b → b ≡ s.arena
+  pub made : IsMadeFor arenas pool.shape

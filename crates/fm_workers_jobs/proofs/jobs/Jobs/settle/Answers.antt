@@ -1,0 +1,9 @@
+use Rattle.fm_workers_jobs.proofs.Moves.{knows_all}
+use Rattle.fm_workers_jobs.proofs.Settled.{settles}
+use Rattle.fm_workers_jobs.proofs.jobs.Jobs.settle.Goals as goal
+
+pub learn_as-requires-clause-rule : goal.learn_as-requires-clause-rule
+learn_as-requires-clause-rule c = knows_all _ _ c.requires.giver.role c.requires.home
+
+pub returns-clause-settled : goal.returns-clause-settled
+returns-clause-settled c = let learnt = c.learn_as.ensures.rule in settles _ learnt.0 learnt.1
