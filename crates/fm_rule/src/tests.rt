@@ -70,28 +70,28 @@ fn check_words<R: Abort + AllocGlobal>(rt: &R, shape: Shape, words: u64, first: 
     requires some { 0 < words }
 {
     let (pool, _) = Pool::make(rt.alloc(), shape).expect(rt, "words");
-    let pages_end = shape.mark_place(0);
+    let page_bits_at = shape.page_bits_place(0);
     let terms_at = shape.term_place(0);
-    for place in 0..words.min(300_000) {
-        let expected = match place {
-            0 => 0,
-            1 => 1,
-            2 => first.slot_bits,
-            _ => {
-                if place + 1 == pages_end {
-                    first.page_bits
-                } else if place == first.numbers_at {
-                    first.number_bits
-                } else if place < pages_end || first.numbers_at < place && place < terms_at {
-                    u64::MAX
-                } else {
-                    0
+    for offset in 0..words.min(300_000) {
+        for place in [offset, words - 1 - offset] {
+            let expected = match place {
+                1 => 1,
+                2 => first.slot_bits,
+                _ => {
+                    if place + 1 == first.numbers_at {
+                        first.page_bits
+                    } else if place == first.numbers_at {
+                        first.number_bits
+                    } else if page_bits_at <= place && place < terms_at {
+                        u64::MAX
+                    } else {
+                        0
+                    }
                 }
-            }
-        };
-        assert_eq!(rt; word_at(&pool, place), Some(expected));
+            };
+            assert_eq!(rt; word_at(&pool, place), Some(expected));
+        }
     }
-    assert_eq!(rt; word_at(&pool, words - 1), Some(0));
     assert_eq!(rt; word_at(&pool, words), None);
 }
 
@@ -100,14 +100,14 @@ fn pools_begin_with_zeros_one_draw_and_bits(rt: HostRuntime) {
     let least = FirstWords {
         slot_bits: 1,
         page_bits: 1,
-        numbers_at: 8,
+        numbers_at: 9,
         number_bits: 0,
     };
     check_words(&rt, LEAST, 11, least);
     let larger = FirstWords {
         slot_bits: 3,
         page_bits: 15,
-        numbers_at: 15,
+        numbers_at: 47,
         number_bits: 0b110,
     };
     check_words(&rt, LARGER, 51, larger);
@@ -139,14 +139,14 @@ fn pools_of_the_greatest_shapes_can_be_had(rt: HostRuntime) {
     let greatest = FirstWords {
         slot_bits: u64::MAX,
         page_bits: u64::MAX,
-        numbers_at: 266_435,
+        numbers_at: 17_043_651,
         number_bits: u64::MAX - 1,
     };
     check_words(&rt, GREATEST, 17_047_811, greatest);
     let widest = FirstWords {
         slot_bits: 0xffff,
         page_bits: 0xffff,
-        numbers_at: 4_148,
+        numbers_at: 16_781_364,
         ..greatest
     };
     check_words(&rt, WIDEST, 16_785_524, widest);
@@ -172,7 +172,7 @@ fn every_page_is_free(rt: HostRuntime) {
 fn a_page_is_taken_by_its_bit(rt: HostRuntime) {
     let (pool, mut pass) = Pool::make(rt.alloc(), LARGER).expect(&rt, "words");
     assert_eq!(rt; step_take_page(&pool, &mut pass, 0, 0b1111, 2), 0b1111);
-    assert_eq!(rt; word_at(&pool, 3), Some(0b1011));
+    assert_eq!(rt; word_at(&pool, 46), Some(0b1011));
 }
 
 #[test]
