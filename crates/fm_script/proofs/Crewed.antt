@@ -22,8 +22,8 @@ use Rattle.fm_script_lines.specs.Standings.{IsBacked, lent, standing_as, standin
 use Rattle.fm_script_lines.specs.Tokens.{Backs}
 use Rattle.fm_gate.specs.Makers.{made_by_pass}
 use Rattle.fm_script_lines.proofs.Backing.{backs_still}
-use Rattle.fm_workers.specs.Crew.{AreDone, CrewWorked, IsWhole}
-use Rattle.fm_workers.proofs.Wanting.{few_last}
+use Rattle.fm_workers_crew.specs.Crew.{AreDone, CrewWorked, IsWhole}
+use Rattle.fm_workers_crew.proofs.Wanting.{few_last}
 use Rattle.fm_script.specs.declared.player.Player.{Player}
 use Rattle.fm_script.specs.Players.{Playing, Plays, PlaysLines}
 use Rattle.fm_script.specs.Runs.{AllPlayed, names_lent}

@@ -25,7 +25,7 @@ use Rattle.fm_script_lines.specs.Pages.{EachBehind, FindsFew, LendsRightly}
 use Rattle.fm_script_lines.specs.Slots.{AreFound}
 use Rattle.fm_script_lines.proofs.Lending.{behind_as, few_later, lends_later}
 use Rattle.fm_script_laws.specs.Slots.{FindsTold}
-use Rattle.fm_workers.specs.Crew.{IsFresh, IsIn, callers}
+use Rattle.fm_workers_crew.specs.Crew.{IsFresh, IsIn, callers}
 
 -- ---- a pass's slots
 

@@ -19,7 +19,7 @@ use Rattle.fm_script_lines.specs.Pages.{AllocatesRightly, EachBehind, FindsFew, 
 use Rattle.fm_script_lines.specs.Report as report
 use Rattle.fm_script_lines.specs.Report.{Played, IsCut, runs}
 use Rattle.fm_script_lines.proofs.Lending.{behind_as, lends_later}
-use Rattle.fm_workers.specs.Crew.{CrewGathered, IsFresh, callers}
+use Rattle.fm_workers_crew.specs.Crew.{CrewGathered, IsFresh, callers}
 use Rattle.fm_script.specs.declared.player.Player.{Player}
 use Rattle.fm_script.specs.Runs.{AllRan, CanRun}
 use Rattle.fm_script.proofs.Finding.{HaveFound, PagesFound, all_pages_found}

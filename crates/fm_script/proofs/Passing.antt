@@ -22,7 +22,7 @@ use Rattle.fm_script_lines.specs.Standings.{IsBacked, IsSpent, lent}
 use Rattle.fm_script_lines.specs.Tokens.{Backs, IsReady}
 use Rattle.fm_script_lines.proofs.Backing.{backed_lent}
 use Rattle.fm_script_lines.proofs.Ending.{backs_none}
-use Rattle.fm_workers.specs.Crew.{IsWhole}
+use Rattle.fm_workers_crew.specs.Crew.{IsWhole}
 use Rattle.fm_script.specs.declared.player.Player.{Player}
 use Rattle.fm_script.specs.Players.{CanPlay, playing}
 use Rattle.fm_script.specs.Runs.{AllRan, CanRun, Worked, names_lent}

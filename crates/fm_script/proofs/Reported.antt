@@ -13,7 +13,7 @@ use Rattle.fm_script_lines.specs.Report as report
 use Rattle.fm_script_lines.specs.Report.{Done, AreRun, AreWorked, AreWorkers, is_first, is_worker, lent_names, lines_by, lines_of, runs, worked}
 use Rattle.fm_script_lines.specs.Standings.{Names, standing_at}
 use Rattle.fm_script_lines.proofs.Picking.{worker_lines-push}
-use Rattle.fm_workers.specs.Crew.{AreDone}
+use Rattle.fm_workers_crew.specs.Crew.{AreDone}
 use Rattle.fm_script.specs.declared.player.Player.{Player}
 use Rattle.fm_script.specs.Players.{IsPlayer, Playing, Plays}
 use Rattle.fm_script.specs.Runs.{AllPlayed, names_lent}

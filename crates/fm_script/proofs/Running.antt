@@ -23,7 +23,7 @@ use Rattle.fm_script_lines.proofs.AdmittedEnds.{main_spent}
 use Rattle.fm_script_lines.proofs.AdmittedMade.{lent_spent}
 use Rattle.fm_script_lines.proofs.AdmittedNumbers.{in_order_numbered, numbered_same, numbered_split}
 use Rattle.fm_script_lines.proofs.Backing.{backed_lent}
-use Rattle.fm_workers.specs.Crew.{AreDone}
+use Rattle.fm_workers_crew.specs.Crew.{AreDone}
 use Rattle.fm_script.specs.declared.player.Player.{Player}
 use Rattle.fm_script.specs.Players.{CanPlay, IsPlayer, Plays, playing}
 use Rattle.fm_script.specs.Runs.{AllPlayed, CanRun, names_lent}

@@ -30,7 +30,7 @@ use Rattle.fm_script_lines.specs.Slots.{HaveSlots, OpenRightly}
 use Rattle.fm_script_lines.specs.Standings.{Names, lent, standing_at}
 use Rattle.fm_script_laws.specs.Slots.{FindsTold}
 use Rattle.fm_script_laws.proofs.Workers.{workers_find}
-use Rattle.fm_workers.specs.Crew.{CrewGathered, IsFresh, callers as crew_callers}
+use Rattle.fm_workers_crew.specs.Crew.{CrewGathered, IsFresh, callers as crew_callers}
 use Rattle.fm_script.specs.declared.player.Player.{Player}
 use Rattle.fm_script.specs.Players.{playing}
 use Rattle.fm_script.specs.Runs.{AllRan, CanRun, names_lent}

@@ -10,7 +10,7 @@ use Rattle.fm_words.specs.Shapes.{IsValid}
 use Rattle.fm_script_text.specs.declared.line.Line.{Line}
 use Rattle.fm_script_text.specs.Rules.{passes_of}
 use Rattle.fm_script_text.specs.Scripts.{ScriptOf}
-use Rattle.fm_workers.specs.Crew.{CrewWorked, IsWhole}
+use Rattle.fm_workers_crew.specs.Crew.{CrewWorked, IsWhole}
 use Rattle.fm_script_lines.specs.declared.numbers.Numbers.{Numbers}
 use Rattle.fm_script_lines.specs.declared.reply.Reply.{Reply}
 use Rattle.fm_script_lines.specs.declared.standing.Standing.{Standing}

@@ -7,7 +7,7 @@ use fm_base::{Memory, Refusal};
 use fm_io::Gate;
 use fm_script_lines::{AtGate, Numbers, Standing, Table, Turns, count_lines, play};
 use fm_script_text::{Line, Who};
-use fm_workers::Work;
+use fm_workers_crew::Work;
 use std::alloc::Global;
 use std::sync::Wait;
 

@@ -7,7 +7,7 @@ ghost use Rattle.fm_script_lines.specs.Ordering.{in_order};
 ghost use Rattle.fm_script_lines.specs.Report.{is_first, is_last, lines_by};
 ghost use Rattle.fm_script_lines.specs.Standings.{IsBacked};
 ghost use Rattle.fm_script_lines.specs.Tokens.{Backs};
-ghost use Rattle.fm_workers.specs.Crew.{IsWhole};
+ghost use Rattle.fm_workers_crew.specs.Crew.{IsWhole};
 ghost use Rattle.fm_script.specs.Players.{CanPlay, playing};
 ghost use Rattle.fm_script.specs.Runs.{AllRan, CanRun, IsCutOff, Ran, Worked, names_lent};
 
@@ -21,7 +21,7 @@ use fm_io::{FreeGate, Gate};
 use fm_rule::{Pass, Pool};
 use fm_script_lines::{Numbers, Reply, Table, count_lines};
 use fm_script_text::{Line, Who};
-use fm_workers::work_crew;
+use fm_workers_crew::work_crew;
 use std::alloc::Global;
 use std::sync::Wait;
 use std::thread::Threads;

@@ -27,7 +27,7 @@ use Rattle.fm_records.proofs.AnsweringBytes.{get_or-places, length-places}
 use Rattle.fm_rule.specs.declared.pool.Pool.{Pool}
 use Rattle.fm_segment.specs.Access.{IsKnown}
 use Rattle.fm_segment.specs.Region.{Region}
-use Rattle.fm_workers.specs.Crew.{CrewGathered}
+use Rattle.fm_workers_crew.specs.Crew.{CrewGathered}
 use Rattle.fm_workers.specs.Query.{OnlyReads, reads, stops}
 use Rattle.fm_workers.proofs.Sparing.{by_either}
 use Rattle.fm_top_pooled.specs.Stocked.{IsStocked, bytes_in_pool}

@@ -30,9 +30,9 @@ use Rattle.fm_rule.specs.Finishing.{FinishedView, Finishes}
 use Rattle.fm_rule.specs.GivenBytes.{state_of}
 use Rattle.fm_segment.specs.Region.{Region, region_of}
 use Rattle.fm_words.specs.declared.shape.Shape.{Shape}
-use Rattle.fm_workers.specs.Crew.{AreTooMany, CrewGathered, IsFresh, IsWhole, callers}
+use Rattle.fm_workers_crew.specs.Crew.{AreTooMany, CrewGathered, IsFresh, IsWhole, callers}
 use Rattle.fm_workers.specs.Query.{CanQueryWith, IsReadByCrew, NobodyElseWrites, OnlyReads, QueriedWith}
-use Rattle.fm_workers.proofs.Wanting.{few_last}
+use Rattle.fm_workers_crew.proofs.Wanting.{few_last}
 use Rattle.fm_top_pooled.specs.Asking.{Asked, HasPasses, KeepsHistory}
 use Rattle.fm_top_pooled.specs.Shown.{AreRead, AsksWord, IsReadByOther, ShowsBoth, ShowsQuery, ShowsRecords, state_before}
 use Rattle.fm_top_pooled.specs.Stocked.{IsStocked, bytes_in_pool}

@@ -31,7 +31,7 @@ use Rattle.fm_segment.specs.Region.{Region, region_of}
 use Rattle.fm_words.specs.declared.shape.Shape.{Shape}
 use Rattle.fm_workers.specs.Adding.{HasCounts}
 use Rattle.fm_workers.specs.Counts.{AreCounts, IsTally, listed}
-use Rattle.fm_workers.specs.Crew.{callers}
+use Rattle.fm_workers_crew.specs.Crew.{callers}
 use Rattle.fm_workers.specs.Query.{NobodyElseWrites}
 use Rattle.fm_workers.specs.Tally.{CanTallyWith, OnlyAddsTo, no_more, closed, one_add, OnlyTallies, TalliedWith}
 use Rattle.fm_top_pooled.specs.Asking.{Asked, HasPasses}

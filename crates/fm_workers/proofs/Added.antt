@@ -17,8 +17,8 @@ use Rattle.fm_segment.specs.Region.{Region}
 use Rattle.fm_records.specs.Reads.{AreReads, read_visit}
 use Rattle.fm_workers.specs.Adding.{AddsAt, AddsBelow, adds, count_word, none_yet, nothing, one_more}
 use Rattle.fm_workers.specs.Tally.{LeavesWord}
-use Rattle.fm_workers.specs.Tallies.{CountsPart, DoesTallyPart, SumsTo, Tallied, Tallies, Tallying}
-use Rattle.fm_workers.proofs.Callers.{AreDoneBy}
+use Rattle.fm_workers.specs.Tallies.{CountsShare, DoesTallyShare, SumsTo, Tallied, Tallies, Tallying}
+use Rattle.fm_workers_crew.proofs.Callers.{AreDoneBy}
 
 pub added-append : (id : ArenaId) (word : ℕ) (es fs : List Entry) → all_added id word (es ++ fs) ≡ all_added id word es + all_added id word fs
 added-append id word [] fs = omega arith
@@ -92,18 +92,18 @@ below_only c counts ns k id word own none_yet = tt
 below_only c counts ns k id word own (one_more {k = i} before more h a) =
     all_both (λ e. OnlyAdds id word e.call) before more (below_only c counts ns i id word before h) (at_only c counts i (slice_index ns i) id word more a)
 
-module _ (w : Tallying) (c : Caller) (region : Region) (ns : List ℕ) (own : List Entry) (h : CountsPart c w.plan region w.counts ns (Ok tt) own) where
+module _ (w : Tallying) (c : Caller) (region : Region) (ns : List ℕ) (own : List Entry) (h : CountsShare c w.plan region w.counts ns (Ok tt) own) where
   reads : AreReads c region h.reads
   reads = h.counted.did.reads
 
-  part_only : (id : ArenaId) (word : ℕ) → AllByRecursion (λ e. OnlyAdds id word e.call) own
-  part_only id word = subst (λ (es : List Entry). AllByRecursion (λ e. OnlyAdds id word e.call) es) (sym h.parts)
+  share_only : (id : ArenaId) (word : ℕ) → AllByRecursion (λ e. OnlyAdds id word e.call) own
+  share_only id word = subst (λ (es : List Entry). AllByRecursion (λ e. OnlyAdds id word e.call) es) (sym h.parts)
       (all_both (λ e. OnlyAdds id word e.call) h.reads h.adds
       (subst (λ (es : List Entry). AllByRecursion (λ e. OnlyAdds id word e.call) es) (sym reads.visits) (visits_only c region.arena id word reads.reads))
       (below_only c w.counts ns 256 id word h.adds h.added))
 
-  part_added : (k : ℕ) → k < 256 → all_added w.counts.arena (count_word w.counts k) own ≡ slice_index ns k
-  part_added k below =
+  share_added : (k : ℕ) → k < 256 → all_added w.counts.arena (count_word w.counts k) own ≡ slice_index ns k
+  share_added k below =
       let none = ap (all_added w.counts.arena (count_word w.counts k)) reads.visits
       ∙ reads_added c region.arena w.counts.arena (count_word w.counts k) reads.reads in
       let all = all_below c w.counts ns 256 k h.adds h.added below in
@@ -119,14 +119,14 @@ pub crew_adds : (w : Tallying) (more : List Entry) (cs : List Caller) (ts us : L
     → SumsTo us (Ok ns) → CrewAdds w more cs ns
 crew_adds w more [] [] [] ns d h = record { only = λ id word. tt; sum = λ k below. sym (h.each k below) }
 crew_adds w more (c ∷ cs) (t ∷ ts) (u ∷ us) ns d h =
-    let rest = crew_adds w more cs ts us h.part.rest d.1 (subst (SumsTo us) h.part.is_rest h.comes) in
-    let mine = subst (λ r. DoesTallyPart c w.plan t.region w.counts r (made_by c more)) h.part.is_first d.0.did in
+    let rest = crew_adds w more cs ts us h.share.rest d.1 (subst (SumsTo us) h.share.is_rest h.comes) in
+    let mine = subst (λ r. DoesTallyShare c w.plan t.region w.counts r (made_by c more)) h.share.is_first d.0.did in
     record {
-      only = λ id word. (part_only w c t.region h.part.first (made_by c more) mine id word, rest.only id word);
+      only = λ id word. (share_only w c t.region h.share.first (made_by c more) mine id word, rest.only id word);
       sum = λ k below.
-          let a = part_added w c t.region h.part.first (made_by c more) mine k below in
+          let a = share_added w c t.region h.share.first (made_by c more) mine k below in
           let b = rest.sum k below in
-          let s = h.part.sums.each k below in
+          let s = h.share.sums.each k below in
           omega (arith, a, b, s);
     }
 crew_adds w more cs ts us ns d h = absurd d

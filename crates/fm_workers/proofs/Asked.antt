@@ -1,4 +1,4 @@
--- Parts of a segment, each asked by a pass of its own.
+-- Shares of a segment, each asked by a pass of its own.
 use Rattle.std.proofs.Common.{◌≡◌, ℕ, ◌+◌, ◌-◌, ◌*◌, ◌/◌, ◌%◌, ◌^◌, ◌≤◌, List, [], ◌∷◌, ◌++◌, length, refl, sym, ap, ◌∙◌, subst, arith, inl, inr, ⊎_elim, le_trans, Result, Ok, Err, IfOk}
 use Rattle.std.specs.Prelude.{◌⊎◌}
 use Rattle.std.specs.List.{AllByRecursion, flat_map}
@@ -20,12 +20,12 @@ use Rattle.fm_records.specs.declared.found.Found.{Found}
 use Rattle.fm_records.specs.Few.{AreFew}
 use Rattle.fm_records.specs.Query.{DoesQuery}
 use Rattle.fm_records.specs.Reads.{AreReads, StopsReading, IsWordOf, read_visit}
-use Rattle.fm_workers.specs.declared.part.Part.{Part}
-use Rattle.fm_workers.specs.Parts.{Asked, IsRun, AreRuns, CanAsk, Answers, AnswersFew, ComesTo, bytes_in}
-use Rattle.fm_workers.specs.Query.{AsksRun, FoundClosed, HasAnswered, IsFirstRefused, OnlyReads, WantedMemory, reads, stops}
+use Rattle.fm_workers.specs.declared.share.Share.{Share}
+use Rattle.fm_workers.specs.Shares.{Asked, IsShare, AreShares, CanAsk, Answers, AnswersFew, ComesTo, bytes_in}
+use Rattle.fm_workers.specs.Query.{AsksShare, FoundClosed, HasAnswered, IsFirstRefused, OnlyReads, WantedMemory, reads, stops}
 use Rattle.fm_workers.specs.Tallies.{DoesCount}
-use Rattle.fm_workers.proofs.Callers.{AreDoneBy}
-use Rattle.fm_workers.proofs.Runs.{run_ends, run_fits, runs_order}
+use Rattle.fm_workers_crew.proofs.Callers.{AreDoneBy}
+use Rattle.fm_workers.proofs.Runs.{run_ends, run_fits, shares_order}
 
 -- the records from one index up to another
 abbrev pub piece : Plan → Region → ℕ → ℕ → Region
@@ -38,14 +38,14 @@ pub aligned_at : (p : Plan) (first n : ℕ) → IsPlan p → first % p.alignment
 aligned_at p first n plan e = mod-eq-zero_of_dvd p.alignment (dvd-add p.alignment (dvd_of_mod-eq-zero p.alignment e)
     (dvd_trans p.alignment (dvd_of_mod-eq-zero p.alignment plan.even) (dvd_of_mod-eq-zero p.size (mul-mod_left n p.size))))
 
-pub can_ask_runs : {A : Type 0} (p : Plan) (v : View) (s : Region) (from to : ℕ) (ts : List (Part A)) → IsPlan p → IsKnown (view_of_pass v) s
+pub can_ask_shares : {A : Type 0} (p : Plan) (v : View) (s : Region) (from to : ℕ) (ts : List (Share A)) → IsPlan p → IsKnown (view_of_pass v) s
     → s.first % p.alignment ≡ 0
-    → to ≤ s.size / p.size → AreRuns p s from ts to → AllByRecursion (CanAsk p v) ts
-can_ask_runs p v s from to [] plan known even within h = tt
-can_ask_runs p v s from to (t ∷ ts) plan known even within h =
+    → to ≤ s.size / p.size → AreShares p s from ts to → AllByRecursion (CanAsk p v) ts
+can_ask_shares p v s from to [] plan known even within h = tt
+can_ask_shares p v s from to (t ∷ ts) plan known even within h =
     let next = h.0 in
     let order = h.1.order in
-    let later = runs_order p s h.0 to ts h.2 in
+    let later = shares_order p s h.0 to ts h.2 in
     let fits = run_fits from h.0 p.size s.size h.1.order (omega (arith, later, within)) in
     let given = known.given in (
       record {
@@ -53,17 +53,17 @@ can_ask_runs p v s from to (t ∷ ts) plan known even within h =
             (record { arena = known.arena; given = le_trans (omega (arith, fits)) given });
         aligned = subst (λ (r : Region). r.first % p.alignment ≡ 0) (sym h.1.region) (aligned_at p s.first from plan even);
       },
-      can_ask_runs p v s h.0 to ts plan known even within h.2,
+      can_ask_shares p v s h.0 to ts plan known even within h.2,
     )
 
 -- ---- after they are asked
 
-pub runs_same : (p : Plan) (s : Region) (from to : ℕ) (more : List Entry) (cs : List Caller) (ts us : List Asked) → AreDoneBy (Answers p) more cs ts us
-    → AreRuns p s from ts to → AreRuns p s from us to
-runs_same p s from to more [] [] [] d h = h
-runs_same p s from to more (c ∷ cs) (t ∷ ts) (u ∷ us) d h =
-    (h.0, record { order = h.1.order; region = d.0.same ∙ h.1.region }, runs_same p s h.0 to more cs ts us d.1 h.2)
-runs_same p s from to more cs ts us d h = absurd d
+pub shares_same : (p : Plan) (s : Region) (from to : ℕ) (more : List Entry) (cs : List Caller) (ts us : List Asked) → AreDoneBy (Answers p) more cs ts us
+    → AreShares p s from ts to → AreShares p s from us to
+shares_same p s from to more [] [] [] d h = h
+shares_same p s from to more (c ∷ cs) (t ∷ ts) (u ∷ us) d h =
+    (h.0, record { order = h.1.order; region = d.0.same ∙ h.1.region }, shares_same p s h.0 to more cs ts us d.1 h.2)
+shares_same p s from to more cs ts us d h = absurd d
 
 pub answers_few : (p : Plan) (more : List Entry) (cs : List Caller) (ts us : List Asked) → AreDoneBy (Answers p) more cs ts us → AnswersFew p us
 answers_few p more [] [] [] d = tt
@@ -71,7 +71,7 @@ answers_few p more (c ∷ cs) (t ∷ ts) (u ∷ us) d =
     (subst (λ (r : Region). IfOk u.answer (AreFew r.size p)) (sym d.0.same) d.0.few, answers_few p more cs ts us d.1)
 answers_few p more cs ts us d = absurd d
 
-pub bytes_of_runs : (p : Plan) (s : Region) (from to : ℕ) (us : List Asked) → AreRuns p s from us to → from * p.size + bytes_in us ≡ to * p.size
+pub bytes_of_runs : (p : Plan) (s : Region) (from to : ℕ) (us : List Asked) → AreShares p s from us to → from * p.size + bytes_in us ≡ to * p.size
 bytes_of_runs p s from to [] h = let e : from * p.size ≡ to * p.size = ap (λ (n : ℕ). n * p.size) h in omega (arith, e)
 bytes_of_runs p s from to (u ∷ us) h =
     let r = bytes_of_runs p s h.0 to us h.2 in
@@ -86,7 +86,7 @@ count_done p more cs ts us d = absurd d
 
 -- ---- what the passes did
 
--- the part lies in the segment
+-- the share lies in the segment
 pub record IsWithin (part s : Region) : Type 0 where
   pub arena : part.arena ≡ s.arena
   pub from : s.first ≤ part.first
@@ -124,24 +124,24 @@ query_reads c p part s (Err Closed) own w d = stops (stops_wider c part s own w 
 query_reads c p part s (Err Memory) own w d = reads (reads_wider c part s own w d.2)
 query_reads c p part s (Err r) own w d = absurd d
 
--- what was read of a part that wasn't counted to its end
+-- what was read of a share that wasn't counted to its end
 pub stops_count : (c : Caller) (p : Plan) (part s : Region) (r : Refusal) (own : List Entry)
     → IsWithin part s → DoesCount c p part (Err r) own → OnlyReads s c own
 stops_count c p part s Closed own w d = stops (stops_wider c part s own w d)
 stops_count c p part s Memory own w d = reads (reads_wider c part s own w d)
 stops_count c p part s r own w d = absurd d
 
-pub run_within : {A : Type 0} (p : Plan) (s : Region) (from next to : ℕ) (t : Part A) → next ≤ to → to ≤ s.size / p.size
-    → IsRun p s from next t → IsWithin t.region s
-run_within p s from next to t later within r =
+pub share_within : {A : Type 0} (p : Plan) (s : Region) (from next to : ℕ) (t : Share A) → next ≤ to → to ≤ s.size / p.size
+    → IsShare p s from next t → IsWithin t.region s
+share_within p s from next to t later within r =
     let fits = run_fits from next p.size s.size r.order (omega (arith, later, within)) in
     subst (λ (x : Region). IsWithin x s) (sym r.region) (record { arena = refl; from = omega arith; below = omega (arith, fits) })
 
 pub crew_reads : (p : Plan) (s : Region) (from to : ℕ) (more : List Entry) (cs : List Caller) (ts us : List Asked) → to ≤ s.size / p.size
-    → AreDoneBy (Answers p) more cs ts us → AreRuns p s from ts to → AllByRecursion (λ c. OnlyReads s c (made_by c more)) cs
+    → AreDoneBy (Answers p) more cs ts us → AreShares p s from ts to → AllByRecursion (λ c. OnlyReads s c (made_by c more)) cs
 crew_reads p s from to more [] [] [] within d h = tt
 crew_reads p s from to more (c ∷ cs) (t ∷ ts) (u ∷ us) within d h =
-    let w = run_within p s from h.0 to t (runs_order p s h.0 to ts h.2) within h.1 in
+    let w = share_within p s from h.0 to t (shares_order p s h.0 to ts h.2) within h.1 in
     (query_reads c p t.region s u.answer (made_by c more) w d.0.did, crew_reads p s h.0 to more cs ts us within d.1 h.2)
 crew_reads p s from to more cs ts us within d h = absurd d
 
@@ -185,16 +185,16 @@ module _ {p : Plan} {s : Region} {more : List Entry} {c : Caller} {cs : List Cal
   stopped_later (inr f) = inr (f.0, record { caller = f.1.caller; first = first_later f.1.first; stops = f.1.stops })
 
 -- The first of them wasn't answered.
-first_here : {p : Plan} {s : Region} {more : List Entry} {r : Refusal} (c : Caller) (cs : List Caller) → AsksRun p s more (Err r) c
+first_here : {p : Plan} {s : Region} {more : List Entry} {r : Refusal} (c : Caller) (cs : List Caller) → AsksShare p s more (Err r) c
     → IsFirstRefused p s (c ∷ cs) more r c
 first_here c cs h = record { before = []; after = cs; parts = refl; answered = tt; refused = h }
 
 pub crew_stopped : (p : Plan) (s : Region) (from to : ℕ) (more : List Entry) (cs : List Caller) (ts us : List Asked) (r : Refusal) → to ≤ s.size / p.size
-    → ((c : Caller) → MayUse s.arena c) → AreDoneBy (Answers p) more cs ts us → AreRuns p s from ts to → ComesTo p us (Err r)
+    → ((c : Caller) → MayUse s.arena c) → AreDoneBy (Answers p) more cs ts us → AreShares p s from ts to → ComesTo p us (Err r)
     → HaveStopped p s cs more r
 crew_stopped p s from to more [] [] [] r within may d h e = inl (e, inr tt)
 crew_stopped p s from to more (c ∷ cs) (t ∷ ts) (u ∷ us) r within may d h (inr e) =
-    let later = runs_order p s h.0 to ts h.2 in
+    let later = shares_order p s h.0 to ts h.2 in
     let did = subst (λ (x : Result (List Found) Refusal). DoesQuery c p t.region x (made_by c more)) e.0.1 d.0.did in
     let mine : HasAnswered p s more c = (
       e.0.0,
@@ -208,8 +208,8 @@ crew_stopped p s from to more (c ∷ cs) (t ∷ ts) (u ∷ us) r within may d h 
     ) in
     stopped_later mine (crew_stopped p s h.0 to more cs ts us r within may d.1 h.2 e.1)
 crew_stopped p s from to more (c ∷ cs) (t ∷ ts) (u ∷ us) r within may d h (inl e) =
-    let later = runs_order p s h.0 to ts h.2 in
-    let w = run_within p s from h.0 to t later within h.1 in
+    let later = shares_order p s h.0 to ts h.2 in
+    let w = share_within p s from h.0 to t later within h.1 in
     let even : t.region.size % p.size ≡ 0 = ap (λ (x : Region). x.size % p.size) h.1.region ∙ mul-mod_left (h.0 - from) p.size in
     let mine : MayUse t.region.arena c = subst (λ a. MayUse a c) (sym w.arena) (may c) in
     let did = subst (λ (x : Result (List Found) Refusal). DoesQuery c p t.region x (made_by c more)) e d.0.did in
@@ -233,7 +233,7 @@ crew_stopped p s from to more (c ∷ cs) (t ∷ ts) (u ∷ us) r within may d h 
 crew_stopped p s from to more cs ts us r within may d h e = absurd d
 
 -- They have no more bytes than an arena can give.
-pub bytes_small : (p : Plan) (s : Region) (us : List Asked) → AreRuns p s 0 us (s.size / p.size) → s.first + s.size ≤ 2 ^ 40 → bytes_in us ≤ 2 ^ 62
+pub bytes_small : (p : Plan) (s : Region) (us : List Asked) → AreShares p s 0 us (s.size / p.size) → s.first + s.size ≤ 2 ^ 40 → bytes_in us ≤ 2 ^ 62
 bytes_small p s us h ends =
     let all = bytes_of_runs p s 0 (s.size / p.size) us h in
     let below = div-mul-le_self s.size p.size in

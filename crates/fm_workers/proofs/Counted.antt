@@ -1,4 +1,4 @@
--- What the parts' counts come to where nobody else writes the segment.
+-- What the shares' counts come to where nobody else writes the segment.
 use Rattle.std.proofs.Common.{◌≡◌, ℕ, ◌+◌, ◌-◌, ◌*◌, ◌/◌, ◌%◌, ◌≤◌, List, [], ◌∷◌, ◌++◌, length, map, refl, sym, ap, ◌∙◌, subst, arith, Ok}
 use Rattle.std.specs.List.{range_with_len}
 use Rattle.std.proofs.Math.Nat.{mul-mod_left, zero-div}
@@ -26,13 +26,13 @@ use Rattle.fm_base_lists.proofs.Each.{all_split}
 use Rattle.fm_records.proofs.Behind.{range_append}
 use Rattle.fm_records.proofs.Sharing.{spared_found}
 use Rattle.fm_workers.specs.Counts.{AreCounts, AreTallied, IsTally, ListsBytes, listed, numbers_listed}
-use Rattle.fm_workers.specs.Parts.{AreRuns}
-use Rattle.fm_workers.specs.Tallies.{CountsPart, DoesTallyPart, SumsTo, Tallied, Tallies, Tallying}
-use Rattle.fm_workers.proofs.Callers.{AreDoneBy}
+use Rattle.fm_workers.specs.Shares.{AreShares}
+use Rattle.fm_workers.specs.Tallies.{CountsShare, DoesTallyShare, SumsTo, Tallied, Tallies, Tallying}
+use Rattle.fm_workers_crew.proofs.Callers.{AreDoneBy}
 use Rattle.fm_workers.proofs.Asked.{piece}
 use Rattle.fm_workers.proofs.ByRuns.{items_none}
 use Rattle.fm_workers.proofs.Numbers.{both_counted}
-use Rattle.fm_workers.proofs.Runs.{run_ends, run_fits, runs_order}
+use Rattle.fm_workers.proofs.Runs.{run_ends, run_fits, shares_order}
 
 -- ---- numbers that a query lists
 
@@ -55,7 +55,7 @@ items_both items rs qs h = absurd h
 listed_both : (p : Plan) (a b : List ℕ) → IsTally p → listed (joined (answer p a) (answer p b)) ≡ listed (answer p a) ++ listed (answer p b)
 listed_both p a b h = items_both p.items (chosen p.conditions (records p.size a)) (chosen p.conditions (records p.size b)) h
 
--- ---- bytes of runs
+-- ---- bytes of records in a row
 
 bytes_of_parts : (now : State) (s : Region) (at m n : ℕ)
     → bytes_at_places now (part_of at (m + n) s) ≡ bytes_at_places now (part_of at m s) ++ bytes_at_places now (part_of (at + m) n s)
@@ -76,47 +76,47 @@ bytes_of_runs now p s from next to first later =
     ap (λ n. bytes_at_places now (part_of (from * p.size) n s)) sum ∙ bytes_of_parts now s (from * p.size) ((next - from) * p.size) ((to - next) * p.size)
     ∙ ap (λ n. bytes_at_places now (piece p s from next) ++ bytes_at_places now (part_of n ((to - next) * p.size) s)) here
 
--- ---- parts
+-- ---- shares
 
-pub spared_part : (limit : ℕ) (now : State) (es : List Entry) (s : Region) (at n : ℕ) → at + n ≤ s.size → IsSpared limit now es s
+pub spared_share : (limit : ℕ) (now : State) (es : List Entry) (s : Region) (at n : ℕ) → at + n ≤ s.size → IsSpared limit now es s
     → IsSpared limit now es (part_of at n s)
-spared_part limit now es s at n within h = record {
+spared_share limit now es s at n within h = record {
   legal = h.legal;
   spared = λ place from below. h.spared place (omega (arith, from)) (omega (arith, below, within));
 }
 
 module _ (limit : ℕ) (now : State) (w : Tallying) (s : Region) (more : List Entry) (plan : IsPlan w.plan) (tally : IsTally w.plan)
     (spared : IsSpared limit now more s) where
-  -- One part's counts are those of its numbers.
-  part_counted : (c : Caller) (region : Region) (ns : List ℕ) → IsSpared limit now more region
-      → CountsPart c w.plan region w.counts ns (Ok tt) (made_by c more) → AreCounts (listed (answer w.plan (bytes_at_places now region))) ns
-  part_counted c region ns mine h =
+  -- One share's counts are those of its numbers.
+  share_counted : (c : Caller) (region : Region) (ns : List ℕ) → IsSpared limit now more region
+      → CountsShare c w.plan region w.counts ns (Ok tt) (made_by c more) → AreCounts (listed (answer w.plan (bytes_at_places now region))) ns
+  share_counted c region ns mine h =
       let all = subst (FindAs region (bytes_at_places now region)) h.parts (spared_found limit now more region c mine) in
       let finds = (all_split (FindsAs region (bytes_at_places now region)) h.reads h.adds all).0 in
       let is = answer_of_bytes c w.plan region (bytes_at_places now region) h.counted.found h.reads
       (record { plan = plan; size = length-places now region; finds = finds; does = h.counted.did }) in
       subst (λ f. AreCounts (listed f) ns) is h.counted.are
 
-  pub runs_counted : (from to : ℕ) (cs : List Caller) (ts us : List Tallied) (ns : List ℕ) → to ≤ s.size / w.plan.size
-      → AreDoneBy (Tallies w) more cs ts us → AreRuns w.plan s from ts to → SumsTo us (Ok ns)
+  pub shares_counted : (from to : ℕ) (cs : List Caller) (ts us : List Tallied) (ns : List ℕ) → to ≤ s.size / w.plan.size
+      → AreDoneBy (Tallies w) more cs ts us → AreShares w.plan s from ts to → SumsTo us (Ok ns)
       → AreCounts (listed (answer w.plan (bytes_at_places now (piece w.plan s from to)))) ns
-  runs_counted from to [] [] [] ns within d h e =
+  shares_counted from to [] [] [] ns within d h e =
       let same : from * w.plan.size ≡ to * w.plan.size = ap (λ (n : ℕ). n * w.plan.size) h in
       let ends = run_ends from to w.plan.size (omega (arith, h)) in
       let size : (to - from) * w.plan.size ≡ 0 = omega (arith, same, ends) in
       let none : bytes_at_places now (piece w.plan s from to) ≡ [] =
       ap (λ n. map (byte_at (arena_of now s.arena).words) (range_with_len (s.first + from * w.plan.size) n)) size in
       subst (λ ms. AreCounts ms ns) (sym (none_listed w.plan _ tally none)) e
-  runs_counted from to (c ∷ cs) (t ∷ ts) (u ∷ us) ns within d h e =
+  shares_counted from to (c ∷ cs) (t ∷ ts) (u ∷ us) ns within d h e =
       let next : ℕ = h.0 in
       let first = h.1.order in
-      let later = runs_order w.plan s h.0 to ts h.2 in
+      let later = shares_order w.plan s h.0 to ts h.2 in
       let fits = run_fits from h.0 w.plan.size s.size first (omega (arith, later, within)) in
-      let part = spared_part limit now more s (from * w.plan.size) ((h.0 - from) * w.plan.size) (omega (arith, fits)) spared in
-      let mine = subst (λ r. DoesTallyPart c w.plan t.region w.counts r (made_by c more)) e.part.is_first d.0.did in
-      let here = part_counted c t.region e.part.first (subst (IsSpared limit now more) (sym h.1.region) part) mine in
-      let one = subst (λ (r : Region). AreCounts (listed (answer w.plan (bytes_at_places now r))) e.part.first) h.1.region here in
-      let rest = runs_counted h.0 to cs ts us e.part.rest within d.1 h.2 (subst (SumsTo us) e.part.is_rest e.comes) in
+      let share = spared_share limit now more s (from * w.plan.size) ((h.0 - from) * w.plan.size) (omega (arith, fits)) spared in
+      let mine = subst (λ r. DoesTallyShare c w.plan t.region w.counts r (made_by c more)) e.share.is_first d.0.did in
+      let here = share_counted c t.region e.share.first (subst (IsSpared limit now more) (sym h.1.region) share) mine in
+      let one = subst (λ (r : Region). AreCounts (listed (answer w.plan (bytes_at_places now r))) e.share.first) h.1.region here in
+      let rest = shares_counted h.0 to cs ts us e.share.rest within d.1 h.2 (subst (SumsTo us) e.share.is_rest e.comes) in
       let a = bytes_at_places now (piece w.plan s from h.0) in
       let b = bytes_at_places now (piece w.plan s h.0 to) in
       let whole : length (bytes_at_places now (piece w.plan s from h.0)) % w.plan.size ≡ 0 =
@@ -125,5 +125,5 @@ module _ (limit : ℕ) (now : State) (w : Tallying) (s : Region) (more : List En
       ap (λ bs. listed (answer w.plan bs)) (bytes_of_runs now w.plan s from h.0 to first later)
       ∙ ap listed (sym (answer-append w.plan a b plan.sized whole)) ∙ listed_both w.plan a b tally in
       subst (λ ms. AreCounts ms ns) (sym is)
-      (both_counted (listed (answer w.plan a)) (listed (answer w.plan b)) e.part.first e.part.rest ns one rest e.part.sums)
-  runs_counted from to cs ts us ns within d h e = absurd d
+      (both_counted (listed (answer w.plan a)) (listed (answer w.plan b)) e.share.first e.share.rest ns one rest e.share.sums)
+  shares_counted from to cs ts us ns within d h e = absurd d

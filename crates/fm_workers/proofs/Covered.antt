@@ -22,14 +22,14 @@ use Rattle.fm_records.proofs.AnsweringBytes.{length-places}
 use Rattle.fm_records.proofs.Covering.{asked_is_read}
 use Rattle.fm_records.proofs.Joining.{records-append}
 use Rattle.fm_records.proofs.Sharing.{spared_found}
-use Rattle.fm_workers.specs.Parts.{AreRuns}
+use Rattle.fm_workers.specs.Shares.{AreShares}
 use Rattle.fm_workers.specs.Query.{IsReadByCrew}
-use Rattle.fm_workers.specs.Tallies.{CountsPart, DoesTallyPart, SumsTo, Tallied, Tallies, Tallying}
+use Rattle.fm_workers.specs.Tallies.{CountsShare, DoesTallyShare, SumsTo, Tallied, Tallies, Tallying}
 use Rattle.fm_records.proofs.Behind.{get_split, length-pieces, less_times}
-use Rattle.fm_workers.proofs.Callers.{AreDoneBy}
+use Rattle.fm_workers_crew.proofs.Callers.{AreDoneBy}
 use Rattle.fm_workers.proofs.Asked.{piece}
-use Rattle.fm_workers.proofs.Counted.{bytes_of_runs, spared_part}
-use Rattle.fm_workers.proofs.Runs.{run_ends, run_fits, runs_order}
+use Rattle.fm_workers.proofs.Counted.{bytes_of_runs, spared_share}
+use Rattle.fm_workers.proofs.Runs.{run_ends, run_fits, shares_order}
 
 -- What is asked for of bytes is asked for of those in which the record stands.
 asked_of : (p : Plan) (all part : List ℕ) (i j : ℕ) (r : Resolution) (is : List ℕ) → (h : IsAsked p all i r is)
@@ -50,10 +50,10 @@ later c h = record { caller = h.caller; among = inr h.among; read = h.read }
 
 module _ (limit : ℕ) (now : State) (w : Tallying) (s : Region) (more : List Entry) (plan : IsPlan w.plan) (spared : IsSpared limit now more s) where
   -- A pass has read the words of its part's values.
-  part_read : (c : Caller) (region : Region) (ns : List ℕ) (index : ℕ) (r : Resolution) (is : List ℕ) (word : ℕ) → IsSpared limit now more region
-      → CountsPart c w.plan region w.counts ns (Ok tt) (made_by c more) → IsAsked w.plan (bytes_at_places now region) index r is
+  share_read : (c : Caller) (region : Region) (ns : List ℕ) (index : ℕ) (r : Resolution) (is : List ℕ) (word : ℕ) → IsSpared limit now more region
+      → CountsShare c w.plan region w.counts ns (Ok tt) (made_by c more) → IsAsked w.plan (bytes_at_places now region) index r is
       → IsWordOf (value_in w.plan region index r is) word → HasRead c region.arena word (made_by c more)
-  part_read c region ns index r is word mine h asks at =
+  share_read c region ns index r is word mine h asks at =
       let all = subst (FindAs region (bytes_at_places now region)) h.parts (spared_found limit now more region c mine) in
       let finds = (all_split (FindsAs region (bytes_at_places now region)) h.reads h.adds all).0 in
       let x = asked_is_read c w.plan region (bytes_at_places now region) h.counted.found h.reads index r is word
@@ -61,11 +61,11 @@ module _ (limit : ℕ) (now : State) (w : Tallying) (s : Region) (more : List En
       subst (λ (es : List Entry). HasRead c region.arena word es) (sym h.parts)
       (record { found = x.found; among = among_left _ h.reads h.adds x.among })
 
-  pub runs_read : (from to : ℕ) (cs : List Caller) (ts us : List Tallied) (ns : List ℕ) (index : ℕ) (r : Resolution) (is : List ℕ) (word : ℕ)
-      → to ≤ s.size / w.plan.size → AreDoneBy (Tallies w) more cs ts us → AreRuns w.plan s from ts to → SumsTo us (Ok ns)
+  pub counted_read : (from to : ℕ) (cs : List Caller) (ts us : List Tallied) (ns : List ℕ) (index : ℕ) (r : Resolution) (is : List ℕ) (word : ℕ)
+      → to ≤ s.size / w.plan.size → AreDoneBy (Tallies w) more cs ts us → AreShares w.plan s from ts to → SumsTo us (Ok ns)
       → IsAsked w.plan (bytes_at_places now (piece w.plan s from to)) index r is
       → IsWordOf (value_in w.plan (piece w.plan s from to) index r is) word → IsReadByCrew s cs more word
-  runs_read from to [] [] [] ns index r is word within d h e asks at =
+  counted_read from to [] [] [] ns index r is word within d h e asks at =
       let same : from * w.plan.size ≡ to * w.plan.size = ap (λ (n : ℕ). n * w.plan.size) h in
       let ends = run_ends from to w.plan.size (omega (arith, h)) in
       let size : (to - from) * w.plan.size ≡ 0 = omega (arith, same, ends) in
@@ -75,12 +75,12 @@ module _ (limit : ℕ) (now : State) (w : Tallying) (s : Region) (more : List En
       ap (records w.plan.size) bytes ∙ ap (λ k. pieces k w.plan.size []) (zero-div w.plan.size) in
       let no : slice_get [] index ≡ Some asks.record_bytes = ap (λ rs. slice_get rs index) (sym none) ∙ asks.stands in
       absurd (cc)
-  runs_read from to (c ∷ cs) (t ∷ ts) (u ∷ us) ns index r is word within d h e asks at =
+  counted_read from to (c ∷ cs) (t ∷ ts) (u ∷ us) ns index r is word within d h e asks at =
       let first = h.1.order in
-      let behind = runs_order w.plan s h.0 to ts h.2 in
+      let behind = shares_order w.plan s h.0 to ts h.2 in
       let fits = run_fits from h.0 w.plan.size s.size first (omega (arith, behind, within)) in
-      let part = spared_part limit now more s (from * w.plan.size) ((h.0 - from) * w.plan.size) (omega (arith, fits)) spared in
-      let mine = subst (λ r. DoesTallyPart c w.plan t.region w.counts r (made_by c more)) e.part.is_first d.0.did in
+      let share = spared_share limit now more s (from * w.plan.size) ((h.0 - from) * w.plan.size) (omega (arith, fits)) spared in
+      let mine = subst (λ r. DoesTallyShare c w.plan t.region w.counts r (made_by c more)) e.share.is_first d.0.did in
       let a = bytes_at_places now (piece w.plan s from h.0) in
       let b = bytes_at_places now (piece w.plan s h.0 to) in
       let long : length (bytes_at_places now (piece w.plan s from h.0)) ≡ (h.0 - from) * w.plan.size = length-places now (piece w.plan s from h.0) in
@@ -98,7 +98,7 @@ module _ (limit : ℕ) (now : State) (w : Tallying) (s : Region) (more : List En
             let region : bytes_at_places now (piece w.plan s from h.0) ≡ bytes_at_places now t.region = ap (bytes_at_places now) (sym h.1.region) in
             let own = asked_of w.plan _ (bytes_at_places now t.region) index index r is asks
             (ap (λ bs. slice_get (records w.plan.size bs) index) (sym region) ∙ here) in
-            let read = part_read c t.region e.part.first index r is word (subst (IsSpared limit now more) (sym h.1.region) part) mine own
+            let read = share_read c t.region e.share.first index r is word (subst (IsSpared limit now more) (sym h.1.region) share) mine own
             (record { above = omega (arith, above, start); below = omega (arith, below, start) }) in
             record { caller = c; among = inl refl; read = subst (λ (id : _). HasRead c id word (made_by c more)) same_arena read }
         | inr there ↦
@@ -109,7 +109,7 @@ module _ (limit : ℕ) (now : State) (w : Tallying) (s : Region) (more : List En
             let ends = run_ends from h.0 w.plan.size first in
             let theirs = asked_of w.plan _ (bytes_at_places now (piece w.plan s h.0 to)) index (index - (h.0 - from)) r is asks
             (ap (λ k. slice_get (records w.plan.size b) (index - k)) (sym count) ∙ there.stands) in
-            later c (runs_read h.0 to cs ts us e.part.rest (index - (h.0 - from)) r is word within d.1 h.2 (subst (SumsTo us) e.part.is_rest e.comes) theirs
+            later c (counted_read h.0 to cs ts us e.share.rest (index - (h.0 - from)) r is word within d.1 h.2 (subst (SumsTo us) e.share.is_rest e.comes) theirs
             (record { above = omega (arith, above, left, ends); below = omega (arith, below, left, ends) }))
       ]
-  runs_read from to cs ts us ns index r is word within d h e asks at = absurd d
+  counted_read from to cs ts us ns index r is word within d h e asks at = absurd d

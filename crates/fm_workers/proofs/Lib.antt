@@ -1,17 +1,13 @@
 pub mod Added
 pub mod Increments
 pub mod Asked
-pub mod Callers
 pub mod Counted
 pub mod CountedShares
 pub mod ByRuns
 pub mod Numbers
 pub mod Covered
-pub mod Drawing
 pub mod FewCounted
-pub mod Gathering
 pub mod Queried
-pub mod Orders
 pub mod Runs
 pub mod Sharing
 pub mod Sparing
@@ -19,8 +15,3 @@ pub mod Tallied
 pub mod Tallying
 pub mod Totals
 pub mod Touching
-pub mod Turning
-pub mod Wanting
-pub mod Wholes
-pub mod Workers
-pub mod Working

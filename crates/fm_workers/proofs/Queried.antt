@@ -4,7 +4,7 @@ use Rattle.fm_records.proofs.Few.{few_answer}
 use Rattle.fm_segment.specs.Access.{IsKnown}
 use Rattle.fm_rule_calls.specs.Told.{view_of_pass}
 use Rattle.std.proofs.Common.{◌≡◌, ℕ, ◌/◌, ◌%◌, List, [], length, refl, sym, ap, ◌∙◌, subst, arith, inl, inr, ⊎_elim, Result, Ok, Err, IfOk}
-use Rattle.std.specs.Prelude.{◌⊎◌, ⊤}
+use Rattle.std.specs.Prelude.{⊤}
 use Rattle.std.specs.List.{AllByRecursion}
 use Rattle.std.proofs.lemmas.List.{length-map}
 use Rattle.std.proofs.lemmas.Nat.{div-add-mod'}
@@ -19,13 +19,13 @@ use Rattle.fm_segment.specs.Region.{Region}
 use Rattle.fm_records_query.specs.Plan.{Plan, IsPlan}
 use Rattle.fm_records.specs.declared.found.Found.{Found}
 use Rattle.fm_records.specs.Few.{AreFew}
-use Rattle.fm_workers.specs.Crew.{AreTooMany, CrewWorked, by_caller, callers}
-use Rattle.fm_workers.specs.Parts.{Asked, AreLevel, AreRuns, Answers, ComesTo, IsCut, bytes_in, least_in}
+use Rattle.fm_workers_crew.specs.Crew.{AreTooMany, CrewWorked, by_caller, callers}
+use Rattle.fm_workers.specs.Shares.{Asked, AreLevel, AreShares, Answers, ComesTo, IsCut, bytes_in, least_in}
 use Rattle.fm_workers.specs.Query.{OnlyReads, AnsweredBy, FoundClosed, HasAnswered, IsOpenToAll, EndsQuery, QueriedWith, WantedMemory}
-use Rattle.fm_workers.proofs.Callers.{AreDoneBy, worked_by_callers}
+use Rattle.fm_workers_crew.proofs.Callers.{AreDoneBy, worked_by_callers}
 use Rattle.fm_workers.proofs.Asked.{HaveStopped, bytes_of_runs, count_done, crew_reads, crew_stopped, idle_reads}
-use Rattle.fm_workers.proofs.Working.{nobody, lasts_none}
-use Rattle.fm_workers.proofs.Sharing.{answered_runs, whole_piece}
+use Rattle.fm_workers_crew.proofs.Working.{nobody, lasts_none}
+use Rattle.fm_workers.proofs.Sharing.{answered_shares, whole_piece}
 use Rattle.fm_workers.proofs.Sparing.{is_answer}
 
 pub many : (gs : List Gathered) → length (callers gs) ≡ length gs
@@ -122,7 +122,7 @@ module _ {old new : View} {p : Plan} {s : Region} {threads : ℕ} {ts us : List 
       crew_stopped p s 0 (s.size / p.size) w.crew.more (callers w.crew.crew) ts us e (omega arith) (λ c is. absurd (shared.shared is)) done cut comes
 
   -- All were asked.
-  pub queried : (r : Result (List Found) Refusal) → ComesTo p us r → IfOk r (AreFew (bytes_in us) p) → AreRuns p s 0 us (s.size / p.size)
+  pub queried : (r : Result (List Found) Refusal) → ComesTo p us r → IfOk r (AreFew (bytes_in us) p) → AreShares p s 0 us (s.size / p.size)
       → QueriedWith threads old new p s r
   queried (Err e) comes few runs = record {
     crew = w.crew;
@@ -146,7 +146,7 @@ module _ {old new : View} {p : Plan} {s : Region} {threads : ℕ} {ts us : List 
   }
   queried (Ok a) comes few runs =
       let by = subst (λ (r : Region). AnsweredBy p r (least_in p s threads) (callers w.crew.crew) w.crew.more a) (whole_piece p s shared.even)
-      (answered_runs p s (least_in p s threads) 0 (s.size / p.size) w.crew.more (callers w.crew.crew) ts us a done cut level comes) in
+      (answered_shares p s (least_in p s threads) 0 (s.size / p.size) w.crew.more (callers w.crew.crew) ts us a done cut level comes) in
       let sound : IsSound new = w.sound (λ e. absurd (cc)) in
       let bytes = bytes_of_runs p s 0 (s.size / p.size) us runs in
       let parts = div-add-mod' s.size p.size in

@@ -1,12 +1,12 @@
--- Runs of records, one behind the other.
+-- Runs of records, and shares one behind the other.
 use Rattle.std.proofs.Common.{◌≡◌, ◌≢◌, ℕ, ◌+◌, ◌-◌, ◌*◌, ◌/◌, ◌<◌, ◌≤◌, ◌==◌, Bool, true, false, List, [], ◌∷◌, ◌++◌, refl, sym, ap, ◌∙◌, subst, inl, inr, ⊎_elim, arith}
 use Rattle.std.specs.Prelude.{◌⊎◌}
 use Rattle.std.proofs.lemmas.Bool.Decides.{nat_tests}
 use Rattle.std.proofs.Math.Nat.{add-mul, mul-le-mul_right, div-mul-le_self, div-le_self, div-le_of_le-mul, div-one, le-div_iff_mul-le}
 use Rattle.fm_records_query.specs.Plan.{Plan}
 use Rattle.fm_segment.specs.Region.{Region}
-use Rattle.fm_workers.specs.declared.part.Part.{Part}
-use Rattle.fm_workers.specs.Parts.{IsLevel, IsRun, AreRuns}
+use Rattle.fm_workers.specs.declared.share.Share.{Share}
+use Rattle.fm_workers.specs.Shares.{IsLevel, IsShare, AreShares}
 
 -- A number between two neighbours is one of them.
 one_of : (m n : ℕ) → m ≤ n → n ≤ m + 1 → (n ≡ m) ⊎ (n ≡ m + 1)
@@ -32,7 +32,7 @@ run_fits from to size total order within =
     let all = div-mul-le_self total size in
     omega (arith, sum, most, all)
 
--- Where a run ends that takes its share of what is left, among so many.
+-- Where a share ends that is one of so many of what is left.
 pub next_end : (from count left : ℕ) → from ≤ count → from + (count - from) / left ≤ count
 next_end from count left below = let d = div-le_self (count - from) left in omega (arith, below, d)
 
@@ -41,18 +41,18 @@ last_end from count left below one =
     let d : (count - from) / left ≡ count - from = ap (λ (n : ℕ). (count - from) / n) one ∙ div-one (count - from) in
     omega (arith, below, d)
 
--- so many records are left for so many runs: each can have so many, or one more
+-- so many records are left for so many shares: each can have so many, or one more
 pub record AreLeft (few rest left : ℕ) : Type 0 where
   pub least : few * left ≤ rest
   pub most : rest ≤ (few + 1) * left
 
--- a run has its share of them, and so have those behind it
+-- the first share has as many as comes to it, and so have those behind it
 pub record TakesShare (few rest left : ℕ) : Type 0 where
   pub least : few ≤ rest / (left + 1)
   pub most : rest / (left + 1) ≤ few + 1
   pub behind : AreLeft few (rest - rest / (left + 1)) left
 
--- What the first of some runs takes, where all take their share of what is left.
+-- What the first of some shares takes, where each takes what comes to it of what is left.
 pub takes_share : (few rest left : ℕ) → AreLeft few rest (left + 1) → TakesShare few rest left
 takes_share few rest left h =
     let d : ℕ = rest / (left + 1) in
@@ -73,32 +73,32 @@ takes_share few rest left h =
     record { least = low; most = high; behind = record { least = omega (arith, fits, e, m); most = omega (arith, b, e) } })
     (one_of few (rest / (left + 1)) low high)
 
--- All records are left for all runs.
-pub all_left : (count parts : ℕ) → 0 < parts → AreLeft (count / parts) count parts
-all_left count parts some = record {
-  least = div-mul-le_self count parts;
+-- All records are left for all shares.
+pub all_left : (count shares : ℕ) → 0 < shares → AreLeft (count / shares) count shares
+all_left count shares some = record {
+  least = div-mul-le_self count shares;
   most =
-      let over : (count / parts + 1) * parts ≤ count → ⊥ =
-      λ e. let k : count / parts + 1 ≤ count / parts = (le-div_iff_mul-le some).1 e in omega (arith, k) in
+      let over : (count / shares + 1) * shares ≤ count → ⊥ =
+      λ e. let k : count / shares + 1 ≤ count / shares = (le-div_iff_mul-le some).1 e in omega (arith, k) in
       omega (arith, over);
 }
 
--- A run that takes its share is level.
-pub run_level : {A : Type 0} (p : Plan) (s : Region) (few from n : ℕ) (t : Part A) → few ≤ n → n ≤ few + 1 → IsRun p s from (from + n) t
+-- A share that takes what comes to it is level.
+pub share_level : {A : Type 0} (p : Plan) (s : Region) (few from n : ℕ) (t : Share A) → few ≤ n → n ≤ few + 1 → IsShare p s from (from + n) t
     → IsLevel p few t.region
-run_level p s few from n t low high r =
+share_level p s few from n t low high r =
     let size : t.region.size ≡ (from + n - from) * p.size = ap (λ (x : Region). x.size) r.region in
     let is : (from + n - from) * p.size ≡ n * p.size = let e : from + n - from ≡ n = omega arith in ap (λ (k : ℕ). k * p.size) e in
     let a = mul-le-mul_right p.size low in
     let b = mul-le-mul_right p.size high in
     record { least = omega (arith, size, is, a); most = omega (arith, size, is, b) }
 
--- One run more.
-pub runs_push : {A : Type 0} (p : Plan) (s : Region) (from mid to : ℕ) (ts : List (Part A)) (t : Part A) → AreRuns p s from ts mid → IsRun p s mid to t
-    → AreRuns p s from (ts ++ t ∷ []) to
-runs_push p s from mid to [] t h r = (to, subst (λ (n : ℕ). IsRun p s n to t) (sym h) r, refl)
-runs_push p s from mid to (u ∷ ts) t h r = (h.0, h.1, runs_push p s h.0 mid to ts t h.2 r)
+-- One share more.
+pub shares_push : {A : Type 0} (p : Plan) (s : Region) (from mid to : ℕ) (ts : List (Share A)) (t : Share A) → AreShares p s from ts mid → IsShare p s mid to t
+    → AreShares p s from (ts ++ t ∷ []) to
+shares_push p s from mid to [] t h r = (to, subst (λ (n : ℕ). IsShare p s n to t) (sym h) r, refl)
+shares_push p s from mid to (u ∷ ts) t h r = (h.0, h.1, shares_push p s h.0 mid to ts t h.2 r)
 
-pub runs_order : {A : Type 0} (p : Plan) (s : Region) (from to : ℕ) (ts : List (Part A)) → AreRuns p s from ts to → from ≤ to
-runs_order p s from to [] h = omega (arith, h)
-runs_order p s from to (t ∷ ts) h = let a = h.1.order in let b = runs_order p s h.0 to ts h.2 in omega (arith, a, b)
+pub shares_order : {A : Type 0} (p : Plan) (s : Region) (from to : ℕ) (ts : List (Share A)) → AreShares p s from ts to → from ≤ to
+shares_order p s from to [] h = omega (arith, h)
+shares_order p s from to (t ∷ ts) h = let a = h.1.order in let b = shares_order p s h.0 to ts h.2 in omega (arith, a, b)

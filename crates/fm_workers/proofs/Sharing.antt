@@ -1,4 +1,4 @@
--- Parts that were answered are shares of the segment.
+-- Shares that were answered, with who answered them.
 use Rattle.std.proofs.Common.{◌≡◌, ℕ, ◌+◌, ◌-◌, ◌*◌, ◌/◌, ◌%◌, ◌≤◌, List, [], ◌∷◌, refl, sym, ap, ◌∙◌, subst, arith, inl, inr, Result, Ok}
 use Rattle.std.specs.List.{AllByRecursion}
 use Rattle.std.proofs.Math.Nat.{mul-le-mul_right, mul-mod_left}
@@ -14,11 +14,11 @@ use Rattle.fm_records.specs.declared.found.Found.{Found}
 use Rattle.fm_records.specs.Joined.{joined}
 use Rattle.fm_records.specs.Query.{DoesQuery}
 use Rattle.fm_records.specs.Shares.{Share, AreCut, IsFirst, behind}
-use Rattle.fm_workers.specs.Parts.{Asked, AreLevel, AreRuns, Answers, ComesTo, IsLevel}
+use Rattle.fm_workers.specs.Shares.{Asked, AreLevel, AreShares, Answers, ComesTo, IsLevel}
 use Rattle.fm_workers.specs.Query.{AnsweredBy}
-use Rattle.fm_workers.proofs.Callers.{AreDoneBy}
+use Rattle.fm_workers_crew.proofs.Callers.{AreDoneBy}
 use Rattle.fm_workers.proofs.Asked.{piece}
-use Rattle.fm_workers.proofs.Runs.{run_ends, runs_order}
+use Rattle.fm_workers.proofs.Runs.{run_ends, shares_order}
 
 -- Who is among some is among more.
 pub later_callers : (c : Caller) (cs : List Caller) (ws : List Share) → AllByRecursion (λ w. IsAmong w.caller cs) ws
@@ -26,7 +26,7 @@ pub later_callers : (c : Caller) (cs : List Caller) (ws : List Share) → AllByR
 later_callers c cs [] h = tt
 later_callers c cs (w ∷ ws) h = (inr h.0, later_callers c cs ws h.1)
 
--- A run is the first share of what begins with it.
+-- A share is the first of what begins with it.
 pub first_of_piece : (p : Plan) (s : Region) (from next to : ℕ) (w : Share) → from ≤ next → next ≤ to
     → w.region ≡ part_of (from * p.size) ((next - from) * p.size) s → IsFirst p (piece p s from to) w
 first_of_piece p s from next to w order later is =
@@ -41,7 +41,7 @@ first_of_piece p s from next to w order later is =
       within = omega (arith, size, ends_here, ends_all, below);
     }
 
--- The runs behind it are what stands behind it.
+-- The shares behind it are what stands behind it.
 pub behind_piece : (p : Plan) (s region : Region) (from next to : ℕ) → from ≤ next → next ≤ to
     → region ≡ part_of (from * p.size) ((next - from) * p.size) s → piece p s next to ≡ behind region.size (piece p s from to)
 behind_piece p s region from next to order later is =
@@ -53,16 +53,16 @@ behind_piece p s region from next to order later is =
     let left : (to - next) * p.size ≡ (to - from) * p.size - region.size = omega (arith, size, ends_here, ends_all, ends_rest) in
     λ i. record { arena = s.arena; first = first i; size = left i; read_only = s.read_only }
 
--- Runs that were answered are shares of their piece.
-pub answered_runs : (p : Plan) (s : Region) (few from to : ℕ) (more : List Entry) (cs : List Caller) (ts us : List Asked) (a : List Found)
-    → AreDoneBy (Answers p) more cs ts us → AreRuns p s from ts to → AreLevel p few ts → ComesTo p us (Ok a) → AnsweredBy p (piece p s from to) few cs more a
-answered_runs p s few from to more [] [] [] a d h l e =
+-- Shares that were answered are those of their piece, with their callers.
+pub answered_shares : (p : Plan) (s : Region) (few from to : ℕ) (more : List Entry) (cs : List Caller) (ts us : List Asked) (a : List Found)
+    → AreDoneBy (Answers p) more cs ts us → AreShares p s from ts to → AreLevel p few ts → ComesTo p us (Ok a) → AnsweredBy p (piece p s from to) few cs more a
+answered_shares p s few from to more [] [] [] a d h l e =
     let same : from * p.size ≡ to * p.size = ap (λ (n : ℕ). n * p.size) h in
     let ends = run_ends from to p.size (omega (arith, h)) in
     record { shares = []; cut = omega (arith, same, ends); level = tt; callers = tt; done = tt; joined = e }
-answered_runs p s few from to more (c ∷ cs) (t ∷ ts) (u ∷ us) a d h l e =
-    let rest = answered_runs p s few h.0 to more cs ts us e.1 d.1 h.2 l.1 e.3 in
-    let later = runs_order p s h.0 to ts h.2 in
+answered_shares p s few from to more (c ∷ cs) (t ∷ ts) (u ∷ us) a d h l e =
+    let rest = answered_shares p s few h.0 to more cs ts us e.1 d.1 h.2 l.1 e.3 in
+    let later = shares_order p s h.0 to ts h.2 in
     let ur : u.region ≡ part_of (from * p.size) ((h.0 - from) * p.size) s = d.0.same ∙ h.1.region in
     let share : Share = record { caller = c; region = u.region; found = e.0 } in
     let is_behind = behind_piece p s u.region from h.0 to h.1.order later ur in
@@ -75,7 +75,7 @@ answered_runs p s few from to more (c ∷ cs) (t ∷ ts) (u ∷ us) a d h l e =
       done = (record { does = subst (λ (r : Region). DoesQuery c p r (Ok e.0) (made_by c more)) (sym d.0.same) did }, rest.done);
       joined = e.4 ∙ ap (λ (y : List Found). joined e.0 y) rest.joined;
     }
-answered_runs p s few from to more cs ts us a d h l e = absurd d
+answered_shares p s few from to more cs ts us a d h l e = absurd d
 
 -- All records are the segment.
 pub whole_piece : (p : Plan) (s : Region) → s.size % p.size ≡ 0 → piece p s 0 (s.size / p.size) ≡ s

@@ -19,9 +19,9 @@ use Rattle.fm_records.specs.declared.found.Found.{Found}
 use Rattle.fm_records.specs.Reads.{read_visit}
 use Rattle.fm_records.specs.Shares.{Share, AreSpared, IsSpared}
 use Rattle.fm_records.proofs.Sharing.{shares_answer, shares_read}
-use Rattle.fm_workers.specs.Crew.{CrewGathered, callers}
+use Rattle.fm_workers_crew.specs.Crew.{CrewGathered, callers}
 use Rattle.fm_workers.specs.Query.{OnlyReads, reads, stops, AnsweredBy, NobodyElseWrites, IsAnswer}
-use Rattle.fm_workers.proofs.Working.{nobody}
+use Rattle.fm_workers_crew.proofs.Working.{nobody}
 
 visits_spare : (c : Caller) (id a : ArenaId) (place : ℕ) (rs : List (ℕ × ℕ)) → AllByRecursion (λ e. Spares id place e.call) (flat_map (read_visit c a) rs)
 visits_spare c id a place [] = tt

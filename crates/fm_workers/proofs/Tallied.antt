@@ -30,21 +30,21 @@ use Rattle.fm_records.specs.Shares.{IsSpared}
 use Rattle.fm_workers.specs.Adding.{HasCounts, count_word}
 use Rattle.fm_workers.specs.Asking.{known_later}
 use Rattle.fm_workers.specs.Counts.{AreCounts, IsTally, listed}
-use Rattle.fm_workers.specs.Crew.{AreTooMany, CrewWorked, by_caller, callers}
-use Rattle.fm_workers.specs.Parts.{AreLevel, IsCut, least_in}
+use Rattle.fm_workers_crew.specs.Crew.{AreTooMany, CrewWorked, by_caller, callers}
+use Rattle.fm_workers.specs.Shares.{AreLevel, IsCut, least_in}
 use Rattle.fm_workers.specs.Query.{IsReadByCrew, NobodyElseWrites}
 use Rattle.fm_workers.specs.Tallies.{SumsTo, Tallied, Tallies, Tallying}
 use Rattle.fm_workers.specs.Tally.{AreAllRead, AreHeld, AreTheCounts, CanBeTallied, EndsTally, LeavesWord, OnlyAddsTo, OnlyTallies, TalliedBy, TalliedWith, closed, no_more, one_add}
-use Rattle.fm_workers.proofs.Callers.{AreDoneBy, worked_by_callers}
+use Rattle.fm_workers_crew.proofs.Callers.{AreDoneBy, worked_by_callers}
 use Rattle.fm_workers.proofs.Added.{by_crew, crew_adds}
-use Rattle.fm_workers.proofs.Counted.{runs_counted}
-use Rattle.fm_workers.proofs.Covered.{runs_read}
+use Rattle.fm_workers.proofs.Counted.{shares_counted}
+use Rattle.fm_workers.proofs.Covered.{counted_read}
 use Rattle.fm_workers.proofs.Queried.{even_of, many}
 use Rattle.fm_workers.proofs.Sharing.{whole_piece}
 use Rattle.fm_workers.proofs.Sparing.{by_either, reads_spare}
-use Rattle.fm_workers.proofs.CountedShares.{counted_runs}
+use Rattle.fm_workers.proofs.CountedShares.{counted_shares}
 use Rattle.fm_workers.proofs.Touching.{IsStop, crew_stops, crew_tallies, idle_tallies, tasks_count}
-use Rattle.fm_workers.proofs.Working.{lasts_none, nobody}
+use Rattle.fm_workers_crew.proofs.Working.{lasts_none, nobody}
 
 -- ---- what the crew spares
 
@@ -68,7 +68,7 @@ tallies_spare s counts place more (c ∷ cs) other h = (
 
 total_fits : (us : List Tallied) (ns : List ℕ) (k : ℕ) → k < 256 → SumsTo us (Ok ns) → slice_index ns k < 2 ^ 64
 total_fits [] ns k below h = let none = h.each k below in omega (arith, none)
-total_fits (u ∷ us) ns k below h = h.part.sums.fits k below
+total_fits (u ∷ us) ns k below h = h.share.sums.fits k below
 
 -- ---- records
 
@@ -176,19 +176,19 @@ module _ {old new : View} {k : Tallying} {s : Region} {threads : ℕ} {ts us : L
       → TalliedBy k.plan s k.counts (least_in k.plan s threads) (callers w.crew.crew) w.crew.more ns
   by_shares ns sums =
       subst (λ (x : Region). TalliedBy k.plan x k.counts (least_in k.plan s threads) (callers w.crew.crew) w.crew.more ns) (whole_piece k.plan s can.even)
-      (counted_runs k s (least_in k.plan s threads) 0 (s.size / k.plan.size) w.crew.more (callers w.crew.crew) ts us ns done cut level sums)
+      (counted_shares k s (least_in k.plan s threads) 0 (s.size / k.plan.size) w.crew.more (callers w.crew.crew) ts us ns done cut level sums)
 
   all_read : (ns : List ℕ) → SumsTo us (Ok ns) → AreAllRead old k.plan s (callers w.crew.crew) w.crew.more
   all_read ns sums nobody index path is word =
       subst (λ (x : Region). IsAsked k.plan (bytes_at_places (state_in old) x) index path is → IsWordOf (value_in k.plan x index path is) word
       → IsReadByCrew s (callers w.crew.crew) w.crew.more word) (whole_piece k.plan s can.even)
-      (runs_read (limit_of old.shape) (state_in old) k s w.crew.more plan (spared nobody) 0 (s.size / k.plan.size) (callers w.crew.crew) ts us ns
+      (counted_read (limit_of old.shape) (state_in old) k s w.crew.more plan (spared nobody) 0 (s.size / k.plan.size) (callers w.crew.crew) ts us ns
       index path is word (omega arith) done cut sums)
 
   the_counts : (ns : List ℕ) → SumsTo us (Ok ns) → AreTheCounts old k.plan s (callers w.crew.crew) w.crew.more ns
   the_counts ns sums nobody =
       subst (λ (x : Region). AreCounts (listed (answer k.plan (bytes_at_places (state_in old) x))) ns) (whole_piece k.plan s can.even)
-      (runs_counted (limit_of old.shape) (state_in old) k s w.crew.more plan can.tally (spared nobody) 0 (s.size / k.plan.size) (callers w.crew.crew) ts us ns
+      (shares_counted (limit_of old.shape) (state_in old) k s w.crew.more plan can.tally (spared nobody) 0 (s.size / k.plan.size) (callers w.crew.crew) ts us ns
       (omega arith) done cut sums)
 
   are_held : (ns : List ℕ) → SumsTo us (Ok ns) → AreHeld old new k.counts (callers w.crew.crew) w.crew.more ns

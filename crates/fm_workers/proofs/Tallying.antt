@@ -1,4 +1,4 @@
--- A part is read, and then its counts are added.
+-- A share is read, and then its counts are added.
 use Rattle.std.proofs.Common.{◌≡◌, ◌≢◌, ℕ, ◌-◌, ◌%◌, List, [], ◌∷◌, ◌++◌, refl, sym, ap, ◌∙◌, subst, None, Ok, Err, Result}
 use Rattle.std.specs.List.{AllByRecursion}
 use Rattle.std.proofs.Math.Nat.{mul-mod_left}
@@ -14,16 +14,16 @@ use Rattle.fm_segment.specs.Region.{Region}
 use Rattle.fm_records_query.specs.Plan.{Plan}
 use Rattle.fm_workers.specs.Adding.{DoesAdd, HasCounts}
 use Rattle.fm_workers.specs.Counts.{IsTally}
-use Rattle.fm_workers.specs.Parts.{AreRuns, CanAsk}
-use Rattle.fm_workers.specs.Tallies.{CanTally, CanTallyPart, CountsPart, DoesCount, DoesTallyPart, Tallied, Tallies, Tallying, unadded, uncounted}
+use Rattle.fm_workers.specs.Shares.{AreShares, CanAsk}
+use Rattle.fm_workers.specs.Tallies.{CanTally, CanTallyShare, CountsShare, DoesCount, DoesTallyShare, Tallied, Tallies, Tallying, unadded, uncounted}
 
-pub uncounted_part : {x y : View} (p : Plan) (region counts : Region) (r : Refusal) → Did x y (DoesCount x.caller p region (Err r))
-    → Did x y (DoesTallyPart x.caller p region counts (Err r))
-uncounted_part p region counts r d = record { own = d.own; does = uncounted d.does; makes = d.makes }
+pub uncounted_share : {x y : View} (p : Plan) (region counts : Region) (r : Refusal) → Did x y (DoesCount x.caller p region (Err r))
+    → Did x y (DoesTallyShare x.caller p region counts (Err r))
+uncounted_share p region counts r d = record { own = d.own; does = uncounted d.does; makes = d.makes }
 
-counts_part : {x y z : View} (p : Plan) (region counts : Region) (ns : List ℕ) (end : Result (Unit {0}) Refusal)
-    → Did x y (DoesCount x.caller p region (Ok ns)) → Did y z (DoesAdd y.caller counts ns end) → Did x z (CountsPart x.caller p region counts ns end)
-counts_part {x} {y} {z} p region counts ns end d a = record {
+counts_share : {x y z : View} (p : Plan) (region counts : Region) (ns : List ℕ) (end : Result (Unit {0}) Refusal)
+    → Did x y (DoesCount x.caller p region (Ok ns)) → Did y z (DoesAdd y.caller counts ns end) → Did x z (CountsShare x.caller p region counts ns end)
+counts_share {x} {y} {z} p region counts ns end d a = record {
   own = d.own ++ a.own;
   does = record {
     reads = d.own;
@@ -35,20 +35,20 @@ counts_part {x} {y} {z} p region counts ns end d a = record {
   makes = Makes-then x y z d.own a.own d.makes a.makes;
 }
 
-pub counted_part : {x y z : View} (p : Plan) (region counts : Region) (ns : List ℕ) (u : Unit {0}) → Did x y (DoesCount x.caller p region (Ok ns))
-    → Did y z (DoesAdd y.caller counts ns (Ok u)) → Did x z (DoesTallyPart x.caller p region counts (Ok ns))
-counted_part p region counts ns u d a = counts_part p region counts ns (Ok u) d a
+pub counted_share : {x y z : View} (p : Plan) (region counts : Region) (ns : List ℕ) (u : Unit {0}) → Did x y (DoesCount x.caller p region (Ok ns))
+    → Did y z (DoesAdd y.caller counts ns (Ok u)) → Did x z (DoesTallyShare x.caller p region counts (Ok ns))
+counted_share p region counts ns u d a = counts_share p region counts ns (Ok u) d a
 
-pub unadded_part : {x y z : View} (p : Plan) (region counts : Region) (ns : List ℕ) (r : Refusal) → Did x y (DoesCount x.caller p region (Ok ns))
-    → Did y z (DoesAdd y.caller counts ns (Err r)) → Did x z (DoesTallyPart x.caller p region counts (Err r))
-unadded_part p region counts ns r d a =
-    let h = counts_part p region counts ns (Err r) d a in
+pub unadded_share : {x y z : View} (p : Plan) (region counts : Region) (ns : List ℕ) (r : Refusal) → Did x y (DoesCount x.caller p region (Ok ns))
+    → Did y z (DoesAdd y.caller counts ns (Err r)) → Did x z (DoesTallyShare x.caller p region counts (Err r))
+unadded_share p region counts ns r d a =
+    let h = counts_share p region counts ns (Err r) d a in
     record { own = h.own; does = unadded ns h.does; makes = h.makes }
 
 -- ---- as work
 
-pub can_tally_part : (w : Tallying) (v : Passes) (t : Tallied) → v.inside ≡ None → CanTally w v t → CanTallyPart (view_of_pass v) w.plan t.region w.counts
-can_tally_part w v t outside can = record {
+pub can_tally_share : (w : Tallying) (v : Passes) (t : Tallied) → v.inside ≡ None → CanTally w v t → CanTallyShare (view_of_pass v) w.plan t.region w.counts
+can_tally_share w v t outside can = record {
   count = record {
     tally = can.tally;
     query = record { outside = outside; known = can.ask.known; aligned = can.ask.aligned };
@@ -59,15 +59,15 @@ can_tally_part w v t outside can = record {
 }
 
 pub tallied_work : {x y : View} (w : Tallying) (old new : Tallied) (r : Result (List ℕ) Refusal) → new.region ≡ old.region → new.answer ≡ r
-    → Did x y (DoesTallyPart x.caller w.plan old.region w.counts r) → Did x y (Tallies w x.caller old new)
+    → Did x y (DoesTallyShare x.caller w.plan old.region w.counts r) → Did x y (Tallies w x.caller old new)
 tallied_work {x} {y} w old new r same is d = record {
   own = d.own;
-  does = record { same = same; did = subst (λ q. DoesTallyPart x.caller w.plan old.region w.counts q d.own) (sym is) d.does };
+  does = record { same = same; did = subst (λ q. DoesTallyShare x.caller w.plan old.region w.counts q d.own) (sym is) d.does };
   makes = d.makes;
 }
 
 pub can_tally_all : (w : Tallying) (v : Passes) (s : Region) (from to : ℕ) (ts : List Tallied) → IsTally w.plan → IsKnown (view_of_pass v) w.counts
-    → s.arena.kind ≢ Confined → w.counts.arena.kind ≢ Confined → HasCounts w.counts → AreRuns w.plan s from ts to
+    → s.arena.kind ≢ Confined → w.counts.arena.kind ≢ Confined → HasCounts w.counts → AreShares w.plan s from ts to
     → AllByRecursion (CanAsk w.plan v) ts → AllByRecursion (CanTally w v) ts
 can_tally_all w v s from to [] tally known anyone shared longs runs h = tt
 can_tally_all w v s from to (t ∷ ts) tally known anyone shared longs runs h = (

@@ -1,4 +1,4 @@
--- Answers of parts, joined from the last part to the first.
+-- Answers of shares, joined from the last share to the first.
 use Rattle.std.proofs.Common.{◌≡◌, ℕ, ◌+◌, ◌^◌, ◌≤◌, List, [], ◌∷◌, ◌++◌, refl, sym, ap, ◌∙◌, subst, arith, inl, inr, ⊎_elim, Result, Ok, Err, IfOk}
 use Rattle.std.specs.Prelude.{IfErr}
 use Rattle.fm_base.specs.declared.refusal.Refusal.{Refusal}
@@ -8,7 +8,7 @@ use Rattle.fm_records.specs.declared.found.Found.{Found}
 use Rattle.fm_records.specs.Answers.{answer}
 use Rattle.fm_records.specs.Few.{AreFew, Joins}
 use Rattle.fm_records.proofs.Few.{few_join}
-use Rattle.fm_workers.specs.Parts.{Asked, CanJoinPart, ComesTo, JoinsPart, bytes_in}
+use Rattle.fm_workers.specs.Shares.{Asked, CanJoinShare, ComesTo, JoinsShare, bytes_in}
 
 pub comes_none : (p : Plan) (r : Result (List Found) Refusal) → IfOk r (λ a. a ≡ answer p []) → IfErr r (λ e. e ≡ Memory) → ComesTo p [] r
 comes_none p (Ok a) is memory = is
@@ -19,8 +19,8 @@ want_of : (p : Plan) (ts : List Asked) (a : List Found) → ComesTo p ts (Ok a) 
 want_of p [] a h = refl
 want_of p (t ∷ ts) a h = inr ((h.0, h.2), want_of p ts h.1 h.3)
 
--- One part before them.
-pub comes_more : (p : Plan) (t : Asked) (ts : List Asked) (behind r : Result (List Found) Refusal) → ComesTo p ts behind → JoinsPart t behind r
+-- One share before them.
+pub comes_more : (p : Plan) (t : Asked) (ts : List Asked) (behind r : Result (List Found) Refusal) → ComesTo p ts behind → JoinsShare t behind r
     → ComesTo p (t ∷ ts) r
 comes_more p t ts behind (Ok a) h j = (j.0, j.1, j.2, subst (λ x. ComesTo p ts x) j.3 h, j.4)
 comes_more p t ts behind (Err e) h (inl q) = inl q
@@ -41,14 +41,14 @@ module _ (p : Plan) (t : Asked) (n : ℕ) (behind : Result (List Found) Refusal)
   joins : (x y : List Found) → t.answer ≡ Ok x → behind ≡ Ok y → Joins p (t.region.size + n) x y
   joins x y e f = few_join p t.region.size n x y (subst (λ r. IfOk r (AreFew t.region.size p)) e here) (subst (λ r. IfOk r (AreFew n p)) f there) small
 
-  pub can_join : CanJoinPart t behind
+  pub can_join : CanJoinShare t behind
   can_join x y e f = (joins x y e f).can
 
-  pub few_more : (r : Result (List Found) Refusal) → JoinsPart t behind r → IfOk r (AreFew (t.region.size + n) p)
+  pub few_more : (r : Result (List Found) Refusal) → JoinsShare t behind r → IfOk r (AreFew (t.region.size + n) p)
   few_more (Ok a) j = subst (λ fs. AreFew (t.region.size + n) p fs) (sym j.4) (joins j.0 j.1 j.2 j.3).few
   few_more (Err e) j = tt
 
--- A part and those behind it have no more bytes than all.
+-- A share and those behind it have no more bytes than all.
 pub behind_small : (all next done : List Asked) (t : Asked) → all ≡ next ++ t ∷ done → bytes_in all ≤ 2 ^ 62 → t.region.size + bytes_in done ≤ 2 ^ 62
 behind_small all next done t e small =
     let sum : bytes_in all ≡ bytes_in next + bytes_in (t ∷ done) = ap bytes_in e ∙ bytes_append next (t ∷ done) in

@@ -14,14 +14,14 @@ use Rattle.fm_segment.specs.Region.{Region}
 use Rattle.fm_records_query.specs.Plan.{IsPlan, Plan}
 use Rattle.fm_records.specs.Reads.{IsWordOf}
 use Rattle.fm_workers.specs.Adding.{AddsAt, AddsBelow, DoesAdd, HasCounts, adds, count_word, none_yet, nothing, one_more}
-use Rattle.fm_workers.specs.Parts.{AreRuns}
+use Rattle.fm_workers.specs.Shares.{AreShares}
 use Rattle.fm_workers.specs.Counts.{IsTally}
-use Rattle.fm_workers.specs.Tallies.{CountsPart, DoesCount, DoesTallyPart, IsCountedPart, PassesPart, StopsPart, SumsTo, Tallied, Tallies, Tallying, unadded, uncounted}
-use Rattle.fm_workers.specs.Tally.{CountsRun, FoundEitherClosed, HasCounted, IsFirstUncounted, OnlyAddsTo, OnlyTallies, WantedMemory, closed, no_more, one_add}
-use Rattle.fm_workers.proofs.Callers.{AreDoneBy}
-use Rattle.fm_workers.proofs.Asked.{IsWithin, no_reads, query_reads, run_within, stops_count}
+use Rattle.fm_workers.specs.Tallies.{CountsShare, DoesCount, DoesTallyShare, IsCountedShare, PassesShare, StopsShare, SumsTo, Tallied, Tallies, Tallying, unadded, uncounted}
+use Rattle.fm_workers.specs.Tally.{TalliesShare, FoundEitherClosed, HasCounted, IsFirstUncounted, OnlyAddsTo, OnlyTallies, WantedMemory, closed, no_more, one_add}
+use Rattle.fm_workers_crew.proofs.Callers.{AreDoneBy}
+use Rattle.fm_workers.proofs.Asked.{IsWithin, no_reads, query_reads, share_within, stops_count}
 use Rattle.fm_workers.proofs.FewCounted.{never_passes}
-use Rattle.fm_workers.proofs.Runs.{runs_order}
+use Rattle.fm_workers.proofs.Runs.{shares_order}
 
 pub tasks_count : {T : Type 0} (Does : Caller → T → T → List Entry → Type 0) (more : List Entry) (cs : List Caller) (ts us : List T)
     → AreDoneBy Does more cs ts us → length cs ≡ length ts
@@ -56,10 +56,10 @@ add_adds c counts ns (Err Closed) own longs d =
     subst (OnlyAddsTo counts c) (sym d.stops) (below_adds c counts ns d.place d.before _ longs d.within d.added closed)
 add_adds c counts ns (Err r) own longs d = absurd d
 
--- ---- parts
+-- ---- shares
 
 counts_tallies : (c : Caller) (p : Plan) (part s counts : Region) (ns : List ℕ) (end : Result (Unit {0}) Refusal) (own : List Entry) → IsWithin part s
-    → HasCounts counts → CountsPart c p part counts ns end own → OnlyTallies s counts c own
+    → HasCounts counts → CountsShare c p part counts ns end own → OnlyTallies s counts c own
 counts_tallies c p part s counts ns end own w longs h = record {
   reads = h.reads;
   adds = h.adds;
@@ -69,7 +69,7 @@ counts_tallies c p part s counts ns end own w longs h = record {
 }
 
 stops_tallies : (c : Caller) (p : Plan) (part s counts : Region) (r : Refusal) (own : List Entry) → IsWithin part s → HasCounts counts
-    → StopsPart c p part counts r own → OnlyTallies s counts c own
+    → StopsShare c p part counts r own → OnlyTallies s counts c own
 stops_tallies c p part s counts r own w longs (uncounted d) = record {
   reads = own;
   adds = [];
@@ -79,18 +79,18 @@ stops_tallies c p part s counts r own w longs (uncounted d) = record {
 }
 stops_tallies c p part s counts r own w longs (unadded ns h) = counts_tallies c p part s counts ns (Err r) own w longs h
 
-part_tallies : (c : Caller) (p : Plan) (part s counts : Region) (r : Result (List ℕ) Refusal) (own : List Entry) → IsWithin part s → HasCounts counts
-    → DoesTallyPart c p part counts r own → OnlyTallies s counts c own
-part_tallies c p part s counts (Ok ns) own w longs d = counts_tallies c p part s counts ns (Ok tt) own w longs d
-part_tallies c p part s counts (Err r) own w longs d = stops_tallies c p part s counts r own w longs d
+share_tallies : (c : Caller) (p : Plan) (part s counts : Region) (r : Result (List ℕ) Refusal) (own : List Entry) → IsWithin part s → HasCounts counts
+    → DoesTallyShare c p part counts r own → OnlyTallies s counts c own
+share_tallies c p part s counts (Ok ns) own w longs d = counts_tallies c p part s counts ns (Ok tt) own w longs d
+share_tallies c p part s counts (Err r) own w longs d = stops_tallies c p part s counts r own w longs d
 
 pub crew_tallies : (w : Tallying) (s : Region) (from to : ℕ) (more : List Entry) (cs : List Caller) (ts us : List Tallied) → HasCounts w.counts
-    → to ≤ s.size / w.plan.size → AreDoneBy (Tallies w) more cs ts us → AreRuns w.plan s from ts to
+    → to ≤ s.size / w.plan.size → AreDoneBy (Tallies w) more cs ts us → AreShares w.plan s from ts to
     → AllByRecursion (λ c. OnlyTallies s w.counts c (made_by c more)) cs
 crew_tallies w s from to more [] [] [] longs within d h = tt
 crew_tallies w s from to more (c ∷ cs) (t ∷ ts) (u ∷ us) longs within d h = (
-  part_tallies c w.plan t.region s w.counts u.answer (made_by c more)
-      (run_within w.plan s from h.0 to t (runs_order w.plan s h.0 to ts h.2) within h.1) longs d.0.did,
+  share_tallies c w.plan t.region s w.counts u.answer (made_by c more)
+      (share_within w.plan s from h.0 to t (shares_order w.plan s h.0 to ts h.2) within h.1) longs d.0.did,
   crew_tallies w s h.0 to more cs ts us longs within d.1 h.2,
 )
 crew_tallies w s from to more cs ts us longs within d h = absurd d
@@ -130,10 +130,10 @@ count_stopped c p part s counts Closed own same d =
 count_stopped c p part s counts Memory own same d = inl refl
 count_stopped c p part s counts r own same d = absurd d
 
-part_stopped : (c : Caller) (p : Plan) (part s counts : Region) (r : Refusal) (own : List Entry) → part.arena ≡ s.arena
-    → StopsPart c p part counts r own → (r ≡ Memory) ⊎ ((r ≡ Closed) × EndsAs c s counts own)
-part_stopped c p part s counts r own same (uncounted d) = count_stopped c p part s counts r own same d
-part_stopped c p part s counts r own same (unadded ns h) =
+share_stopped : (c : Caller) (p : Plan) (part s counts : Region) (r : Refusal) (own : List Entry) → part.arena ≡ s.arena
+    → StopsShare c p part counts r own → (r ≡ Memory) ⊎ ((r ≡ Closed) × EndsAs c s counts own)
+share_stopped c p part s counts r own same (uncounted d) = count_stopped c p part s counts r own same d
+share_stopped c p part s counts r own same (unadded ns h) =
     let e = add_stopped c counts ns r h.adds h.reads own h.parts h.added in
     inr (e.0, record { arena = counts.arena; either = inr refl; before = e.1.0; last = e.1.1 })
 
@@ -149,7 +149,7 @@ module _ {p : Plan} {s counts : Region} {more : List Entry} {c : Caller} {cs : L
   }
 
 -- The first of them didn't count all.
-uncounted_here : {p : Plan} {s counts : Region} {more : List Entry} {r : Refusal} (c : Caller) (cs : List Caller) → CountsRun p s counts more (Err r) c
+uncounted_here : {p : Plan} {s counts : Region} {more : List Entry} {r : Refusal} (c : Caller) (cs : List Caller) → TalliesShare p s counts more (Err r) c
     → IsFirstUncounted p s counts (c ∷ cs) more r c
 uncounted_here c cs h = record { before = []; after = cs; parts = refl; counted = tt; refused = h }
 
@@ -167,18 +167,18 @@ stopped_later c cs mine (inr f) =
 
 module _ (w : Tallying) (s : Region) (more : List Entry) (plan : IsPlan w.plan) (tally : IsTally w.plan) (small : s.size ≤ 2 ^ 40) where
   have_stopped : (from to : ℕ) (cs : List Caller) (ts us : List Tallied) (r : Refusal) → to ≤ s.size / w.plan.size
-      → AreDoneBy (Tallies w) more cs ts us → AreRuns w.plan s from ts to → SumsTo us (Err r) → HaveStopped r w.plan s w.counts cs more
+      → AreDoneBy (Tallies w) more cs ts us → AreShares w.plan s from ts to → SumsTo us (Err r) → HaveStopped r w.plan s w.counts cs more
   have_stopped from to [] [] [] r within d h e = absurd e
   have_stopped from to (c ∷ cs) (t ∷ ts) (u ∷ us) r within d h e =
-      let later = runs_order w.plan s h.0 to ts h.2 in
-      let x = run_within w.plan s from h.0 to t later within h.1 in
-      let run : (y : Result (List ℕ) Refusal) → u.answer ≡ y → CountsRun w.plan s w.counts more y c = λ y q. record {
+      let later = shares_order w.plan s h.0 to ts h.2 in
+      let x = share_within w.plan s from h.0 to t later within h.1 in
+      let run : (y : Result (List ℕ) Refusal) → u.answer ≡ y → TalliesShare w.plan s w.counts more y c = λ y q. record {
         from = from;
         to = h.0;
         order = h.1.order;
         within = omega (arith, later, within);
-        does = subst (λ (z : Region). DoesTallyPart c w.plan z w.counts y (made_by c more)) h.1.region
-            (subst (λ (z : Result (List ℕ) Refusal). DoesTallyPart c w.plan t.region w.counts z (made_by c more)) q d.0.did);
+        does = subst (λ (z : Region). DoesTallyShare c w.plan z w.counts y (made_by c more)) h.1.region
+            (subst (λ (z : Result (List ℕ) Refusal). DoesTallyShare c w.plan t.region w.counts z (made_by c more)) q d.0.did);
       } in
       ⊎_elim
       (λ (q : u.answer ≡ Err r).
@@ -195,19 +195,19 @@ module _ (w : Tallying) (s : Region) (more : List Entry) (plan : IsPlan w.plan) 
           last = f.1.last;
         },
       ))
-      (part_stopped c w.plan t.region s w.counts r (made_by c more) x.arena
-      (subst (λ (y : Result (List ℕ) Refusal). DoesTallyPart c w.plan t.region w.counts y (made_by c more)) q d.0.did)))
-      (λ (q : (IsCountedPart u × (e.behind ≡ Err r)) ⊎ ((r ≡ Memory) × PassesPart u e.behind)). ⊎_elim
-      (λ (b : IsCountedPart u × (e.behind ≡ Err r)). stopped_later c cs (b.0.0, run (Ok b.0.0) b.0.1)
+      (share_stopped c w.plan t.region s w.counts r (made_by c more) x.arena
+      (subst (λ (y : Result (List ℕ) Refusal). DoesTallyShare c w.plan t.region w.counts y (made_by c more)) q d.0.did)))
+      (λ (q : (IsCountedShare u × (e.behind ≡ Err r)) ⊎ ((r ≡ Memory) × PassesShare u e.behind)). ⊎_elim
+      (λ (b : IsCountedShare u × (e.behind ≡ Err r)). stopped_later c cs (b.0.0, run (Ok b.0.0) b.0.1)
       (have_stopped h.0 to cs ts us r within d.1 h.2 (subst (SumsTo us) b.1 e.comes)))
-      (λ (b : (r ≡ Memory) × PassesPart u e.behind).
+      (λ (b : (r ≡ Memory) × PassesShare u e.behind).
       absurd (never_passes w plan tally s from to more c cs t u ts us e.behind small within d h e.comes b.1))
       q)
-      e.part
+      e.share
   have_stopped from to cs ts us r within d h e = absurd d
 
   pub crew_stops : (from to : ℕ) (cs : List Caller) (ts us : List Tallied) (r : Refusal) → to ≤ s.size / w.plan.size
-      → AreDoneBy (Tallies w) more cs ts us → AreRuns w.plan s from ts to → SumsTo us (Err r) → IsStop r w.plan s w.counts cs more
+      → AreDoneBy (Tallies w) more cs ts us → AreShares w.plan s from ts to → SumsTo us (Err r) → IsStop r w.plan s w.counts cs more
   crew_stops from to cs ts us r within d h e =
       ⊎_elim (λ (m : (r ≡ Memory) × ((c : Caller) × IsFirstUncounted w.plan s w.counts cs more Memory c)). inl (m.0, inl m.1))
       (λ (f : (r ≡ Closed) × FoundEitherClosed w.plan s w.counts cs more). inr f) (have_stopped from to cs ts us r within d h e)

@@ -1,10 +1,8 @@
 pub mod Adding
 pub mod Asking
 pub mod Counts
-pub mod Crew
-pub mod Parts
+pub mod Shares
 pub mod Printed
 pub mod Query
-pub mod Rounds
 pub mod Tallies
 pub mod Tally

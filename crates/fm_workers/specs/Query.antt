@@ -29,8 +29,8 @@ use Rattle.fm_records.specs.Laws.{IsAsked, value_in}
 use Rattle.fm_records.specs.Query.{DoesQuery}
 use Rattle.fm_records.specs.Reads.{AreReads, StopsReading, IsWordOf}
 use Rattle.fm_records.specs.Shares.{Share, AreDone, AreCut, all_joined}
-use Rattle.fm_workers.specs.Crew.{AreTooMany, CrewGathered, FoundNoNumber, IsWhole, callers}
-use Rattle.fm_workers.specs.Parts.{IsLevel, least_in}
+use Rattle.fm_workers_crew.specs.Crew.{AreTooMany, CrewGathered, FoundNoNumber, IsWhole, callers}
+use Rattle.fm_workers.specs.Shares.{IsLevel, least_in}
 
 -- outside; the segment is known and its first record aligned; and there are 1 to 16 workers
 pub record CanQueryWith (pool : Pool) (v : View) (p : Plan) (s : Region) (threads : ℕ) : Type 0 where
@@ -56,7 +56,7 @@ pub record AnsweredBy (p : Plan) (s : Region) (few : ℕ) (crew : List Caller) (
   pub joined : a ≡ all_joined p shares
 
 -- among these entries the caller's are a query over some of the segment's records, which comes to this
-pub record AsksRun (p : Plan) (s : Region) (es : List Entry) (result : Result (List Found) Refusal) (c : Caller) : Type 0 where
+pub record AsksShare (p : Plan) (s : Region) (es : List Entry) (result : Result (List Found) Refusal) (c : Caller) : Type 0 where
   pub from : ℕ
   pub to : ℕ
   pub order : from ≤ to
@@ -65,15 +65,15 @@ pub record AsksRun (p : Plan) (s : Region) (es : List Entry) (result : Result (L
 
 -- it is answered
 abbrev pub HasAnswered : Plan → Region → List Entry → Caller → Type 0
-HasAnswered p s es c = (a : List Found) × AsksRun p s es (Ok a) c
+HasAnswered p s es c = (a : List Found) × AsksShare p s es (Ok a) c
 
--- the first of the crew, in the order of the draws, that wasn't answered over its run of the records: those before it were
+-- the first of the crew, in the order of the draws, that wasn't answered over its share of the records: those before it were
 pub record IsFirstRefused (p : Plan) (s : Region) (crew : List Caller) (more : List Entry) (r : Refusal) (c : Caller) : Type 0 where
   pub before : List Caller
   pub after : List Caller
   pub parts : crew ≡ before ++ c ∷ after
   pub answered : AllByRecursion (HasAnswered p s more) before
-  pub refused : AsksRun p s more (Err r) c
+  pub refused : AsksShare p s more (Err r) c
 
 -- the first that wasn't answered found the arena closed
 pub record FoundClosed (p : Plan) (s : Region) (crew : List Caller) (more : List Entry) : Type 0 where

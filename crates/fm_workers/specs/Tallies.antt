@@ -1,4 +1,4 @@
--- What a pass does that counts the numbers of a part, and what the parts' counts come to.
+-- What a pass does that counts the numbers of a share, and what the shares' counts come to.
 use Rattle.std.specs.Prelude.{◌≡◌, ◌≢◌, ◌⊎◌, ◌%◌, ℕ, List, [], ◌∷◌, ◌++◌, Result, Ok, Err}
 use Rattle.fm_base.specs.declared.caller.Caller.{Caller}
 use Rattle.fm_base.specs.declared.refusal.Refusal.{Refusal}
@@ -16,8 +16,8 @@ use Rattle.fm_records.specs.declared.found.Found.{Found}
 use Rattle.fm_records.specs.Learnt.{CanQuery}
 use Rattle.fm_records.specs.Query.{DoesQuery}
 use Rattle.fm_records.specs.Reads.{AreReads, StopsReading}
-use Rattle.fm_workers.specs.declared.part.Part.{Part}
-use Rattle.fm_workers.specs.Parts.{CanAsk}
+use Rattle.fm_workers.specs.declared.share.Share.{Share}
+use Rattle.fm_workers.specs.Shares.{CanAsk}
 use Rattle.fm_workers.specs.Adding.{CanAdd, DoesAdd, HasCounts}
 use Rattle.fm_workers.specs.Counts.{AreCounts, AreSums, IsTally, PassSums, listed}
 
@@ -41,13 +41,13 @@ DoesCount c p region (Err Closed) own = StopsReading c region own
 DoesCount c p region (Err Memory) own = AreReads c region own
 DoesCount c p region (Err r) own = ⊥
 
--- the part's numbers can be counted, and counts added
-pub record CanTallyPart (v : memory.View) (p : Plan) (region counts : Region) : Type 0 where
+-- the share's numbers can be counted, and counts added
+pub record CanTallyShare (v : memory.View) (p : Plan) (region counts : Region) : Type 0 where
   pub count : CanCount v p region
   pub add : CanAdd v counts
 
 -- the numbers were counted first, and then it was added how often each comes
-pub record CountsPart (c : Caller) (p : Plan) (region counts : Region) (ns : List ℕ) (end : Result (Unit {0}) Refusal) (own : List Entry) : Type 0 where
+pub record CountsShare (c : Caller) (p : Plan) (region counts : Region) (ns : List ℕ) (end : Result (Unit {0}) Refusal) (own : List Entry) : Type 0 where
   pub reads : List Entry
   pub adds : List Entry
   pub parts : own ≡ reads ++ adds
@@ -55,13 +55,13 @@ pub record CountsPart (c : Caller) (p : Plan) (region counts : Region) (ns : Lis
   pub added : DoesAdd c counts ns end adds
 
 -- not all numbers were counted, or the counts' arena was found closed
-pub data StopsPart (c : Caller) (p : Plan) (region counts : Region) (r : Refusal) (own : List Entry) : Type 0 where
-  uncounted : DoesCount c p region (Err r) own → StopsPart c p region counts r own
-  unadded : (ns : List ℕ) → CountsPart c p region counts ns (Err r) own → StopsPart c p region counts r own
+pub data StopsShare (c : Caller) (p : Plan) (region counts : Region) (r : Refusal) (own : List Entry) : Type 0 where
+  uncounted : DoesCount c p region (Err r) own → StopsShare c p region counts r own
+  unadded : (ns : List ℕ) → CountsShare c p region counts ns (Err r) own → StopsShare c p region counts r own
 
-abbrev pub DoesTallyPart : Caller → Plan → Region → Region → Result (List ℕ) Refusal → List Entry → Type 0
-DoesTallyPart c p region counts (Ok ns) own = CountsPart c p region counts ns (Ok tt) own
-DoesTallyPart c p region counts (Err r) own = StopsPart c p region counts r own
+abbrev pub DoesTallyShare : Caller → Plan → Region → Region → Result (List ℕ) Refusal → List Entry → Type 0
+DoesTallyShare c p region counts (Ok ns) own = CountsShare c p region counts ns (Ok tt) own
+DoesTallyShare c p region counts (Err r) own = StopsShare c p region counts r own
 
 -- ---- the work of a crew
 
@@ -71,7 +71,7 @@ pub record Tallying : Type 0 where
   pub counts : Region
 
 abbrev pub Tallied : Type 0
-Tallied = Part (List ℕ)
+Tallied = Share (List ℕ)
 
 pub record CanTally (w : Tallying) (v : View) (t : Tallied) : Type 0 where
   pub tally : IsTally w.plan
@@ -84,41 +84,41 @@ pub record CanTally (w : Tallying) (v : View) (t : Tallied) : Type 0 where
 
 pub record Tallies (w : Tallying) (c : Caller) (old new : Tallied) (own : List Entry) : Type 0 where
   pub same : new.region ≡ old.region
-  pub did : DoesTallyPart c w.plan old.region w.counts new.answer own
+  pub did : DoesTallyShare c w.plan old.region w.counts new.answer own
 
--- ---- counts of parts
+-- ---- counts of shares
 
-pub record AddsPart (t : Tallied) (behind : Result (List ℕ) Refusal) (ns : List ℕ) : Type 0 where
+pub record AddsShare (t : Tallied) (behind : Result (List ℕ) Refusal) (ns : List ℕ) : Type 0 where
   pub first : List ℕ
   pub rest : List ℕ
   pub is_first : t.answer ≡ Ok first
   pub is_rest : behind ≡ Ok rest
   pub sums : AreSums first rest ns
 
--- a sum of a part's counts and of those behind it passes 64 bits
-pub record PassesPart (t : Tallied) (behind : Result (List ℕ) Refusal) : Type 0 where
+-- a sum of a share's counts and of those behind it passes 64 bits
+pub record PassesShare (t : Tallied) (behind : Result (List ℕ) Refusal) : Type 0 where
   pub first : List ℕ
   pub rest : List ℕ
   pub is_first : t.answer ≡ Ok first
   pub is_rest : behind ≡ Ok rest
   pub passes : PassSums first rest
 
--- the part was counted
-abbrev pub IsCountedPart : Tallied → Type 0
-IsCountedPart t = (ns : List ℕ) × (t.answer ≡ Ok ns)
+-- the share was counted
+abbrev pub IsCountedShare : Tallied → Type 0
+IsCountedShare t = (ns : List ℕ) × (t.answer ≡ Ok ns)
 
--- the counts of a part and of those behind it; or the part is refused so; or it was counted, and those behind it are; or a sum can't be kept
-abbrev pub SumsPart : Tallied → Result (List ℕ) Refusal → Result (List ℕ) Refusal → Type 0
-SumsPart t behind (Ok ns) = AddsPart t behind ns
-SumsPart t behind (Err r) = (t.answer ≡ Err r) ⊎ ((IsCountedPart t × (behind ≡ Err r)) ⊎ ((r ≡ Memory) × PassesPart t behind))
+-- the counts of a share and of those behind it; or the share is refused so; or it was counted, and those behind it are; or a sum can't be kept
+abbrev pub SumsShare : Tallied → Result (List ℕ) Refusal → Result (List ℕ) Refusal → Type 0
+SumsShare t behind (Ok ns) = AddsShare t behind ns
+SumsShare t behind (Err r) = (t.answer ≡ Err r) ⊎ ((IsCountedShare t × (behind ≡ Err r)) ⊎ ((r ≡ Memory) × PassesShare t behind))
 
 -- the same, where B says what those behind it come to
 pub record SumsBefore (t : Tallied) (B : Result (List ℕ) Refusal → Type 0) (result : Result (List ℕ) Refusal) : Type 0 where
   pub behind : Result (List ℕ) Refusal
   pub comes : B behind
-  pub part : SumsPart t behind result
+  pub share : SumsShare t behind result
 
--- the counts of all parts
+-- the counts of all shares
 abbrev pub SumsTo : List Tallied → Result (List ℕ) Refusal → Type 0
 SumsTo [] (Ok ns) = AreCounts [] ns
 SumsTo [] (Err r) = ⊥

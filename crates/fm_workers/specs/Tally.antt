@@ -29,9 +29,9 @@ use Rattle.fm_records.specs.Reads.{IsWordOf}
 use Rattle.fm_records.specs.Shares.{AreCut, Share}
 use Rattle.fm_workers.specs.Adding.{AddsBelow, HasCounts, count_word}
 use Rattle.fm_workers.specs.Counts.{AreCounts, IsTally, listed}
-use Rattle.fm_workers.specs.Crew.{AreTooMany, CrewGathered, FoundNoNumber, IsWhole, callers}
-use Rattle.fm_workers.specs.Parts.{IsLevel, least_in}
-use Rattle.fm_workers.specs.Tallies.{DoesTallyPart}
+use Rattle.fm_workers_crew.specs.Crew.{AreTooMany, CrewGathered, FoundNoNumber, IsWhole, callers}
+use Rattle.fm_workers.specs.Shares.{IsLevel, least_in}
+use Rattle.fm_workers.specs.Tallies.{DoesTallyShare}
 use Rattle.fm_workers.specs.Query.{CanQueryWith, IsReadByCrew, NobodyElseWrites, OnlyReads}
 
 -- as for a query; the counts are 256 longs that the pass knows, to be written, in another arena
@@ -95,24 +95,24 @@ pub record TalliedBy (p : Plan) (s counts : Region) (few : ℕ) (crew : List Cal
   pub are : AreCounts (all_listed shares) ns
 
 -- among these entries the caller's count the numbers of some of the segment's records and add them to the counts, which comes to this
-pub record CountsRun (p : Plan) (s counts : Region) (es : List Entry) (result : Result (List ℕ) Refusal) (c : Caller) : Type 0 where
+pub record TalliesShare (p : Plan) (s counts : Region) (es : List Entry) (result : Result (List ℕ) Refusal) (c : Caller) : Type 0 where
   pub from : ℕ
   pub to : ℕ
   pub order : from ≤ to
   pub within : to ≤ s.size / p.size
-  pub does : DoesTallyPart c p (part_of (from * p.size) ((to - from) * p.size) s) counts result (made_by c es)
+  pub does : DoesTallyShare c p (part_of (from * p.size) ((to - from) * p.size) s) counts result (made_by c es)
 
 -- it counted all of them
 abbrev pub HasCounted : Plan → Region → Region → List Entry → Caller → Type 0
-HasCounted p s counts es c = (ns : List ℕ) × CountsRun p s counts es (Ok ns) c
+HasCounted p s counts es c = (ns : List ℕ) × TalliesShare p s counts es (Ok ns) c
 
--- the first of the crew, in the order of the draws, that didn't count all of its run: those before it did
+-- the first of the crew, in the order of the draws, that didn't count all of its share: those before it did
 pub record IsFirstUncounted (p : Plan) (s counts : Region) (crew : List Caller) (more : List Entry) (r : Refusal) (c : Caller) : Type 0 where
   pub before : List Caller
   pub after : List Caller
   pub parts : crew ≡ before ++ c ∷ after
   pub counted : AllByRecursion (HasCounted p s counts more) before
-  pub refused : CountsRun p s counts more (Err r) c
+  pub refused : TalliesShare p s counts more (Err r) c
 
 -- the first that didn't found an arena closed, at its last entry
 pub record FoundEitherClosed (p : Plan) (s counts : Region) (crew : List Caller) (more : List Entry) : Type 0 where

@@ -1,7 +1,7 @@
 ghost use Rattle.std.specs.Prelude.{◌≡◌, ◌≤◌, ◌<◌, ◌*◌, ◌⊎◌, None};
 ghost use Rattle.fm_base.specs.View.{Did};
 ghost use Rattle.fm_workers.specs.Counts.{CountsToo, HasRoomFor, listed, numbers_listed};
-ghost use Rattle.fm_workers.specs.Tallies.{CanCount, CanTallyPart, DoesCount, DoesTallyPart};
+ghost use Rattle.fm_workers.specs.Tallies.{CanCount, CanTallyShare, DoesCount, DoesTallyShare};
 
 use crate::adding::add_counts;
 use crate::counts::Counts;
@@ -25,9 +25,9 @@ pub(crate) fn count_region<M: Memory>(
     region: &Segment,
     shared: &Segment,
 ) -> Result<Counts, Refusal>
-    requires { CanTallyPart (M.view m.old) q.now region.now shared.now }
+    requires { CanTallyShare (M.view m.old) q.now region.now shared.now }
     ensures did { Did (M.view m.old) (M.view m.new)
-        (DoesTallyPart (M.view m.old).caller q.now region.now shared.now result) }
+        (DoesTallyShare (M.view m.old).caller q.now region.now shared.now result) }
     ensures outside { (M.view m.new).inside ≡ None }
 {
     let counts = match count_records(alloc, m, q, region) {

@@ -1,48 +1,48 @@
 ghost use Rattle.std.specs.Prelude.{◌≡◌, ◌*◌, ◌+◌, ◌-◌, ◌/◌, ◌^◌, ◌<◌, ◌≤◌, IfOk, IfErr, length};
 ghost use Rattle.fm_segment.specs.Region.{part_of};
-ghost use Rattle.fm_workers.specs.Parts.{AreLevel, IsCut, IsRun, least_in};
+ghost use Rattle.fm_workers.specs.Shares.{AreLevel, IsCut, IsShare, least_in};
 
-use crate::part::Part;
+use crate::share::Share;
 use fm_base::Refusal;
 use fm_records_query::Query;
 use fm_segment::Segment;
 use std::alloc::Global;
 
-/// The segment's records in so many runs, one behind the other, of which none has two records more than another.
+/// The segment's records in so many shares, one behind the other, of which none has two records more than another.
 /// Refused: `Memory`.
 pub(crate) fn cut<A>(
     alloc: Global,
     q: &Query,
     s: &Segment,
-    parts: u32,
-) -> Result<Vec<Part<A>>, Refusal>
-    requires some { 0 < parts }
+    many: u32,
+) -> Result<Vec<Share<A>>, Refusal>
+    requires some { 0 < many }
     ensures cut { IfOk result (λ ts. IsCut q.now s.now ts.items) }
-    ensures level { IfOk result (λ ts. AreLevel q.now (least_in q.now s.now parts) ts.items) }
-    ensures count { IfOk result (λ ts. length ts.items ≡ parts) }
+    ensures level { IfOk result (λ ts. AreLevel q.now (least_in q.now s.now many) ts.items) }
+    ensures count { IfOk result (λ ts. length ts.items ≡ many) }
     ensures memory { IfErr result (λ refusal. refusal ≡ Refusal.Memory) }
 {
-    let Ok(mut runs) = Vec::with_capacity(alloc, parts as usize) else {
+    let Ok(mut shares) = Vec::with_capacity(alloc, many as usize) else {
         return Err(Refusal::Memory);
     };
     let count = s.size() / q.record_size();
     let mut from = 0u64;
-    for k in 0..parts {
-        let to = from + (count - from) / u64::from(parts - k);
-        runs.push_reserved(run(q, s, from, to));
+    for k in 0..many {
+        let to = from + (count - from) / u64::from(many - k);
+        shares.push_reserved(share(q, s, from, to));
         from = to;
     }
-    Ok(runs)
+    Ok(shares)
 }
 
-/// The records from one index on, up to another.
-fn run<A>(q: &Query, s: &Segment, from: u64, to: u64) -> Part<A>
+/// A share: the records from one index on, up to another.
+fn share<A>(q: &Query, s: &Segment, from: u64, to: u64) -> Share<A>
     requires order { from ≤ to }
     requires within { to ≤ s.now.size / q.now.size }
     requires small { s.now.size ≤ 2 ^ 40 }
-    ensures { IsRun q.now s.now from to result }
+    ensures { IsShare q.now s.now from to result }
 {
-    Part::of(records_of(q, s, from, to))
+    Share::of(records_of(q, s, from, to))
 }
 
 /// The records from one index on, up to another, as a segment of their own.

@@ -1,24 +1,19 @@
-//! Answers by crews of passes, each at a share of its own.
+//! Answers by crews of passes, each at a share of the records of its own.
 #![tactic(auto)]
 
 mod adding;
 mod counting;
 mod counts;
-mod crew;
 mod cutting;
 mod joining;
-mod part;
 mod printing;
 mod query;
+mod share;
 mod summing;
 mod tally;
-mod work;
-mod worker;
 
 pub use counts::Counts;
-pub use crew::work_crew;
-pub use part::Part;
 pub use printing::print_counts;
 pub use query::query_with;
+pub use share::Share;
 pub use tally::{is_tally, tally_with};
-pub use work::Work;

@@ -1,26 +1,26 @@
-ghost use Rattle.fm_workers.specs.Tallies.{SumsPart, SumsTo};
+ghost use Rattle.fm_workers.specs.Tallies.{SumsShare, SumsTo};
 
 use crate::counts::Counts;
-use crate::part::Part;
+use crate::share::Share;
 use fm_base::Refusal;
 
-/// The counts of all parts together.
+/// The counts of all shares together.
 ///
-/// Refused: as the first part is that was refused; `Memory`, where the sums of those behind it pass 64 bits.
-pub(crate) fn total_of(parts: &[Part<Counts>]) -> Result<Counts, Refusal>
-    ensures { SumsTo parts.now result }
+/// Refused: as the first share is that was refused; `Memory`, where the sums of those behind it pass 64 bits.
+pub(crate) fn total_of(shares: &[Share<Counts>]) -> Result<Counts, Refusal>
+    ensures { SumsTo shares.now result }
 {
-    match parts {
+    match shares {
         [] => Ok(Counts::none()),
-        [first, behind @ ..] => with_part(first, total_of(behind)),
+        [first, behind @ ..] => with_share(first, total_of(behind)),
     }
 }
 
-/// The counts of a part and of those behind it.
-fn with_part(part: &Part<Counts>, behind: Result<Counts, Refusal>) -> Result<Counts, Refusal>
-    ensures { SumsPart part.now behind result }
+/// The counts of a share and of those behind it.
+fn with_share(share: &Share<Counts>, behind: Result<Counts, Refusal>) -> Result<Counts, Refusal>
+    ensures { SumsShare share.now behind result }
 {
-    let first = match &part.answer {
+    let first = match &share.answer {
         Ok(first) => first,
         Err(refusal) => return Err(*refusal),
     };

@@ -5,12 +5,10 @@ ghost use Rattle.fm_workers.specs.Tally.{CanTallyWith, TalliedWith};
 
 use crate::counting::count_region;
 use crate::counts::Counts;
-use crate::crew::work_crew;
 use crate::cutting::cut;
-use crate::part::Part;
 use crate::query::is_confined;
+use crate::share::Share;
 use crate::summing::total_of;
-use crate::work::Work;
 use fm_arena::Shared;
 use fm_base::Refusal;
 use fm_io::Gate;
@@ -18,6 +16,7 @@ use fm_lanes::ValueKind;
 use fm_records_query::{Asked, Fold, Query};
 use fm_rule::{Pass, Pool};
 use fm_segment::Segment;
+use fm_workers_crew::{Work, work_crew};
 use std::alloc::Global;
 use std::marker::Model;
 use std::sync::Wait;
@@ -38,17 +37,17 @@ impl<'a> Model for Tally<'a> {
     ghost view = { λ t. record { plan = t.query.now; counts = t.counts } };
 }
 
-/// Each pass counts the numbers of its part, and adds them to the shared counts.
-impl<'a> Work<Part<Counts>> for Tally<'a> {
+/// Each pass counts the numbers of its share, and adds them to the shared counts.
+impl<'a> Work<Share<Counts>> for Tally<'a> {
     ghost use Rattle.fm_workers.specs.Tallies.{CanTally, Tallies};
     ghost use Rattle.fm_workers.specs.Asking.{can_tally_later};
-    ghost use Rattle.fm_workers.specs.Crew.{by_caller};
+    ghost use Rattle.fm_workers_crew.specs.Crew.{by_caller};
 
     ghost can = { CanTally };
 
     ghost does = { λ w. by_caller (Tallies w) };
 
-    fn work(&self, alloc: Global, memory: &mut Shared, task: &mut Part<Counts>) {
+    fn work(&self, alloc: Global, memory: &mut Shared, task: &mut Share<Counts>) {
         task.answer = count_region(alloc, memory, self.query, &task.region, &self.counts);
     }
 
@@ -56,7 +55,7 @@ impl<'a> Work<Part<Counts>> for Tally<'a> {
 }
 
 /// How often each number comes that a query lists over the records of a segment, by so many passes that are drawn for
-/// it, each over a run of the records, in a thread of its own where one can be started. The query lists one path, of
+/// it, each over a share of the records, in a thread of its own where one can be started. The query lists one path, of
 /// bytes or booleans. Each pass adds what it counted to `counts`, 256 longs that all of them share: the count of a
 /// number below 0 stands 256 places further on. The passes are gathered again, after a refusal too; they make all
 /// accesses, each a visit with one Read or one Add.
@@ -64,7 +63,7 @@ impl<'a> Work<Part<Counts>> for Tally<'a> {
 /// Refused, in this order: `Unsupported`, where the query doesn't list just one path of bytes or booleans; `Ragged`
 /// with the number of bytes behind the last whole record; `WrongThread`, exactly where one of the arenas is confined;
 /// `Memory`, or `NoPass` where a draw finds no free number, or no draw can be counted any more; then `Closed` or
-/// `Memory`, as the pass of the first run was that was refused. What `counts` then holds is open. Numbers that were
+/// `Memory`, as the pass of the first share was that was refused. What `counts` then holds is open. Numbers that were
 /// drawn are free again, but those of their last term.
 pub fn tally_with<R: Threads + Wait + Sync, G: Gate>(
     rt: &R,
@@ -94,16 +93,16 @@ pub fn tally_with<R: Threads + Wait + Sync, G: Gate>(
     if is_confined(counts.arena()) {
         return Err(Refusal::WrongThread);
     }
-    let mut parts = match cut(alloc, q, s, threads) {
-        Ok(parts) => parts,
+    let mut shares = match cut(alloc, q, s, threads) {
+        Ok(shares) => shares,
         Err(refusal) => return Err(refusal),
     };
     let work = Tally {
         query: q,
         counts: *counts,
     };
-    match work_crew(rt, alloc, pool, pass, &work, &mut parts, gate) {
-        Ok(()) => total_of(parts.as_slice()),
+    match work_crew(rt, alloc, pool, pass, &work, &mut shares, gate) {
+        Ok(()) => total_of(shares.as_slice()),
         Err(refusal) => Err(refusal),
     }
 }

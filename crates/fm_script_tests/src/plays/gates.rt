@@ -1,6 +1,6 @@
 use super::printed_past;
 use super::relay::Relay;
-use fm_workers_tests::{Meeting, Order, Recording};
+use fm_io_gates::{Meeting, Order, Recording};
 
 /// A body that runs one worker after the other, or their lines in fixed turns, misses one in one of these runs.
 #[test]

@@ -5,10 +5,10 @@ ghost use Rattle.fm_segment.specs.Access.{IsKnown};
 
 use super::tallies::{made_wide, query_of, tallied, zeros};
 use super::{ANSWER, asked, made, query, stocked};
-use crate::{Meeting, Order, Recording};
 use fm_base::Kind;
 use fm_gate::{enter, leave, store};
 use fm_io::Gate;
+use fm_io_gates::{Meeting, Order, Recording};
 use fm_lanes::ValueKind;
 use fm_rule::{Pass, Pool};
 use fm_segment::Segment;

@@ -3,11 +3,11 @@ use Rattle.std.proofs.lemmas.List.Elements.{All-from_recursion}
 use Rattle.fm_base.specs.declared.arena_id.ArenaId.{ArenaId}
 use Rattle.fm_base.specs.declared.refusal.Refusal.{Refusal}
 use Rattle.fm_base.specs.declared.refusal.Refusal.TheVariants.{Memory, Ragged, WrongThread}
-use Rattle.fm_workers.specs.Crew.{callers}
-use Rattle.fm_workers.specs.Parts.{Answers, CanAsk}
+use Rattle.fm_workers_crew.specs.Crew.{callers}
+use Rattle.fm_workers.specs.Shares.{Answers, CanAsk}
 use Rattle.fm_workers.specs.Query.{QueriedWith}
-use Rattle.fm_workers.proofs.Callers.{worked_by_callers}
-use Rattle.fm_workers.proofs.Asked.{answers_few, bytes_small, can_ask_runs, runs_same}
+use Rattle.fm_workers_crew.proofs.Callers.{worked_by_callers}
+use Rattle.fm_workers.proofs.Asked.{answers_few, bytes_small, can_ask_shares, shares_same}
 use Rattle.fm_workers.proofs.Queried.{even_of, open_to_all, queried, queried_none, queried_refused}
 use Rattle.fm_workers.proofs.query.query_with.Goals as goal
 
@@ -32,31 +32,31 @@ returns-in-Err-clause-queried g c =
 
 pub work_crew-requires-clause-can : goal.work_crew-requires-clause-can
 work_crew-requires-clause-can g c κs within =
-    All-from_recursion (CanAsk c.args.q.now c.args.pass.now) c.in-Ok.parts.items
-    (can_ask_runs c.args.q.now c.args.pass.now c.args.s.now 0 (c.args.s.now.size / c.args.q.now.size) c.in-Ok.parts.items c.record_size.ensures.plan
+    All-from_recursion (CanAsk c.args.q.now c.args.pass.now) c.in-Ok.shares.items
+    (can_ask_shares c.args.q.now c.args.pass.now c.args.s.now 0 (c.args.s.now.size / c.args.q.now.size) c.in-Ok.shares.items c.record_size.ensures.plan
     c.requires.known c.requires.aligned (omega arith) c.in-Ok.ensures.cut)
 
-pub join_parts-requires-clause-few : goal.join_parts-requires-clause-few
-join_parts-requires-clause-few g c =
+pub join_shares-requires-clause-few : goal.join_shares-requires-clause-few
+join_shares-requires-clause-few g c =
     let w = c.in-Ok-work_crew.ensures.worked in
-    answers_few c.args.q.now w.crew.more (callers w.crew.crew) c.in-Ok.parts.items c.work_crew.new.tasks.items (worked_by_callers (Answers c.args.q.now) w)
+    answers_few c.args.q.now w.crew.more (callers w.crew.crew) c.in-Ok.shares.items c.work_crew.new.tasks.items (worked_by_callers (Answers c.args.q.now) w)
 
-pub join_parts-requires-clause-small : goal.join_parts-requires-clause-small
-join_parts-requires-clause-small g c =
+pub join_shares-requires-clause-small : goal.join_shares-requires-clause-small
+join_shares-requires-clause-small g c =
     let w = c.in-Ok-work_crew.ensures.worked in
-    let runs = runs_same c.args.q.now c.args.s.now 0 (c.args.s.now.size / c.args.q.now.size) w.crew.more (callers w.crew.crew) c.in-Ok.parts.items
+    let shares = shares_same c.args.q.now c.args.s.now 0 (c.args.s.now.size / c.args.q.now.size) w.crew.more (callers w.crew.crew) c.in-Ok.shares.items
     c.work_crew.new.tasks.items (worked_by_callers (Answers c.args.q.now) w) c.in-Ok.ensures.cut in
-    bytes_small c.args.q.now c.args.s.now c.work_crew.new.tasks.items runs c.size.ensures.ends
+    bytes_small c.args.q.now c.args.s.now c.work_crew.new.tasks.items shares c.size.ensures.ends
 
 pub returns-in-Ok-work_crew-clause-queried : goal.returns-in-Ok-work_crew-clause-queried
 returns-in-Ok-work_crew-clause-queried g c =
     let w = c.in-Ok-work_crew.ensures.worked in
     let shared = open_to_all c.args.q.now c.args.s.now c.size.result c.record_size.result c.arena.result c.size.ensures.size c.record_size.ensures.size
     c.if-rest-ne0.false c.arena.ensures (c.is_confined.ensures.no c.if-is_confined.false) in
-    let runs = runs_same c.args.q.now c.args.s.now 0 (c.args.s.now.size / c.args.q.now.size) w.crew.more (callers w.crew.crew) c.in-Ok.parts.items
+    let shares = shares_same c.args.q.now c.args.s.now 0 (c.args.s.now.size / c.args.q.now.size) w.crew.more (callers w.crew.crew) c.in-Ok.shares.items
     c.work_crew.new.tasks.items (worked_by_callers (Answers c.args.q.now) w) c.in-Ok.ensures.cut in
-    queried w c.record_size.ensures.plan c.in-Ok.ensures.cut c.in-Ok.ensures.level c.in-Ok.ensures.count shared c.requires.known c.join_parts.result
-    c.join_parts.ensures.comes c.join_parts.ensures.few runs
+    queried w c.record_size.ensures.plan c.in-Ok.ensures.cut c.in-Ok.ensures.level c.in-Ok.ensures.count shared c.requires.known c.join_shares.result
+    c.join_shares.ensures.comes c.join_shares.ensures.few shares
 
 pub returns-in-Err-work_crew-clause-queried : goal.returns-in-Err-work_crew-clause-queried
 returns-in-Err-work_crew-clause-queried g c =

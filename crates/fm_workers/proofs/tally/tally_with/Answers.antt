@@ -6,7 +6,7 @@ use Rattle.fm_base.specs.declared.refusal.Refusal.{Refusal}
 use Rattle.fm_base.specs.declared.refusal.Refusal.TheVariants.{Memory, Ragged, Unsupported, WrongThread}
 use Rattle.fm_workers.specs.Tallies.{CanTally, SumsTo, Tallying}
 use Rattle.fm_workers.specs.Tally.{TalliedWith}
-use Rattle.fm_workers.proofs.Asked.{can_ask_runs}
+use Rattle.fm_workers.proofs.Asked.{can_ask_shares}
 use Rattle.fm_workers.proofs.Queried.{even_of}
 use Rattle.fm_workers.proofs.Tallied.{can_be_tallied, tallied, tallied_none, tallied_refused}
 use Rattle.fm_workers.proofs.Tallying.{can_tally_all}
@@ -54,10 +54,10 @@ work_crew-requires-clause-can g c κs within =
     (λ q. c.is_confined.ensures.no c.if-is_confined.false (ap (λ (a : ArenaId). a.kind) c.arena.ensures ∙ q)) in
     let apart : ¬ (c.args.counts.now.arena.kind ≡ Confined) =
     (λ q. c.is_confined-2.ensures.no c.if-is_confined-2.false (ap (λ (a : ArenaId). a.kind) c.arena-2.ensures ∙ q)) in
-    All-from_recursion (CanTally w c.args.pass.now) c.in-Ok.parts.items
-    (can_tally_all w c.args.pass.now c.args.s.now 0 (c.args.s.now.size / c.args.q.now.size) c.in-Ok.parts.items c.if-not-is_tally.ensures c.requires.known
+    All-from_recursion (CanTally w c.args.pass.now) c.in-Ok.shares.items
+    (can_tally_all w c.args.pass.now c.args.s.now 0 (c.args.s.now.size / c.args.q.now.size) c.in-Ok.shares.items c.if-not-is_tally.ensures c.requires.known
     anyone apart c.requires.longs c.in-Ok.ensures.cut
-    (can_ask_runs c.args.q.now c.args.pass.now c.args.s.now 0 (c.args.s.now.size / c.args.q.now.size) c.in-Ok.parts.items c.record_size.ensures.plan
+    (can_ask_shares c.args.q.now c.args.pass.now c.args.s.now 0 (c.args.s.now.size / c.args.q.now.size) c.in-Ok.shares.items c.record_size.ensures.plan
     c.requires.query.known c.requires.query.aligned (omega arith) c.in-Ok.ensures.cut))
 
 pub returns-in-Ok-work_crew-clause-tallied : goal.returns-in-Ok-work_crew-clause-tallied

@@ -2,7 +2,7 @@ use Rattle.std.proofs.Common.{IfOk, ap, ◌∙◌, subst}
 use Rattle.fm_rule_calls.proofs.Going.{lasts_by, reached_by}
 use Rattle.fm_rule_facts.specs.Views.{View}
 use Rattle.fm_rule.specs.Draws.{Drawn}
-use Rattle.fm_workers.proofs.Drawing.{outside_drew, outside_new}
+use Rattle.fm_workers_crew.proofs.Drawing.{outside_drew, outside_new}
 use Rattle.fm_workers.specs.Asking.{known_later}
 use Rattle.fm_workers_tests.proofs.Known.{known_drew}
 use Rattle.fm_workers_tests.proofs.crews.gates.drawn.Goals as goal

@@ -1,0 +1,32 @@
+-- What a crew did, where all that counts of its passes are their callers.
+use Rattle.std.proofs.Common.{List, [], ◌∷◌, map, sym, subst, Ok}
+use Rattle.std.specs.Prelude.{⊤}
+use Rattle.fm_base.specs.declared.caller.Caller.{Caller}
+use Rattle.fm_base.specs.Calls.{Entry}
+use Rattle.fm_base.specs.Histories.{made_by}
+use Rattle.fm_base.specs.Finds.{Gathered}
+use Rattle.fm_rule_facts.specs.Splits.{as_gathered}
+use Rattle.fm_rule_facts.specs.Views.{View}
+use Rattle.fm_workers_crew.specs.Crew.{AreDone, CrewWorked, by_caller, callers}
+
+module _ {T : Type 0} (Does : Caller → T → T → List Entry → Type 0) (more : List Entry) where
+  -- Each task was done by a caller of its own, the first by the first
+  abbrev pub AreDoneBy : List Caller → List T → List T → Type 0
+  AreDoneBy [] [] [] = ⊤
+  AreDoneBy (c ∷ cs) (t ∷ ts) (u ∷ us) = Does c t u (made_by c more) × AreDoneBy cs ts us
+  AreDoneBy cs ts us = ⊥
+
+  done_by_passes : (ps : List View) (ts us : List T) → AreDone (by_caller Does) more ps ts us → AreDoneBy (callers (map as_gathered ps)) ts us
+  done_by_passes [] [] [] h = tt
+  done_by_passes (p ∷ ps) (t ∷ ts) (u ∷ us) h = (h.0, done_by_passes ps ts us h.1)
+  done_by_passes [] [] (u ∷ us) h = absurd h
+  done_by_passes [] (t ∷ ts) us h = absurd h
+  done_by_passes (p ∷ ps) [] us h = absurd h
+  done_by_passes (p ∷ ps) (t ∷ ts) [] h = absurd h
+
+-- What was gathered did so.
+pub worked_by_callers : {T : Type 0} (Does : Caller → T → T → List Entry → Type 0) {old new : View} {ts us : List T} {u : Unit {0}}
+    (w : CrewWorked (by_caller Does) old new ts us (Ok u)) → AreDoneBy Does w.crew.more (callers w.crew.crew) ts us
+worked_by_callers Does {ts = ts} {us = us} w =
+    subst (λ (gs : List Gathered). AreDoneBy Does w.crew.more (callers gs) ts us) (sym w.crew.are_passes)
+    (done_by_passes Does w.crew.more w.crew.passes ts us w.ends)

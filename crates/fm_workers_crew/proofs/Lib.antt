@@ -1,0 +1,9 @@
+pub mod Callers
+pub mod Drawing
+pub mod Gathering
+pub mod Orders
+pub mod Turning
+pub mod Wanting
+pub mod Wholes
+pub mod Workers
+pub mod Working

@@ -1,0 +1,194 @@
+ghost use Rattle.std.specs.Prelude.{◌≡◌, ◌+◌, ◌<◌, ◌≤◌, ◌++◌, ℕ, [], None, All, length, reverse, slice_index_or, vec_len, vec_capacity};
+ghost use Rattle.std.specs.List.{AllByRecursion};
+ghost use Rattle.fm_gate.specs.Standing.{IsOutside};
+ghost use Rattle.fm_workers_crew.specs.Crew.{CrewWorked};
+ghost use Rattle.fm_workers_crew.specs.Rounds.{AfterDraws, CalledUp, GatheredCrew, IsSpare, IsWorked, tasks_of};
+
+use crate::work::Work;
+use crate::worker::Worker;
+use fm_arena::Shared;
+use fm_base::Refusal;
+use fm_io::Gate;
+use fm_rule::{Pass, Pool};
+use std::alloc::Global;
+use std::sync::Wait;
+use std::thread;
+use std::thread::Threads;
+
+/// A pass for each task, the last task first. After a refusal the other tasks are left. Refused: `NoPass`.
+fn draw_crew<'a, R: Wait, T>(
+    rt: &R,
+    pool: &'a Pool,
+    pass: &mut Pass,
+    tasks: &mut Vec<T>,
+    crew: &mut Vec<Worker<'a, T>>,
+) -> Result<(), Refusal>
+    requires outside { IsOutside pool.now pass.old }
+    requires empty { crew.old.items ≡ [] }
+    requires room { vec_len tasks.old ≤ vec_capacity crew.old }
+    ensures drew { AfterDraws pass.old pass.new tasks.old.items tasks.new.items crew.new.items result }
+    ensures outside { IsOutside pool.now pass.new }
+    ensures count { vec_len tasks.new + vec_len crew.new ≡ vec_len tasks.old }
+{
+    while let Some(task) = tasks.pop() {
+        match pool.draw(rt, pass) {
+            Ok(drawn) => crew.push_reserved(Worker {
+                memory: Shared::new(pool, drawn),
+                task,
+                gap: [0; 16],
+            }),
+            Err(refusal) => {
+                tasks.push_reserved(task);
+                return Err(refusal);
+            }
+        }
+    }
+    Ok(())
+}
+
+/// A pass for each task, the last task first, where the last worker is the first drawn. After a refusal the other tasks
+/// are left. Refused: `NoPass`.
+fn call_up<'a, R: Wait, T>(
+    rt: &R,
+    pool: &'a Pool,
+    pass: &mut Pass,
+    tasks: &mut Vec<T>,
+    crew: &mut Vec<Worker<'a, T>>,
+) -> Result<(), Refusal>
+    requires outside { IsOutside pool.now pass.old }
+    requires empty { crew.old.items ≡ [] }
+    requires room { vec_len tasks.old ≤ vec_capacity crew.old }
+    ensures called { CalledUp pass.old pass.new tasks.old.items tasks.new.items crew.new.items result }
+    ensures outside { IsOutside pool.now pass.new }
+    ensures count { vec_len tasks.new + vec_len crew.new ≡ vec_len tasks.old }
+{
+    let drew = draw_crew(rt, pool, pass, tasks, crew);
+    crew.as_mut_slice().reverse();
+    drew
+}
+
+/// Moves all to the end of the other list, the last first.
+fn turn<T>(from: &mut Vec<T>, to: &mut Vec<T>)
+    requires room { vec_len to.old + vec_len from.old ≤ vec_capacity to.old }
+    ensures moved { to.new.items ≡ to.old.items ++ reverse from.old.items }
+    ensures none { from.new.items ≡ [] }
+    ensures count { vec_len to.new ≡ vec_len to.old + vec_len from.old }
+    ensures empty { vec_len from.new ≡ 0 }
+    ensures same_room { vec_capacity from.new ≡ vec_capacity from.old }
+{
+    while let Some(task) = from.pop() {
+        to.push_reserved(task);
+    }
+}
+
+/// Gathers all, and gives their tasks back, in the order in which `draw_crew` took them.
+fn gather_crew<T>(pool: &Pool, pass: &mut Pass, mut crew: Vec<Worker<T>>, tasks: &mut Vec<T>)
+    requires outside { IsOutside pool.now pass.old }
+    requires spare { AllByRecursion (λ w. IsSpare pool.now w.memory) crew.items }
+    requires room { vec_len tasks.old + vec_len crew ≤ vec_capacity tasks.old }
+    ensures gathered { GatheredCrew pass.old pass.new crew.entry.items }
+    ensures outside { IsOutside pool.now pass.new }
+    ensures tasks { tasks.new.items ≡ tasks.old.items ++ tasks_of crew.entry.items }
+    ensures count { vec_len tasks.new ≡ vec_len tasks.old + vec_len crew.entry }
+    ensures same_room { vec_capacity tasks.new ≡ vec_capacity tasks.old }
+{
+    while let Some(worker) = crew.pop() {
+        let Worker {
+            memory,
+            task,
+            gap: _,
+        } = worker;
+        pool.gather(pass, memory.into_pass());
+        tasks.push_reserved(task);
+    }
+    crew.destroy_empty();
+}
+
+/// The work of one, between the gate's calls. Workers are numbered in the order of their tasks.
+fn work_one<R: Wait, T, W: Work<T>, G: Gate>(
+    rt: &R,
+    alloc: Global,
+    gate: &G,
+    work: &W,
+    number: u32,
+    worker: &mut Worker<T>,
+)
+    requires outside { worker.old.memory.inside ≡ None }
+    requires can { W.can work.now worker.old.memory worker.old.task }
+    ensures { IsWorked (W.does work.now) worker.old worker.new }
+{
+    gate.before(rt, number, 0);
+    work.work(alloc, &mut worker.memory, &mut worker.task);
+    gate.after(number, 0);
+}
+
+/// The work of all, side by side.
+fn work_all<R: Threads + Wait + Sync, T: Send, W: Work<T>, G: Gate>(
+    rt: &R,
+    alloc: Global,
+    gate: &G,
+    work: &W,
+    crew: &mut [Worker<T>],
+)
+    requires { All (λ w. (w.memory.inside ≡ None) × W.can work.now w.memory w.task) crew.old }
+    ensures len { length crew.new ≡ length crew.old }
+    ensures worked { (i : ℕ) (d : _) → i < length crew.old
+        → IsWorked (W.does work.now) (slice_index_or crew.old i d) (slice_index_or crew.new i d) }
+{
+    // The last task's worker is the first of the list. No crew has more than 16, and the bounds serve the casts alone.
+    let last = crew.len().min(16) as u32;
+    thread::for_each_mut(
+        rt,
+        crew,
+        16,
+        &|place: usize, worker: &mut Worker<T>|
+            requires { (worker.now.memory.inside ≡ None) × W.can work.now worker.now.memory worker.now.task }
+            ensures { IsWorked (W.does work.entry.now) worker.entry.now worker.exit.now }
+        {
+            let number = last.saturating_sub(place.min(15) as u32);
+            work_one(rt, alloc, gate, work, number, worker)
+        },
+    );
+}
+
+/// Draws a pass for each task, for the first task first, lets all of them work side by side, each at its task between the gate's calls, and gathers
+/// them all again, after a refusal too. All memory is taken before the first draw. Workers are numbered from 1, in the
+/// order of their tasks; each has one call.
+///
+/// Refused, in this order: `Memory`, `NoPass`. Then no task was begun. Where no thread can be started, a worker's work is
+/// done by the caller's own.
+pub fn work_crew<R: Threads + Wait + Sync, T: Send, W: Work<T>, G: Gate>(
+    rt: &R,
+    alloc: Global,
+    pool: &Pool,
+    pass: &mut Pass,
+    work: &W,
+    tasks: &mut Vec<T>,
+    gate: &G,
+) -> Result<(), Refusal>
+    requires outside { IsOutside pool.now pass.old }
+    requires can { All (W.can work.now pass.old) tasks.old.items }
+    ensures worked { CrewWorked (W.does work.now) pass.old pass.new tasks.old.items tasks.new.items result }
+    ensures outside { IsOutside pool.now pass.new }
+{
+    let Ok(mut left) = Vec::with_capacity(alloc, tasks.len()) else {
+        return Err(Refusal::Memory);
+    };
+    let Ok(mut crew) = Vec::with_capacity(alloc, tasks.len()) else {
+        left.destroy_empty();
+        return Err(Refusal::Memory);
+    };
+    turn(tasks, &mut left);
+    if let Err(refusal) = call_up(rt, pool, pass, &mut left, &mut crew) {
+        gather_crew(pool, pass, crew, tasks);
+        turn(&mut left, tasks);
+        left.destroy_empty();
+        pool.whole(pass);
+        return Err(refusal);
+    }
+    left.destroy_empty();
+    work_all(rt, alloc, gate, work, crew.as_mut_slice());
+    gather_crew(pool, pass, crew, tasks);
+    pool.whole(pass);
+    Ok(())
+}

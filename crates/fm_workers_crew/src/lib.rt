@@ -1,0 +1,9 @@
+//! Crews of passes: drawn, run as threads, each at a task of its own, and gathered again.
+#![tactic(auto)]
+
+mod crew;
+mod work;
+mod worker;
+
+pub use crew::work_crew;
+pub use work::Work;
