@@ -3,8 +3,8 @@ use Rattle.fm_workers.specs.Asking.{known_later}
 use Rattle.fm_records.proofs.Few.{few_answer}
 use Rattle.fm_segment.specs.Access.{IsKnown}
 use Rattle.fm_rule_calls.specs.Told.{view_of_pass}
-use Rattle.std.proofs.Common.{◌≡◌, ℕ, ◌/◌, ◌%◌, ◌<◌, ◌≤◌, ◌^◌, List, [], length, refl, sym, ap, ◌∙◌, subst, arith, inl, inr, ⊎_elim, Result, Ok, Err, IfOk}
-use Rattle.std.specs.Prelude.{◌⊎◌, ⊤}
+use Rattle.std.proofs.Common.{◌≡◌, ℕ, ◌/◌, ◌%◌, ◌<◌, ◌≤◌, ◌^◌, List, [], length, refl, sym, ap, ◌∙◌, subst, arith, inl, inr, Result, Ok, Err}
+use Rattle.std.specs.Prelude.{⊤}
 use Rattle.std.specs.List.{AllByRecursion}
 use Rattle.std.proofs.lemmas.List.{length-map}
 use Rattle.fm_base.specs.declared.arena_id.ArenaId.{ArenaId}
@@ -31,7 +31,7 @@ use Rattle.fm_workers_shares.specs.Taking.{jobs_of}
 use Rattle.fm_workers_shares.proofs.Settling.{all_among}
 use Rattle.fm_workers_shares.proofs.Sharing.{IsAnsweredAt, answered_by}
 use Rattle.fm_records.proofs.Sharing.{shares_join}
-use Rattle.fm_workers.specs.Query.{OnlyReads, FoundClosed, HasAnswered, IsOpenToAll, EndsQuery, QueriedWith, WantedMemory}
+use Rattle.fm_workers.specs.Query.{OnlyReads, HasAnswered, IsOpenToAll, EndsQuery, QueriedWith}
 use Rattle.fm_workers.specs.Taking.{Asking, Takes}
 use Rattle.fm_workers_crew.proofs.Callers.{AreDoneBy, worked_by_callers}
 use Rattle.fm_workers.proofs.Asked.{idle_reads}

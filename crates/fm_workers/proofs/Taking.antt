@@ -1,5 +1,5 @@
 -- What takers did, each as a pass of its own.
-use Rattle.std.proofs.Common.{◌≡◌, ◌≢◌, ℕ, ◌+◌, ◌-◌, ◌*◌, ◌/◌, ◌%◌, ◌≤◌, List, [], ◌∷◌, ◌++◌, length, map, refl, sym, ap, ◌∙◌, subst, arith, inl, inr, ⊎_elim, append_assoc, Result, Ok, Err}
+use Rattle.std.proofs.Common.{◌≡◌, ◌≢◌, ℕ, ◌+◌, ◌-◌, ◌/◌, ◌%◌, List, [], ◌∷◌, ◌++◌, length, map, refl, sym, ap, ◌∙◌, subst, arith, inl, inr, ⊎_elim, append_assoc, Result, Ok, Err}
 use Rattle.std.specs.Prelude.{◌⊎◌}
 use Rattle.std.specs.List.{AllByRecursion, AllZip}
 use Rattle.std.proofs.Math.Nat.{mul-mod_left}
@@ -18,7 +18,6 @@ use Rattle.fm_rule_facts.specs.Views.{View}
 use Rattle.fm_segment.specs.Access.{IsKnown}
 use Rattle.fm_segment.specs.Region.{Region}
 use Rattle.fm_records_query.specs.Plan.{Plan}
-use Rattle.fm_records.specs.Query.{DoesQuery}
 use Rattle.fm_records.specs.Reads.{AreReads, StopsReading}
 use Rattle.fm_records.proofs.Visiting.{AreReads-append, AreReads-none, StopsReading-after}
 use Rattle.fm_workers_shares.specs.declared.taker.Done.{Done}
@@ -31,7 +30,7 @@ use Rattle.fm_workers_shares.specs.Taking.{DoesEach, EndsTaking, IsReady, TakesS
 use Rattle.fm_workers_shares.proofs.Ends.{both_ended}
 use Rattle.fm_workers_shares.proofs.Numbers.{run_fits, start_order, start_within}
 use Rattle.fm_workers_shares.proofs.Sharing.{IsAnsweredAt}
-use Rattle.fm_workers.specs.Query.{FoundClosed, HasAnswered, IsFirstRefused, IsRefused, OnlyReads, WantedMemory, reads, stops}
+use Rattle.fm_workers.specs.Query.{FoundClosed, HasAnswered, IsFirstRefused, OnlyReads, WantedMemory, reads, stops}
 use Rattle.fm_workers.specs.Taking.{Asking, CanTakeShares, Takes}
 use Rattle.fm_workers.proofs.Asked.{IsWithin, query_reads, reads_wider, stopped_by, stops_wider}
 use Rattle.fm_workers_crew.proofs.Callers.{AreDoneBy}

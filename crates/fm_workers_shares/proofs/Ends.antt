@@ -1,5 +1,5 @@
 -- What the takers' ends say of a batch.
-use Rattle.std.proofs.Common.{◌≡◌, ℕ, ◌+◌, ◌/◌, ◌<◌, List, [], ◌∷◌, ◌++◌, length, refl, sym, ap, ◌∙◌, subst, arith, inr, Result, Ok, Err, IfOk}
+use Rattle.std.proofs.Common.{◌≡◌, ℕ, ◌/◌, List, [], ◌∷◌, length, refl, ap, ◌∙◌, subst, arith, inr, Result, Ok, Err, IfOk}
 use Rattle.std.specs.Prelude.{IfErr}
 use Rattle.std.specs.List.{AllByRecursion}
 use Rattle.fm_base_lists.proofs.Each.{all_both}
@@ -8,7 +8,6 @@ use Rattle.fm_base.specs.declared.refusal.Refusal.{Refusal}
 use Rattle.fm_base.specs.declared.refusal.Refusal.TheVariants.{Memory}
 use Rattle.fm_base.specs.Calls.{Entry}
 use Rattle.fm_workers_jobs.specs.declared.account.Account.{Account}
-use Rattle.fm_workers_jobs.specs.declared.account.Role.TheVariants.{Giver}
 use Rattle.fm_workers_jobs.specs.declared.jobs.Jobs.{Jobs}
 use Rattle.fm_workers_jobs.specs.Turns.{CanSettle, HasAccount, IsGiver, IsSettled, IsTaker, Turn, account_of}
 use Rattle.fm_segment.specs.Region.{Region}
@@ -16,14 +15,14 @@ use Rattle.fm_records_query.specs.Plan.{Plan}
 use Rattle.fm_records.specs.declared.found.Found.{Found}
 use Rattle.fm_workers_shares.specs.declared.taker.Done.{Done}
 use Rattle.fm_workers_shares.specs.declared.taker.Taker.{Taker}
-use Rattle.fm_workers_shares.specs.Batches.{begun, nones}
+use Rattle.fm_workers_shares.specs.Batches.{begun}
 use Rattle.fm_workers_shares.specs.Finishing.{AreAllTaken, CanFinish, Finishes, HasTaken, answers_of}
 use Rattle.fm_workers_shares.specs.Joining.{CanJoinAll, joined_all}
-use Rattle.fm_workers_shares.specs.Placing.{Slot, absorbed, all_done, end_of, or_later, placed}
+use Rattle.fm_workers_shares.specs.Placing.{Slot, absorbed, all_done, end_of, or_later}
 use Rattle.fm_workers_shares.specs.Shares.{many_of}
 use Rattle.fm_workers_shares.specs.Taking.{DoesEach, EndsTaking}
 use Rattle.fm_workers_shares.proofs.Joins.{IsFoundAt, all_join}
-use Rattle.fm_workers_shares.proofs.Places.{AreAll, all_placed, length-nones, length-placed, role_absorbed}
+use Rattle.fm_workers_shares.proofs.Places.{all_placed, role_absorbed}
 use Rattle.fm_workers_shares.proofs.Settling.{HasEnded, all_among, all_taken, out_absorbed}
 
 pub both_ended : (r later : Result (Unit {0}) Refusal) → or_later r later ≡ Ok tt → (r ≡ Ok tt) × (later ≡ Ok tt)

@@ -1,5 +1,5 @@
 -- Answers joined from the last share to the first.
-use Rattle.std.proofs.Common.{◌≡◌, ℕ, ◌+◌, ◌-◌, ◌*◌, ◌/◌, ◌<◌, ◌≤◌, ◌^◌, List, [], ◌∷◌, ◌++◌, length, Option, Some, None, refl, sym, ap, ◌∙◌, subst, arith, Result, Ok, Err, IfOk}
+use Rattle.std.proofs.Common.{◌≡◌, ℕ, ◌+◌, ◌-◌, ◌*◌, ◌/◌, ◌≤◌, ◌^◌, List, [], ◌∷◌, ◌++◌, length, Some, None, sym, ap, ◌∙◌, subst, arith, Result, Ok, Err, IfOk}
 use Rattle.std.proofs.Math.Nat.{mul-le-mul_right}
 use Rattle.fm_base.specs.declared.caller.Caller.{Caller}
 use Rattle.fm_base.specs.declared.refusal.Refusal.{Refusal}
@@ -7,8 +7,7 @@ use Rattle.fm_base.specs.Calls.{Entry}
 use Rattle.fm_segment.specs.Region.{Region}
 use Rattle.fm_records_query.specs.Plan.{IsPlan, Plan}
 use Rattle.fm_records.specs.declared.found.Found.{Found}
-use Rattle.fm_records.specs.Answers.{found_over}
-use Rattle.fm_records.specs.Few.{AreFew, Joins}
+use Rattle.fm_records.specs.Few.{AreFew}
 use Rattle.fm_records.specs.Joined.{joined}
 use Rattle.fm_records.specs.Query.{DoesQuery}
 use Rattle.fm_records.proofs.Few.{answers_few, few_join, nothing_few}

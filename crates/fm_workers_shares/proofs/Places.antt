@@ -1,6 +1,6 @@
 -- Answers put at their places, and which of them stand there.
-use Rattle.std.proofs.Common.{◌≡◌, ◌≢◌, ℕ, zero, suc, ◌+◌, ◌<◌, ◌≤◌, List, [], ◌∷◌, ◌++◌, length, set, Option, Some, None, refl, sym, ap, ◌∙◌, subst, arith, inl, inr, Ok, Err}
-use Rattle.std.specs.Prelude.{◌⊎◌, ⊤}
+use Rattle.std.proofs.Common.{◌≡◌, ℕ, zero, suc, ◌+◌, ◌<◌, ◌≤◌, List, [], ◌∷◌, ◌++◌, length, set, Some, None, refl, ap, ◌∙◌, subst, arith, inl, inr}
+use Rattle.std.specs.Prelude.{⊤}
 use Rattle.std.specs.List.{AllByRecursion}
 use Rattle.std.proofs.lemmas.List.{length-set}
 use Rattle.fm_base_lists.specs.Among.{IsAmong}
@@ -10,7 +10,7 @@ use Rattle.fm_workers_shares.specs.declared.taker.Done.{Done}
 use Rattle.fm_workers_shares.specs.declared.taker.Taker.{Taker}
 use Rattle.fm_workers_shares.specs.Batches.{nones}
 use Rattle.fm_workers_shares.specs.Joining.{IsAnswered}
-use Rattle.fm_workers_shares.specs.Placing.{Slot, absorbed, all_done, placed}
+use Rattle.fm_workers_shares.specs.Placing.{Slot, absorbed, placed}
 use Rattle.fm_workers_shares.specs.Taking.{jobs_of}
 
 pub placed-append : (slots : List Slot) (ds es : List Done) → placed slots (ds ++ es) ≡ placed (placed slots es) ds

@@ -1,5 +1,5 @@
 -- A taker answers a share, and then the next.
-use Rattle.std.proofs.Common.{◌≡◌, ℕ, ◌+◌, ◌-◌, ◌*◌, ◌/◌, ◌%◌, ◌≤◌, List, [], ◌∷◌, ◌++◌, map, None, Some, refl, sym, ap, ◌∙◌, subst, arith, inl, append_assoc, le_trans, Result, Ok, Err}
+use Rattle.std.proofs.Common.{◌≡◌, ℕ, ◌+◌, ◌-◌, ◌*◌, ◌/◌, ◌%◌, List, [], ◌∷◌, ◌++◌, None, Some, refl, sym, ap, ◌∙◌, subst, arith, inl, append_assoc, le_trans, Ok, Err}
 use Rattle.std.proofs.Math.Nat.{mul-mod_left, dvd-add}
 use Rattle.std.proofs.lemmas.List.{append-nil, map-append}
 use Rattle.std.proofs.lemmas.Nat.Gcd.{dvd_of_mod-eq-zero, mod-eq-zero_of_dvd, dvd_trans}
@@ -17,7 +17,6 @@ use Rattle.fm_workers_jobs.specs.Turns.{CanTake, HasAccount, account_of}
 use Rattle.fm_segment.specs.Region.{Region}
 use Rattle.fm_segment.proofs.Access.{known_still}
 use Rattle.fm_records_query.specs.Plan.{IsPlan, Plan}
-use Rattle.fm_records.specs.declared.found.Found.{Found}
 use Rattle.fm_records.specs.Learnt.{CanQuery}
 use Rattle.fm_records.specs.Query.{DoesQuery}
 use Rattle.fm_records.proofs.Visiting.{AreReads-none}

@@ -12,7 +12,6 @@ use Rattle.fm_workers_jobs.specs.Accounts.{taker}
 use Rattle.fm_workers_jobs.specs.Turns.{HasAccount}
 use Rattle.fm_segment.specs.Region.{Region}
 use Rattle.fm_records_query.specs.Plan.{Plan}
-use Rattle.fm_records.specs.declared.found.Found.{Found}
 use Rattle.fm_records.specs.Learnt.{CanQuery}
 use Rattle.fm_records.specs.Query.{DoesQuery}
 use Rattle.fm_workers_shares.specs.declared.taker.Done.{Done}

@@ -1,5 +1,5 @@
 use Rattle.std.proofs.Common.{refl}
-use Rattle.fm_workers_shares.proofs.Serving.{can_serve_on, can_take, served_more, served_none, took_refused, took_stop}
+use Rattle.fm_workers_shares.proofs.Serving.{can_serve_on, served_more, served_none, took_refused}
 use Rattle.fm_workers_shares.proofs.answering.take_shares.Goals as goal
 
 pub loop-init : goal.loop-init

@@ -1,4 +1,4 @@
-use Rattle.std.proofs.Common.{◌≡◌, ◌≤◌, length, vec_len, vec_capacity}
+use Rattle.std.proofs.Common.{◌≡◌, ◌≤◌, length, vec_capacity}
 use Rattle.std.specs.List.{AllByRecursion}
 use Rattle.fm_workers_jobs.specs.Turns.{HasAccount, account_of}
 use Rattle.fm_workers_shares.specs.Batches.{after_turns}

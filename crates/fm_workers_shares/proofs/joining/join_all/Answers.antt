@@ -1,4 +1,4 @@
-use Rattle.std.proofs.Common.{List, [], ◌∷◌, sym, subst}
+use Rattle.std.proofs.Common.{[], ◌∷◌, sym, subst}
 use Rattle.std.proofs.lemmas.List.{append-nil}
 use Rattle.fm_workers_shares.specs.Joining.{CanJoinAll}
 use Rattle.fm_workers_shares.specs.Placing.{Slot}
