@@ -194,7 +194,7 @@ as_many place k l items result own fs (next_turn {x = x} {xs = left} j first res
 as_many place k l items result own fs (short_turn first given apart h) e = absurd (apart e)
 
 -- one item alone
-item_one : (place : ℕ) (k l : List Seen) (x : Item) (result : Result (Unit {0}) Refusal) (own : List Seen) (fs : List Found)
+pub item_one : (place : ℕ) (k l : List Seen) (x : Item) (result : Result (Unit {0}) Refusal) (own : List Seen) (fs : List Found)
     → FindsAsked place k x.asked result own fs l → FindsItems place k (x ∷ []) result own fs l
 item_one place k l x (Ok u) own fs h = in_turn_one x own fs h
 item_one place k l x (Err r) own fs h = short_turn own fs (λ e. cc) h

@@ -2,6 +2,7 @@ pub mod Adding
 pub mod AnsweringBytes
 pub mod Behind
 pub mod ByWords
+pub mod Columns
 pub mod Covering
 pub mod Ends
 pub mod Few

@@ -32,7 +32,7 @@ use Rattle.fm_records.proofs.Visiting.{AreReads-none}
 abbrev Tested : Region → ℕ → List Condition → List Seen → View → View → Result Bool Refusal → List Seen → Type 0
 Tested s place cs start old now result k = Sees old now s (λ r own. TestsConditions place start cs r own k) result
 
-abbrev Recorded : Region → Plan → ℕ → View → View → List Found → List Found → Result (Unit {0}) Refusal → Type 0
+abbrev pub Recorded : Region → Plan → ℕ → View → View → List Found → List Found → Result (Unit {0}) Refusal → Type 0
 Recorded s p place old new fs gs result = Reads old new s (λ c. AddsRecords c s.arena p (place ∷ []) fs gs) result
 
 module _ (s : Region) (p : Plan) (place : ℕ) {cs : List Condition} (conditions : cs ≡ p.conditions) {start : List Seen} (none : start ≡ []) where

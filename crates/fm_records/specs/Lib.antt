@@ -2,6 +2,7 @@ pub mod Adds
 pub mod Alone
 pub mod Answers
 pub mod Bytes
+pub mod Column
 pub mod Few
 pub mod Joined
 pub mod Kept

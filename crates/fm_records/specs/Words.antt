@@ -81,6 +81,10 @@ abbrev pub kept_last : List Seen → Seen → List Seen
 kept_last [] x = x ∷ []
 kept_last (a ∷ more) x = x ∷ a ∷ []
 
+-- none: a value that is alone in its record is read once anyway
+abbrev pub kept_none : List Seen → Seen → List Seen
+kept_none kept x = []
+
 -- one after the other
 abbrev pub kept_after : (List Seen → Seen → List Seen) → List Seen → List Seen → List Seen
 kept_after keeps kept [] = kept

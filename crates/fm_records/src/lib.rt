@@ -1,7 +1,9 @@
 //! What queries over records answer: for each item a count, a sum, a least or greatest number, or all numbers.
 #![tactic(auto)]
 
+mod adder;
 mod answer;
+mod column;
 mod found;
 mod laws;
 mod numbers;

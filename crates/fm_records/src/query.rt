@@ -1,10 +1,10 @@
-ghost use Rattle.std.specs.Prelude.{◌/◌};
 ghost use Rattle.fm_records.specs.Few.{AreFew};
-ghost use Rattle.fm_records.specs.Adds.{AddsRecords};
+ghost use Rattle.fm_records.specs.Column.{AddsSegment};
 ghost use Rattle.fm_records.specs.Learnt.{CanQuery, Queried};
-ghost use Rattle.fm_records.specs.Reads.{CanRead, Reads, record_places};
+ghost use Rattle.fm_records.specs.Reads.{CanRead};
 
 use crate::answer::{Answer, of_no_records};
+use crate::column::{add_column, column_of};
 use crate::found::Found;
 use crate::record::add_record;
 use crate::words::Kept;
@@ -58,9 +58,24 @@ fn add_records<M: Memory>(
 ) -> Result<(), Refusal>
     requires can { CanRead (M.view m.old) s.now }
     requires few { AreFew 0 q.now found.old }
-    ensures { Reads (M.view m.old) (M.view m.new) s.now
-        (λ c. AddsRecords c s.now.arena q.now (record_places (s.now.size / q.now.size) q.now.size s.now.first)
-        found.old found.new) result }
+    ensures { AddsSegment (M.view m.old) (M.view m.new) s.now q.now found.old found.new result }
+{
+    match column_of(q) {
+        Some(path) => add_column(m, s, q, path, &mut found[0]),
+        None => add_each(m, s, q, found),
+    }
+}
+
+/// The same, record by record.
+fn add_each<M: Memory>(
+    m: &mut M,
+    s: &Segment,
+    q: &Query,
+    found: &mut [Found],
+) -> Result<(), Refusal>
+    requires can { CanRead (M.view m.old) s.now }
+    requires few { AreFew 0 q.now found.old }
+    ensures { AddsSegment (M.view m.old) (M.view m.new) s.now q.now found.old found.new result }
 {
     let size = q.record_size();
     let count = s.size() / size;

@@ -8,6 +8,7 @@ ghost use Rattle.fm_records.specs.Reads.{CanRead, GetsNumber, LiesIn, Sees, or_c
 ghost use Rattle.fm_records.specs.Rows.{words_of};
 ghost use Rattle.fm_records.specs.Words.{Seen, across, kept_last, number_of};
 
+use crate::adder::{Adder, Greatest, Least, Total};
 use crate::found::Found;
 use crate::words::{Keep, Last, fetch, learn};
 use fm_base::{Memory, Refusal};
@@ -174,25 +175,25 @@ pub(crate) fn add_value<M: Memory, K: Keep>(
     }
 }
 
-/// The same, of a value of this kind.
+/// The same, of a value of this kind, by what is asked of it.
 #[inline(always)]
-fn add_value_as<M: Memory>(
+pub(crate) fn add_value_as<M: Memory, K: Keep, A: Adder>(
     m: &mut M,
     s: &Segment,
     place: u64,
     at: u64,
     kind: ValueKind,
     value: &ValueSpec,
-    last: &mut Last,
-    found: &mut Found,
+    kept: &mut K,
+    adder: &mut A,
 ) -> Result<(), Refusal>
-    requires can { CanAddAll (M.view m.old) s.now place at [] value.now found.old }
+    requires can { CanAddAll (M.view m.old) s.now place at [] value.now (A.found adder.old) }
     requires kind { kind ≡ value.now.kind }
-    ensures { AddsAll kept_last (M.view m.old) (M.view m.new) s.now place at [] value.now
-        (words_of last.old) (words_of last.new) found.old found.new result }
+    ensures { AddsAll K.keeps (M.view m.old) (M.view m.new) s.now place at [] value.now (K.kept kept.old) (K.kept kept.new)
+        (A.found adder.old) (A.found adder.new) result }
 {
-    match number_as(m, s, place + at, kind, value, last) {
-        Some(number) => found.add_number(number),
+    match number_as(m, s, place + at, kind, value, kept) {
+        Some(number) => adder.add(number),
         None => Err(Refusal::Closed),
     }
 }
@@ -261,7 +262,7 @@ fn add_rows<M: Memory>(
 
 /// The same for one dim: the values side by side, with no call for a value or a row, and a loop for each kind of value.
 #[inline(always)]
-fn add_row<M: Memory>(
+fn add_row<M: Memory, A: Adder>(
     m: &mut M,
     s: &Segment,
     place: u64,
@@ -269,14 +270,14 @@ fn add_row<M: Memory>(
     dim: Dim,
     value: &ValueSpec,
     last: &mut Last,
-    found: &mut Found,
+    adder: &mut A,
 ) -> Result<(), Refusal>
-    requires { CanAddAll (M.view m.old) s.now place at (dim ∷ []) value.now found.old }
+    requires { CanAddAll (M.view m.old) s.now place at (dim ∷ []) value.now (A.found adder.old) }
     ensures { AddsAll kept_last (M.view m.old) (M.view m.new) s.now place at (dim ∷ []) value.now
-        (words_of last.old) (words_of last.new) found.old found.new result }
+        (words_of last.old) (words_of last.new) (A.found adder.old) (A.found adder.new) result }
 {
     match value.kind {
-        ValueKind::Byte => add_row_as(m, s, place, at, dim, ValueKind::Byte, value, last, found),
+        ValueKind::Byte => add_row_as(m, s, place, at, dim, ValueKind::Byte, value, last, adder),
         ValueKind::Boolean => add_row_as(
             m,
             s,
@@ -286,16 +287,43 @@ fn add_row<M: Memory>(
             ValueKind::Boolean,
             value,
             last,
-            found,
+            adder,
         ),
-        ValueKind::Char => add_row_as(m, s, place, at, dim, ValueKind::Char, value, last, found),
-        ValueKind::Short => add_row_as(m, s, place, at, dim, ValueKind::Short, value, last, found),
-        ValueKind::Int => add_row_as(m, s, place, at, dim, ValueKind::Int, value, last, found),
-        ValueKind::Long => add_row_as(m, s, place, at, dim, ValueKind::Long, value, last, found),
+        ValueKind::Char => add_row_as(m, s, place, at, dim, ValueKind::Char, value, last, adder),
+        ValueKind::Short => add_row_as(m, s, place, at, dim, ValueKind::Short, value, last, adder),
+        ValueKind::Int => add_row_as(m, s, place, at, dim, ValueKind::Int, value, last, adder),
+        ValueKind::Long => add_row_as(m, s, place, at, dim, ValueKind::Long, value, last, adder),
     }
 }
 
-/// A row by itself, whose last two words nobody else has.
+/// The loop for one kind.
+#[inline(always)]
+fn add_row_as<M: Memory, A: Adder>(
+    m: &mut M,
+    s: &Segment,
+    place: u64,
+    at: u64,
+    dim: Dim,
+    kind: ValueKind,
+    value: &ValueSpec,
+    last: &mut Last,
+    adder: &mut A,
+) -> Result<(), Refusal>
+    requires can { CanAddAll (M.view m.old) s.now place at (dim ∷ []) value.now (A.found adder.old) }
+    requires kind { kind ≡ value.now.kind }
+    ensures { AddsAll kept_last (M.view m.old) (M.view m.new) s.now place at (dim ∷ []) value.now
+        (words_of last.old) (words_of last.new) (A.found adder.old) (A.found adder.new) result }
+{
+    for i in 0..dim.bound {
+        match add_value_as(m, s, place, reach_of(at, dim, i), kind, value, last, adder) {
+            Ok(()) => {}
+            Err(refusal) => return Err(refusal),
+        }
+    }
+    Ok(())
+}
+
+/// A row by itself, whose last two words nobody else has: what is asked is told apart before its values are read.
 pub(crate) fn add_one_row<M: Memory>(
     m: &mut M,
     s: &Segment,
@@ -309,100 +337,47 @@ pub(crate) fn add_one_row<M: Memory>(
     ensures { (last : List Seen) × AddsAll kept_last (M.view m.old) (M.view m.new) s.now place at (dim ∷ []) value.now
         [] last found.old found.new result }
 {
-    let mut last = Last::None;
-    match value.kind {
-        ValueKind::Byte => add_row_as(
-            m,
-            s,
-            place,
-            at,
-            dim,
-            ValueKind::Byte,
-            value,
-            &mut last,
-            found,
-        ),
-        ValueKind::Boolean => add_row_as(
-            m,
-            s,
-            place,
-            at,
-            dim,
-            ValueKind::Boolean,
-            value,
-            &mut last,
-            found,
-        ),
-        ValueKind::Char => add_row_as(
-            m,
-            s,
-            place,
-            at,
-            dim,
-            ValueKind::Char,
-            value,
-            &mut last,
-            found,
-        ),
-        ValueKind::Short => add_row_as(
-            m,
-            s,
-            place,
-            at,
-            dim,
-            ValueKind::Short,
-            value,
-            &mut last,
-            found,
-        ),
-        ValueKind::Int => add_row_as(
-            m,
-            s,
-            place,
-            at,
-            dim,
-            ValueKind::Int,
-            value,
-            &mut last,
-            found,
-        ),
-        ValueKind::Long => add_row_as(
-            m,
-            s,
-            place,
-            at,
-            dim,
-            ValueKind::Long,
-            value,
-            &mut last,
-            found,
-        ),
+    match found {
+        Found::Count(_) => add_row_alone(m, s, place, at, dim, value, found),
+        Found::Sum(sum) => {
+            let mut total = Total { sum: *sum };
+            let result = add_row_alone(m, s, place, at, dim, value, &mut total);
+            *sum = total.sum;
+            result
+        }
+        Found::Least(least) => {
+            let mut end = Least { least: *least };
+            let result = add_row_alone(m, s, place, at, dim, value, &mut end);
+            *least = end.least;
+            result
+        }
+        Found::Greatest(greatest) => {
+            let mut end = Greatest {
+                greatest: *greatest,
+            };
+            let result = add_row_alone(m, s, place, at, dim, value, &mut end);
+            *greatest = end.greatest;
+            result
+        }
+        Found::Listed(numbers) => add_row_alone(m, s, place, at, dim, value, numbers),
     }
 }
 
-/// The loop for one kind.
+/// The same, by what is asked.
 #[inline(always)]
-fn add_row_as<M: Memory>(
+fn add_row_alone<M: Memory, A: Adder>(
     m: &mut M,
     s: &Segment,
     place: u64,
     at: u64,
     dim: Dim,
-    kind: ValueKind,
     value: &ValueSpec,
-    last: &mut Last,
-    found: &mut Found,
+    adder: &mut A,
 ) -> Result<(), Refusal>
-    requires can { CanAddAll (M.view m.old) s.now place at (dim ∷ []) value.now found.old }
-    requires kind { kind ≡ value.now.kind }
-    ensures { AddsAll kept_last (M.view m.old) (M.view m.new) s.now place at (dim ∷ []) value.now
-        (words_of last.old) (words_of last.new) found.old found.new result }
+    requires { CanAddAll (M.view m.old) s.now place at (dim ∷ []) value.now (A.found adder.old) }
+    ensures { (last : List Seen) × AddsAll kept_last (M.view m.old) (M.view m.new) s.now place at (dim ∷ []) value.now
+        [] last (A.found adder.old) (A.found adder.new) result }
 {
-    for i in 0..dim.bound {
-        match add_value_as(m, s, place, reach_of(at, dim, i), kind, value, last, found) {
-            Ok(()) => {}
-            Err(refusal) => return Err(refusal),
-        }
-    }
-    Ok(())
+    let mut last = Last::None;
+    add_row(m, s, place, at, dim, value, &mut last, adder)
 }

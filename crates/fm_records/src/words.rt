@@ -136,6 +136,27 @@ impl Keep for Last {
     }
 }
 
+/// Nothing: a value that is alone in its record is read once anyway.
+#[derive(Drop)]
+pub(crate) struct Nothing;
+
+impl Keep for Nothing {
+    ghost use Rattle.std.specs.Prelude.{[]};
+    ghost use Rattle.fm_records.specs.Words.{kept_none};
+
+    ghost kept = { λ nothing. [] };
+
+    ghost keeps = { kept_none };
+
+    #[inline(always)]
+    fn find(&self, word: u64) -> Option<u64> {
+        None
+    }
+
+    #[inline(always)]
+    fn keep(&mut self, word: u64, found: u64) {}
+}
+
 fn found_if(is: bool, found: u64) -> Option<u64>
     ensures yes { is ≡ true → result ≡ Some found }
     ensures no { is ≡ false → result ≡ None }

@@ -1,5 +1,5 @@
 -- An item's values are read, or there are none.
-use Rattle.std.proofs.Common.{length, refl, sym, ap, ◌∙◌, subst}
+use Rattle.std.proofs.Common.{length, sym, ap, ◌∙◌, subst}
 use Rattle.std.proofs.lemmas.Bool.{eqb-true, eqb-false}
 use Rattle.fm_path.specs.Wide.{wide_dims}
 use Rattle.fm_records.specs.Paths.{CanAddAll}

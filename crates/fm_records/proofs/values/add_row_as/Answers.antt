@@ -15,11 +15,11 @@ add_value_as-requires-clause-can g c = turn_can c.requires.can c.loop-i.invarian
 
 pub returns-in-Err : goal.returns-in-Err
 returns-in-Err g c =
-    turn_stops c.requires.can c.loop-i.invariant c.loop-i-test.true c.reach_of.ensures c.add_value_as.new.found c.in-Err.refusal c.in-Err.ensures
+    turn_stops c.requires.can c.loop-i.invariant c.loop-i-test.true c.reach_of.ensures (g.A.Adder.found c.add_value_as.new.adder) c.in-Err.refusal c.in-Err.ensures
 
 pub loop-i-preserved : goal.loop-i-preserved
 loop-i-preserved g c =
-    turn_added c.requires.can c.loop-i.invariant c.loop-i-test.true c.reach_of.ensures c.add_value_as.new.found c.in-Ok.field-0 c.in-Ok.ensures
+    turn_added c.requires.can c.loop-i.invariant c.loop-i-test.true c.reach_of.ensures (g.A.Adder.found c.add_value_as.new.adder) c.in-Ok.field-0 c.in-Ok.ensures
 
 pub returns : goal.returns
 returns g c = added_all c.loop-i.invariant (omega arith)
