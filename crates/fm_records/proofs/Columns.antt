@@ -1,5 +1,5 @@
 -- Values that are alone in their records, one record after the other.
-use Rattle.std.proofs.Common.{◌≡◌, ℕ, ◌+◌, true, Result, Ok, Err, List, [], ◌∷◌, get_or, refl, sym, ap, subst}
+use Rattle.std.proofs.Common.{◌≡◌, ℕ, zero, suc, ◌+◌, ◌*◌, ◌/◌, ◌≤◌, true, Result, Ok, Err, List, [], ◌∷◌, get_or, refl, sym, ap, subst, arith}
 use Rattle.std.specs.Prelude.{ℤ}
 use Rattle.std.specs.List.{AllByRecursion, AllZip}
 use Rattle.fm_base.specs.declared.refusal.Refusal.{Refusal}
@@ -10,18 +10,23 @@ use Rattle.fm_path.specs.declared.value_spec.ValueSpec.{ValueSpec}
 use Rattle.fm_segment.specs.Region.{Region}
 use Rattle.fm_records_query.specs.Plan.{Plan}
 use Rattle.fm_records_query.specs.declared.condition.Condition.{Condition}
+use Rattle.fm_records_query.specs.declared.item.Asked.{Asked}
+use Rattle.fm_records_query.specs.declared.item.Asked.TheVariants as asked
 use Rattle.fm_records_query.specs.declared.item.Item.{Item}
 use Rattle.fm_records.specs.declared.found.Found.{Found}
+use Rattle.fm_records.specs.declared.found.Found.TheVariants.{Count}
 use Rattle.fm_records.specs.Adds.{AddsItem, AddsItems, AddsNumbers, IsItemReadable}
-use Rattle.fm_records.specs.Column.{IsColumn}
+use Rattle.fm_records.specs.Column.{AddsSegment, AddsUnread, IsColumn, IsCounted}
+use Rattle.fm_records.specs.Joined.{both}
 use Rattle.fm_records.specs.Few.{AreFew, HaveRoom, IsFew, IsOpen}
 use Rattle.fm_records.specs.Paths.{AddsAll, CanAddAll}
 use Rattle.fm_records.specs.Reads.{CanRead, LiesIn, TakesNumber, TakesNumbers, TestsConditions, next_turn, no_turn, short_turn}
+use Rattle.fm_records.specs.Texts.{IsFoundOf}
 use Rattle.fm_records.specs.Words.{Seen, kept_after, kept_all, kept_none}
 use Rattle.fm_records.proofs.Few.{plan_items_open}
-use Rattle.fm_records.proofs.Items.{item_can, item_closed, item_one}
+use Rattle.fm_records.proofs.Items.{item_can, item_closed, item_counted, item_one}
 use Rattle.fm_records.proofs.Plans.{plan_items_readable}
-use Rattle.fm_records.proofs.Recording.{Recorded, record_chosen}
+use Rattle.fm_records.proofs.Recording.{AreRecorded, Recorded, record_chosen, recorded_all, recorded_more, recorded_none}
 use Rattle.fm_records.proofs.Seeing.{sees_as, sees_none}
 
 -- ---- what is kept of a value that is alone changes nothing
@@ -88,7 +93,57 @@ module _ {s : Region} {p : Plan} {r : Resolution} {place : ℕ} (is : IsColumn p
       let tested = subst (λ (cs : List Condition). TestsConditions place [] cs (Ok true) [] []) (sym is.conditions) no_turn in
       record_chosen s p place refl refl (f ∷ []) (g ∷ []) result (sym is.items) refl (sees_none old s true tested) items
 
+-- ---- records that are counted
+
+module _ {s : Region} {p : Plan} (is : IsCounted p) where
+  -- one
+  counted_one : (v : View) (place m : ℕ) → Recorded s p place v v (Count m ∷ []) (Count (m + 1) ∷ []) (Ok (tt {0}))
+  counted_one v place m =
+      let item = item_counted v s place [] is.item.asked (Count m) (Count (m + 1)) is.asked refl in
+      let items = sees_as (AddsItem place [] is.item.asked (Count m) (Count (m + 1)) [])
+      (AddsItems place [] (is.item ∷ []) (Count m ∷ []) (Count (m + 1) ∷ []) []) (Ok (tt {0})) item (λ h. record {
+        found = h.found ∷ [];
+        finds = item_one place [] [] is.item (Ok tt) item.does.seen (h.found ∷ []) h.finds;
+        added = ap (λ x. x ∷ []) h.added;
+      }) in
+      let tested = subst (λ (cs : List Condition). TestsConditions place [] cs (Ok true) [] []) (sym is.conditions) no_turn in
+      record_chosen s p place refl refl (Count m ∷ []) (Count (m + 1) ∷ []) (Ok (tt {0})) (sym is.items) refl (sees_none v s true tested) items
+
+  -- the first k
+  counted_to : (v : View) (m k : ℕ) → k ≤ s.size / p.size → AreRecorded v v s p k (Count m ∷ []) (Count (m + k) ∷ [])
+  counted_to v m zero within =
+      let none : m ≡ m + 0 = omega arith in
+      subst (λ (n : ℕ). AreRecorded v v s p 0 (Count m ∷ []) (Count n ∷ [])) none (recorded_none v s p (Count m ∷ []))
+  counted_to v m (suc k) within =
+      let sum : m + k + 1 ≡ m + suc k = omega arith in
+      let next : k + 1 ≡ suc k = omega arith in
+      subst (λ (n : ℕ). AreRecorded v v s p n (Count m ∷ []) (Count (m + suc k) ∷ [])) next
+      (subst (λ (n : ℕ). AreRecorded v v s p (k + 1) (Count m ∷ []) (Count n ∷ [])) sum
+      (recorded_more (counted_to v m k (omega (arith, within))) refl (omega (arith, within)) (counted_one v (s.first + k * p.size) (m + k))))
+
+  -- all
+  pub counted_all : (f g : Found) (n : ℕ) → n ≡ s.size / p.size → AreFew 0 p (f ∷ []) → g ≡ both f (Count n) → AddsUnread s p (f ∷ []) (g ∷ [])
+  counted_all f g n is_n few added v = by f (subst (λ (xs : List Item). AllZip (IsFew 0) xs (f ∷ [])) is.items few).0.kind added
+    where
+      by : (h : Found) → IsFoundOf is.item.asked h → g ≡ both h (Count n) → AddsSegment v v s p (h ∷ []) (g ∷ []) (Ok (tt {0}))
+      by h kind e = whole h (subst (λ (a : Asked). IsFoundOf a h) is.asked kind) e
+        where
+          whole : (x : Found) → IsFoundOf asked.Count x → g ≡ both x (Count n) → AddsSegment v v s p (x ∷ []) (g ∷ []) (Ok (tt {0}))
+          whole (Count m) k e =
+              subst (λ (y : Found). AddsSegment v v s p (Count m ∷ []) (y ∷ []) (Ok (tt {0}))) (sym e)
+              (recorded_all (counted_to v m n (omega (arith, is_n))) is_n)
+          whole x k e = absurd k
+
 -- ---- what is found at first
+
+-- a count alone
+pub counted_alone : {p : Plan} (fs : List Found) (e : Found) → IsCounted p → AreFew 0 p fs → fs ≡ get_or fs 0 e ∷ []
+counted_alone {p} fs e is few = alone fs (subst (λ (xs : List Item). AllZip (IsFew 0) xs fs) is.items few)
+  where
+    alone : (gs : List Found) → AllZip (IsFew 0) (is.item ∷ []) gs → gs ≡ get_or gs 0 e ∷ []
+    alone [] h = absurd h
+    alone (g ∷ []) h = refl
+    alone (g ∷ k ∷ gs) h = absurd h.1
 
 -- a query of one item finds one thing
 pub column_alone : {p : Plan} {r : Resolution} (fs : List Found) (e : Found) → IsColumn p r → AreFew 0 p fs → fs ≡ get_or fs 0 e ∷ []

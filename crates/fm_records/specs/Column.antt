@@ -1,5 +1,5 @@
--- A query that asks one thing of one value in each record: its values are a column.
-use Rattle.std.specs.Prelude.{◌≡◌, ◌/◌, List, [], ◌∷◌, Result}
+-- Queries of one item and no condition: the values of one path are a column, and records are counted without a look at them.
+use Rattle.std.specs.Prelude.{◌≡◌, ◌/◌, List, [], ◌∷◌, Result, Ok}
 use Rattle.fm_base.specs.declared.refusal.Refusal.{Refusal}
 use Rattle.fm_base.specs.View.{View}
 use Rattle.fm_path.specs.Resolution.{Resolution}
@@ -28,6 +28,18 @@ pub record IsColumn (p : Plan) (r : Resolution) : Type 0 where
   pub items : p.items ≡ item ∷ []
   pub asks : AsksOne item.asked r
 
+-- records are counted, and all of them
+pub record IsCounted (p : Plan) : Type 0 where
+  pub plan : IsPlan p
+  pub conditions : p.conditions ≡ []
+  pub item : Item
+  pub items : p.items ≡ item ∷ []
+  pub asked : item.asked ≡ asked.Count
+
 -- what all records of the segment give was added
 abbrev pub AddsSegment : View → View → Region → Plan → List Found → List Found → Result (Unit {0}) Refusal → Type 0
 AddsSegment old new s p fs gs result = Reads old new s (λ c. AddsRecords c s.arena p (record_places (s.size / p.size) p.size s.first) fs gs) result
+
+-- the same with no visit
+abbrev pub AddsUnread : Region → Plan → List Found → List Found → Type 0
+AddsUnread s p fs gs = (v : View) → AddsSegment v v s p fs gs (Ok (tt {0}))

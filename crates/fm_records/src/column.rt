@@ -1,5 +1,5 @@
-ghost use Rattle.std.specs.Prelude.{◌≡◌, ◌∷◌, [], IfSome};
-ghost use Rattle.fm_records.specs.Column.{AddsSegment, AsksOne, IsColumn};
+ghost use Rattle.std.specs.Prelude.{◌≡◌, ◌∷◌, [], true, IfSome};
+ghost use Rattle.fm_records.specs.Column.{AddsSegment, AddsUnread, AsksOne, IsColumn, IsCounted};
 ghost use Rattle.fm_records.specs.Few.{AreFew};
 ghost use Rattle.fm_records.specs.Reads.{CanRead};
 
@@ -12,6 +12,25 @@ use fm_lanes::ValueKind;
 use fm_path::Resolved;
 use fm_records_query::{Asked, Query};
 use fm_segment::Segment;
+
+/// Whether a query counts records, and all of them.
+pub(crate) fn is_count(q: &Query) -> bool
+    ensures { result ≡ true → IsCounted q.now }
+{
+    match (q.conditions(), q.items()) {
+        ([], [item]) => matches!(&item.asked, Asked::Count),
+        _ => false,
+    }
+}
+
+/// Adds all records of the segment to a count. None has to be read.
+pub(crate) fn add_count(s: &Segment, q: &Query, found: &mut Found)
+    requires counted { IsCounted q.now }
+    requires few { AreFew 0 q.now (found.old ∷ []) }
+    ensures { AddsUnread s.now q.now (found.old ∷ []) (found.new ∷ []) }
+{
+    found.add_records(s.size() / q.record_size());
+}
 
 /// The path of a query that asks one thing of one value in each record.
 pub(crate) fn column_of(q: &Query) -> Option<&Resolved>
@@ -43,6 +62,7 @@ fn one_of(asked: &Asked) -> Option<&Resolved>
 ///
 /// Refused: `Closed` at the first value that is read then, or `Memory` at the first number that can't be listed. Then the
 /// values before it are added.
+#[inline(never)]
 pub(crate) fn add_column<M: Memory>(
     m: &mut M,
     s: &Segment,
@@ -82,6 +102,7 @@ pub(crate) fn add_column<M: Memory>(
 }
 
 /// The same, by what is asked.
+#[inline(always)]
 fn add_column_to<M: Memory, A: Adder>(
     m: &mut M,
     s: &Segment,

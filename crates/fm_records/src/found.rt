@@ -76,13 +76,13 @@ impl Found {
         }
     }
 
-    /// Adds a chosen record to a count.
-    pub(crate) fn add_record(&mut self)
-        requires { HasRoom self.old 1 }
-        ensures { self.new ≡ both self.old (Count 1) }
+    /// Adds so many chosen records to a count.
+    pub(crate) fn add_records(&mut self, n: u64)
+        requires { HasRoom self.old n }
+        ensures { self.new ≡ both self.old (Count n) }
     {
         if let Found::Count(count) = self {
-            *count += 1;
+            *count += n;
         }
     }
 

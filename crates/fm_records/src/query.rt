@@ -4,7 +4,7 @@ ghost use Rattle.fm_records.specs.Learnt.{CanQuery, Queried};
 ghost use Rattle.fm_records.specs.Reads.{CanRead};
 
 use crate::answer::{Answer, of_no_records};
-use crate::column::{add_column, column_of};
+use crate::column::{add_column, add_count, column_of, is_count};
 use crate::found::Found;
 use crate::record::add_record;
 use crate::words::Kept;
@@ -60,6 +60,10 @@ fn add_records<M: Memory>(
     requires few { AreFew 0 q.now found.old }
     ensures { AddsSegment (M.view m.old) (M.view m.new) s.now q.now found.old found.new result }
 {
+    if is_count(q) {
+        add_count(s, q, &mut found[0]);
+        return Ok(());
+    }
     match column_of(q) {
         Some(path) => add_column(m, s, q, path, &mut found[0]),
         None => add_each(m, s, q, found),

@@ -42,6 +42,7 @@ pub(crate) fn chooses<M: Memory>(
 }
 
 /// Whether a condition holds for the record at a place; none where the arena is found closed.
+#[inline(always)]
 fn holds_at<M: Memory>(
     m: &mut M,
     s: &Segment,
@@ -79,6 +80,7 @@ fn compares(operator: Operator, x: i64, y: i64) -> bool
 ///
 /// Refused: `Closed` at the first value that is read then, or `Memory` at the first number that can't be listed. Then what
 /// the values before it come to is added.
+#[inline(always)]
 pub(crate) fn add_items<M: Memory>(
     m: &mut M,
     s: &Segment,
@@ -103,6 +105,7 @@ pub(crate) fn add_items<M: Memory>(
 }
 
 /// Adds what an item finds in a chosen record.
+#[inline(always)]
 fn add_item<M: Memory>(
     m: &mut M,
     s: &Segment,
@@ -119,7 +122,7 @@ fn add_item<M: Memory>(
 {
     match &item.asked {
         Asked::Count => {
-            found.add_record();
+            found.add_records(1);
             Ok(())
         }
         Asked::Of(_, path) => {
@@ -134,6 +137,7 @@ fn add_item<M: Memory>(
 
 /// Adds the values of a path in the record at a place, which may be none. It keeps its own last two words in place of the
 /// record's.
+#[inline(always)]
 fn add_open<M: Memory>(
     m: &mut M,
     s: &Segment,

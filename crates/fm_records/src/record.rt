@@ -14,6 +14,7 @@ use fm_segment::Segment;
 ///
 /// Refused: `Closed` at the first value that is read then, or `Memory` at the first number that can't be listed. Then what
 /// the values before it come to is added.
+#[inline(always)]
 pub(crate) fn add_record<M: Memory>(
     m: &mut M,
     s: &Segment,

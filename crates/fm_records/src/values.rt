@@ -92,6 +92,7 @@ fn number_inside<M: Memory, K: Keep>(
 }
 
 /// The same of a value in two words.
+#[inline(never)]
 fn number_across<M: Memory, K: Keep>(
     m: &mut M,
     s: &Segment,
@@ -324,6 +325,7 @@ fn add_row_as<M: Memory, A: Adder>(
 }
 
 /// A row by itself, whose last two words nobody else has: what is asked is told apart before its values are read.
+#[inline(always)]
 pub(crate) fn add_one_row<M: Memory>(
     m: &mut M,
     s: &Segment,

@@ -8,8 +8,8 @@ use Rattle.fm_records.proofs.querying.add_item.Goals as goal
 
 pub returns-in-Count : goal.returns-in-Count
 returns-in-Count g c =
-    item_counted (g.M.Memory.view c.args.m.now) c.args.s.now c.args.place c.args.kept.now c.args.item.now.asked c.args.found.now c.add_record.new.self
-    c.in-Count.is c.add_record.ensures
+    item_counted (g.M.Memory.view c.args.m.now) c.args.s.now c.args.place c.args.kept.now c.args.item.now.asked c.args.found.now c.add_records.new.self
+    c.in-Count.is c.add_records.ensures
 
 pub add_value-requires : goal.add_value-requires
 add_value-requires g c =
