@@ -1,18 +1,16 @@
-ghost use Rattle.std.specs.Prelude.{◌≡◌, IfOk, IfErr};
+ghost use Rattle.std.specs.Prelude.{◌≡◌, IfOk};
 ghost use Rattle.std.specs.String.{string_bytes};
 ghost use Rattle.fm_path_text.specs.Grammar.{piece_of, path_text};
 ghost use Rattle.fm_records_query.specs.Grammar.{item_text, condition_text};
 
 use crate::syntax::{ConditionSyntax, ItemSyntax};
 use crate::text::Text;
-use fm_base::Refusal;
 use fm_path::{NameText, PathStep};
-use std::alloc::Global;
+use std::alloc::{AllocError, Global};
 
 /// The item's text.
-pub fn item_text(alloc: Global, item: &ItemSyntax) -> Result<Text, Refusal>
-    ensures text { IfOk result (λ text. text ≡ item_text item.now) }
-    ensures memory { IfErr result (λ refusal. refusal ≡ Refusal.Memory) }
+pub fn item_text(alloc: Global, item: &ItemSyntax) -> Result<Text, AllocError>
+    ensures { IfOk result (λ text. text ≡ item_text item.now) }
 {
     match item {
         ItemSyntax::Count => Ok(Text::of(String::from_str(alloc, "count")?)),
@@ -25,9 +23,8 @@ pub fn item_text(alloc: Global, item: &ItemSyntax) -> Result<Text, Refusal>
 }
 
 /// The condition's text.
-pub fn condition_text(alloc: Global, condition: &ConditionSyntax) -> Result<Text, Refusal>
-    ensures text { IfOk result (λ text. text ≡ condition_text condition.now) }
-    ensures memory { IfErr result (λ refusal. refusal ≡ Refusal.Memory) }
+pub fn condition_text(alloc: Global, condition: &ConditionSyntax) -> Result<Text, AllocError>
+    ensures { IfOk result (λ text. text ≡ condition_text condition.now) }
 {
     let path = path_text(alloc, condition.path.as_slice())?;
     let operator = condition.operator.text();
@@ -35,9 +32,8 @@ pub fn condition_text(alloc: Global, condition: &ConditionSyntax) -> Result<Text
     Ok(Text::of(format!(in alloc; "{path}{operator}{literal}")?))
 }
 
-fn path_text(alloc: Global, path: &[PathStep]) -> Result<String, Refusal>
-    ensures text { IfOk result (λ text. string_bytes text ≡ path_text path.now) }
-    ensures memory { IfErr result (λ refusal. refusal ≡ Refusal.Memory) }
+fn path_text(alloc: Global, path: &[PathStep]) -> Result<String, AllocError>
+    ensures { IfOk result (λ text. string_bytes text ≡ path_text path.now) }
 {
     if path.is_empty() {
         return Ok(String::from_str(alloc, ".")?);
@@ -50,9 +46,8 @@ fn path_text(alloc: Global, path: &[PathStep]) -> Result<String, Refusal>
     Ok(text)
 }
 
-fn piece_text(alloc: Global, step: &PathStep) -> Result<String, Refusal>
-    ensures text { IfOk result (λ text. string_bytes text ≡ piece_of step.now) }
-    ensures memory { IfErr result (λ refusal. refusal ≡ Refusal.Memory) }
+fn piece_text(alloc: Global, step: &PathStep) -> Result<String, AllocError>
+    ensures { IfOk result (λ text. string_bytes text ≡ piece_of step.now) }
 {
     match step {
         PathStep::Name(name) => name_text(alloc, name),
@@ -64,9 +59,8 @@ fn piece_text(alloc: Global, step: &PathStep) -> Result<String, Refusal>
 }
 
 /// A dot and the name.
-fn name_text(alloc: Global, name: &NameText) -> Result<String, Refusal>
-    ensures text { IfOk result (λ text. string_bytes text ≡ piece_of (PathStep.Name name.now)) }
-    ensures memory { IfErr result (λ refusal. refusal ≡ Refusal.Memory) }
+fn name_text(alloc: Global, name: &NameText) -> Result<String, AllocError>
+    ensures { IfOk result (λ text. string_bytes text ≡ piece_of (PathStep.Name name.now)) }
 {
     let mut text = String::from_str(alloc, ".")?;
     for (k, byte) in name.as_bytes().iter().enumerate() {

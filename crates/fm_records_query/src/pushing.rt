@@ -1,14 +1,11 @@
-ghost use Rattle.std.specs.Prelude.{◌≡◌, ◌++◌, ◌∷◌, [], IfOk, IfErr};
+ghost use Rattle.std.specs.Prelude.{◌≡◌, ◌++◌, ◌∷◌, [], IfOk};
 
-use fm_base::Refusal;
+use std::alloc::AllocError;
 
-/// The list with one more. Refused: `Memory`.
-pub(crate) fn with_more<T: Drop>(mut list: Vec<T>, one: T) -> Result<Vec<T>, Refusal>
-    ensures more { IfOk result (λ more. more.items ≡ list.items ++ one ∷ []) }
-    ensures memory { IfErr result (λ refusal. refusal ≡ Refusal.Memory) }
+/// The list with one more.
+pub(crate) fn with_more<T: Drop>(mut list: Vec<T>, one: T) -> Result<Vec<T>, AllocError>
+    ensures { IfOk result (λ more. more.items ≡ list.items ++ one ∷ []) }
 {
-    match list.push(one) {
-        Ok(()) => Ok(list),
-        Err(_) => Err(Refusal::Memory),
-    }
+    list.push(one)?;
+    Ok(list)
 }

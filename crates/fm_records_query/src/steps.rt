@@ -1,8 +1,7 @@
-ghost use Rattle.std.specs.Prelude.{◌≡◌, ◌++◌, ◌∷◌, [], length, OnOk, IfErr};
+ghost use Rattle.std.specs.Prelude.{◌≡◌, ◌++◌, ◌∷◌, [], length, OnOk};
 
-use fm_base::Refusal;
 use fm_path::PathStep;
-use std::alloc::Global;
+use std::alloc::{AllocError, Global};
 use std::marker::Model;
 
 /// The steps of a path, seen as their list.
@@ -51,15 +50,12 @@ impl Steps {
         self.steps.len()
     }
 
-    /// Adds a step at the end. Refused: `Memory`.
-    pub fn push(&mut self, step: PathStep) -> Result<(), Refusal>
-        ensures ok { OnOk result (self.new ≡ self.old ++ step ∷ []) }
-        ensures memory { IfErr result (λ refusal. refusal ≡ Refusal.Memory) }
+    /// Adds a step at the end.
+    pub fn push(&mut self, step: PathStep) -> Result<(), AllocError>
+        ensures { OnOk result (self.new ≡ self.old ++ step ∷ []) }
     {
-        match self.steps.push(step) {
-            Ok(()) => Ok(()),
-            Err(_) => Err(Refusal::Memory),
-        }
+        self.steps.push(step)?;
+        Ok(())
     }
 
     pub fn as_slice(&self) -> &[PathStep]

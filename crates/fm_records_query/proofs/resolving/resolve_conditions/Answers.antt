@@ -11,4 +11,4 @@ returns-in_err-condition-clause-refused c =
 pub loop-k-preserved : goal.loop-k-preserved
 loop-k-preserved c =
     zip_more (IsConditionOf c.args.layout.now) _ _ _ _ _ _ c.loop-k.invariant c.loop-k-test.true c.index-conditions-k.is c.in_ok-condition.ensures.resolved
-    c.in_ok-found.ensures.more
+    c.in_ok-found.ensures

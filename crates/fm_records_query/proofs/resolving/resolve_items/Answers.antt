@@ -11,4 +11,4 @@ returns-in_err-item-clause-refused c =
 pub loop-k-preserved : goal.loop-k-preserved
 loop-k-preserved c =
     zip_more (IsItemOf c.args.layout.now) _ _ _ _ _ _ c.loop-k.invariant c.loop-k-test.true c.index-items-k.is c.in_ok-item.ensures.resolved
-    c.in_ok-found.ensures.more
+    c.in_ok-found.ensures
