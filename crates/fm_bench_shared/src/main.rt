@@ -1,12 +1,13 @@
 //! The loops of `fm_bench` that go through segments and handles, over the memory that is named first: `mono`, the
 //! arenas of one thread, or `shared`, those of a pool as its only pass uses them.
 //!
-//! `known COUNT`, `gets COUNT LAYOUT`, `handles COUNT LAYOUT`, `fills COUNT`, `copies COUNT` and `mismatches COUNT` are
-//! the loops. It prints what it found, so that they are run; the script that calls it takes the time.
+//! `known COUNT`, `gets COUNT LAYOUT`, `handles COUNT LAYOUT`, `queries COUNT QUERY`, `fills COUNT`, `copies COUNT` and
+//! `mismatches COUNT` are the loops. It prints what it found, so that they are run; the script that calls it takes the time.
 #![tactic(auto)]
 
 mod cells;
 mod memories;
+mod queries;
 mod ranges;
 mod table;
 

@@ -2,6 +2,7 @@ ghost use Rattle.std.specs.Prelude.{◌≡◌, None};
 ghost use Rattle.fm_arena.specs.Shares.{CanShare};
 
 use crate::cells::{gets, handles, known};
+use crate::queries::queries;
 use crate::ranges::{SIZE, copies, fills, mismatches};
 use fm_arena::Shared;
 use fm_base::Memory;
@@ -74,6 +75,7 @@ fn looped<R: Wait, M: Memory>(
         "known" => known(rt, m, count).ok(),
         "gets" => gets(rt, alloc, m, count, text).ok(),
         "handles" => handles(rt, alloc, m, count, text).ok(),
+        "queries" => queries(rt, alloc, m, count, text).ok(),
         "fills" => fills(rt, m, count).ok(),
         "copies" => copies(rt, m, count).ok(),
         "mismatches" => mismatches(rt, m, count).ok(),
