@@ -17,7 +17,7 @@ use fm_path::{Dim, ValueSpec};
 use fm_segment::Segment;
 
 /// The number of the segment's value that stands at a place, by the words that are kept and those that aren't, which are
-/// read; none where the arena is found closed. Each kind has a branch of its own, so that the width is a constant in each.
+/// read; none where the arena is found closed.
 #[inline(always)]
 pub(crate) fn number_at<M: Memory, K: Keep>(
     m: &mut M,
@@ -31,17 +31,10 @@ pub(crate) fn number_at<M: Memory, K: Keep>(
     ensures { Sees (M.view m.old) (M.view m.new) s.now
         (λ r own. GetsNumber K.keeps (K.kept kept.old) value.now place r own (K.kept kept.new)) (or_closed result) }
 {
-    match value.kind {
-        ValueKind::Byte => number_as(m, s, place, ValueKind::Byte, value, kept),
-        ValueKind::Boolean => number_as(m, s, place, ValueKind::Boolean, value, kept),
-        ValueKind::Char => number_as(m, s, place, ValueKind::Char, value, kept),
-        ValueKind::Short => number_as(m, s, place, ValueKind::Short, value, kept),
-        ValueKind::Int => number_as(m, s, place, ValueKind::Int, value, kept),
-        ValueKind::Long => number_as(m, s, place, ValueKind::Long, value, kept),
-    }
+    number_as(m, s, place, value.kind, value, kept)
 }
 
-/// The same, for one of those branches.
+/// The same of a value of this kind.
 #[inline(always)]
 fn number_as<M: Memory, K: Keep>(
     m: &mut M,
@@ -122,9 +115,27 @@ fn number_across<M: Memory, K: Keep>(
     Some(number_between(low, high, (place % 8) as u32, value))
 }
 
-/// The number of a value of this kind in a word, from byte `at` on.
+/// The number of a value of this kind in a word, from byte `at` on. Each kind has a branch of its own, so that the width is
+/// a constant in each; it stands behind the visit, which all kinds share.
 #[inline(always)]
 fn number_in(word: u64, at: u32, kind: ValueKind, value: &ValueSpec) -> i64
+    requires fits { at + width_of value.now.kind ≤ 8 }
+    requires kind { kind ≡ value.now.kind }
+    ensures { result ≡ number_of value.now (lane word at (width_of value.now.kind)) }
+{
+    match kind {
+        ValueKind::Byte => number_in_as(word, at, ValueKind::Byte, value),
+        ValueKind::Boolean => number_in_as(word, at, ValueKind::Boolean, value),
+        ValueKind::Char => number_in_as(word, at, ValueKind::Char, value),
+        ValueKind::Short => number_in_as(word, at, ValueKind::Short, value),
+        ValueKind::Int => number_in_as(word, at, ValueKind::Int, value),
+        ValueKind::Long => number_in_as(word, at, ValueKind::Long, value),
+    }
+}
+
+/// The same, for one of those branches.
+#[inline(always)]
+fn number_in_as(word: u64, at: u32, kind: ValueKind, value: &ValueSpec) -> i64
     requires fits { at + width_of value.now.kind ≤ 8 }
     requires kind { kind ≡ value.now.kind }
     ensures { result ≡ number_of value.now (lane word at (width_of value.now.kind)) }
