@@ -10,7 +10,7 @@ use Rattle.fm_rule_facts.specs.Views.{limit_of}
 use Rattle.fm_rule.specs.Finishing.{FinishedView, IsFinished}
 use Rattle.fm_script_text.specs.declared.line.Line.{Line}
 use Rattle.fm_script_text.specs.Scripts.{ScriptOf}
-use Rattle.fm_script_lines.specs.declared.lent.Lent.{Lent}
+use Rattle.fm_script_lines.specs.declared.bound.Bound.{Bound}
 use Rattle.fm_script_lines.specs.declared.numbers.Numbers.{Numbers}
 use Rattle.fm_script_lines.specs.declared.reply.Reply.{Reply}
 use Rattle.fm_script_lines.specs.declared.standing.Standing.{Standing}
@@ -32,10 +32,10 @@ use Rattle.fm_script.proofs.Opened.{were_opened}
 use Rattle.fm_script.proofs.Telling as telling
 
 -- the arenas that names stand for
-abbrev pub arenas_lent : List Lent → List (Option ArenaId)
+abbrev pub arenas_lent : List Bound → List (Option ArenaId)
 arenas_lent ls = map (λ l. arena_of (standing_as l)) ls
 
-arenas_twice : (ls : List Lent) → arenas_lent ls ≡ map arena_of (map standing_as ls)
+arenas_twice : (ls : List Bound) → arenas_lent ls ≡ map arena_of (map standing_as ls)
 arenas_twice [] = refl
 arenas_twice (l ∷ ls) = λ i. arena_of (standing_as l) ∷ arenas_twice ls i
 

@@ -16,6 +16,7 @@ pub mod Outside
 pub mod Arranged
 pub mod Crewed
 pub mod Passing
+pub mod Staging
 pub mod Once
 pub mod Bringing
 pub mod Opened

@@ -1,10 +1,9 @@
 -- What pass 0 has between the first lines, the workers and the last lines.
 use Rattle.std.specs.Prelude.{OnOk}
 use Rattle.std.specs.Result.{is_err}
-use Rattle.std.proofs.Common.{◌≡◌, ℕ, ◌+◌, false, List, [], ◌++◌, length, get_or, All, Ok, Err, Result, sym, ap, ◌∙◌, subst, arith}
+use Rattle.std.proofs.Common.{◌≡◌, ℕ, ◌+◌, true, false, List, [], ◌++◌, length, get_or, All, Ok, Err, Result, sym, ap, ◌∙◌, subst, arith}
 use Rattle.std.proofs.lemmas.List.Elements.{All-nil}
 use Rattle.fm_base.specs.declared.arena_id.ArenaId.{ArenaId}
-use Rattle.fm_base.specs.declared.refusal.Refusal.{Refusal}
 use Rattle.fm_base.specs.Finds.{Rest}
 use Rattle.fm_base.specs.Calls.{Entry}
 use Rattle.fm_base_lists.specs.Among.{IsAmong}
@@ -30,11 +29,15 @@ use Rattle.fm_script.specs.Staying.{lent_later}
 use Rattle.fm_script.proofs.Crewed.{players_known}
 use Rattle.fm_script.proofs.Running.{all_can_play, as_many, in_order_many, names_many, nothing_left, workers_of}
 
--- ---- what was refused and what wasn't
+-- ---- what came to nothing and what didn't
 
-pub on_ok : {P : Type 0} (r : Result (Unit {0}) Refusal) → is_err r ≡ false → OnOk r P → P
+pub on_ok : {P E : Type 0} (r : Result (Unit {0}) E) → is_err r ≡ false → OnOk r P → P
 on_ok (Ok u) e h = h
 on_ok (Err r) e h = absurd (cc)
+
+pub not_ok : (P : Type 0) {E : Type 0} (r : Result (Unit {0}) E) → is_err r ≡ true → OnOk r P
+not_ok P (Ok u) e = absurd (cc)
+not_ok P (Err r) e = tt
 
 -- ---- tokens
 
@@ -102,16 +105,6 @@ module _ (names : Numbers) (lines : List Line) (old : View) (tasks : List Player
 pub record Behind (names : Numbers) (lines : List Line) (p q : View) (own : List Standing) (firsts : List Reply) : Type 0 where
   pub first : LinesRan p q names [] 0 [] own (lines_by is_first lines) firsts
   pub backs : (holds handles : List ArenaId) → Backs p holds handles [] [] → Backs q holds handles [] own
-
-pub behind_first : (names : Numbers) (lines : List Line) (p q : View) (base : List Standing) (start : ℕ) (own next : List Standing)
-    (firsts : List Reply) (r : Result (Unit {0}) Refusal) → is_err r ≡ false → base ≡ [] → start ≡ 0 → own ≡ []
-    → OnOk r (LinesRan p q names base start own next (lines_by is_first lines) firsts)
-    → ((holds handles : List ArenaId) → Backs p holds handles base own → Backs q holds handles base next)
-    → Behind names lines p q next firsts
-behind_first names lines p q base start own next firsts r ok b s o ran backs = record {
-  first = ran_from p q names base [] start 0 own [] next (lines_by is_first lines) firsts b s o (on_ok r ok ran);
-  backs = backs_at p q base own next b o backs;
-}
 
 module _ (names : Numbers) (lines : List Line) (p q : View) (tasks : List Player) (can : CanRun names lines p tasks) (own : List Standing)
     (firsts : List Reply) (b : Behind names lines p q own firsts) where

@@ -2,11 +2,10 @@
 use Rattle.std.proofs.Common.{◌≡◌, List, [], ◌++◌, All, None, Ok, Err, Result, refl, sym, ap, ◌∙◌, subst, map}
 use Rattle.std.specs.Prelude.{OnOk, Vec}
 use Rattle.std.specs.declared.alloc.Global.{Global}
-use Rattle.fm_base.specs.declared.refusal.Refusal.{Refusal}
 use Rattle.fm_base.specs.View.{Did, IsSound}
 use Rattle.fm_rule_facts.specs.Views.{View}
 use Rattle.fm_rule_calls.specs.Told.{view_of_pass}
-use Rattle.fm_script_lines.specs.declared.lent.Lent.{Lent}
+use Rattle.fm_script_lines.specs.declared.bound.Bound.{Bound}
 use Rattle.fm_script_lines.specs.declared.reply.Reply.{Reply}
 use Rattle.fm_script_lines.specs.declared.standing.Standing.{Standing}
 use Rattle.fm_script_lines.specs.Playing.{LinesRan}
@@ -19,10 +18,10 @@ use Rattle.fm_script_lines.proofs.Settled.{settled}
 use Rattle.fm_script.specs.declared.player.Player.{Player}
 use Rattle.fm_script.specs.Players.{CanPlay, PlayedAs, Playing, Plays, PlaysLines, lines_for}
 
-pub did : (w : Playing) (p q : View) (old now new : Player) (result : Result (Unit {0}) Refusal) → PlayedAs w p q old now result
+pub did : {E : Type 0} (w : Playing) (p q : View) (old now new : Player) (result : Result (Unit {0}) E) → PlayedAs w p q old now result
     → IsSound (view_of_pass q) → new.number ≡ now.number → new.start ≡ now.start → new.caller ≡ q.caller → new.replies ≡ now.replies → new.lent ≡ now.lent
-    → (new.refusal ≡ None → result ≡ Ok tt) → Did (view_of_pass p) (view_of_pass q) (Plays w q old new)
-did w p q old now new result r sound number start caller replies lent whole = record {
+    → (new.cut ≡ None → result ≡ Ok tt) → Did (view_of_pass p) (view_of_pass q) (Plays w q old new)
+did {E = E} w p q old now new result r sound number start caller replies lent whole = record {
   own = r.run;
   does = record {
     number = number ∙ r.number;
@@ -30,7 +29,7 @@ did w p q old now new result r sound number start caller replies lent whole = re
     caller = caller;
     played = λ none.
         let l : PlaysLines w q old now r.run =
-        subst (λ (x : Result (Unit {0}) Refusal). OnOk x (PlaysLines w q old now r.run)) (whole none) r.played in
+        subst (λ (x : Result (Unit {0}) E). OnOk x (PlaysLines w q old now r.run)) (whole none) r.played in
         record {
           before = l.before;
           next = l.next;
@@ -51,14 +50,14 @@ did w p q old now new result r sound number start caller replies lent whole = re
             loans = l.ran.loans;
           };
           runs = l.runs;
-          lent = ap (λ (v : Vec Lent Global). map standing_as v.items) lent ∙ l.lent;
+          lent = ap (λ (v : Vec Bound Global). map standing_as v.items) lent ∙ l.lent;
         };
   };
   makes = settled p q r.run r.went r.same_holds r.same_handles sound;
 }
 
 -- A pass has played a worker's lines, and has given back what they left.
-pub played_as : (w : Playing) (p q r : View) (old new : Player) (next : List Standing) (result : Result (Unit {0}) Refusal)
+pub played_as : {E : Type 0} (w : Playing) (p q r : View) (old new : Player) (next : List Standing) (result : Result (Unit {0}) E)
     → CanPlay w p old → new.number ≡ old.number → new.start ≡ old.start
     → OnOk result (LinesRan p q w.names w.firsts old.start [] next (lines_for w old) new.replies.items)
     → WentOn p q → WentOn q r → (All IsSpent next → r ≡ q) → (r.holds ≡ p.holds) × (r.handles ≡ p.handles)
@@ -89,7 +88,7 @@ played_as w p q r old new next (Err e) can number start ran went after spent sam
 }
 
 -- Nothing was played.
-pub played_none : (w : Playing) (p : View) (old : Player) (e : Refusal) → p.inside ≡ None → PlayedAs w p p old old (Err e)
+pub played_none : {E : Type 0} (w : Playing) (p : View) (old : Player) (e : E) → p.inside ≡ None → PlayedAs w p p old old (Err e)
 played_none w p old e outside = record {
   run = [];
   went = went_none p;

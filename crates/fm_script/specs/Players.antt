@@ -1,6 +1,5 @@
 -- What a worker of a script does: its lines, as the pass that was drawn for it.
 use Rattle.std.specs.Prelude.{◌≡◌, ℕ, ◌+◌, ◌<◌, ◌≤◌, [], List, get_or, map, length, All, None, OnOk, Result, vec_capacity}
-use Rattle.fm_base.specs.declared.refusal.Refusal.{Refusal}
 use Rattle.fm_base.specs.Calls.{Entry}
 use Rattle.fm_rule_facts.specs.Views.{View}
 use Rattle.fm_script_text.specs.declared.line.Line.{Line}
@@ -31,7 +30,7 @@ lines_for w p = lines_by (is_worker p.number) w.lines
 pub record IsPlayer (lines : List Line) (k place : ℕ) (p : Player) : Type 0 where
   pub number : p.number ≡ k
   pub start : p.start ≡ place
-  pub whole : p.refusal ≡ None
+  pub whole : p.cut ≡ None
   pub no_reply : p.replies.items ≡ []
   pub no_name : p.lent.items ≡ []
   pub room : length (lines_by (is_worker k) lines) ≤ vec_capacity p.replies
@@ -65,10 +64,10 @@ pub record Plays (w : Playing) (p : View) (old new : Player) (own : List Entry) 
   pub number : new.number ≡ old.number
   pub start : new.start ≡ old.start
   pub caller : new.caller ≡ p.caller
-  pub played : new.refusal ≡ None → PlaysLines w p old new own
+  pub played : new.cut ≡ None → PlaysLines w p old new own
 
 -- A pass did so as the worker, and has what it had before
-pub record PlayedAs (w : Playing) (before after : View) (old new : Player) (result : Result (Unit {0}) Refusal) : Type 0 where
+pub record PlayedAs {E : Type 0} (w : Playing) (before after : View) (old new : Player) (result : Result (Unit {0}) E) : Type 0 where
   pub run : List Entry
   pub went : Went before after run
   pub outside : after.inside ≡ None

@@ -58,7 +58,7 @@ names_lent ps = flat_map (λ p. map standing_as p.lent.items) ps
 
 -- no worker's lines were cut off
 abbrev pub AllPlayed : List Player → Type 0
-AllPlayed ps = AllByRecursion (λ p. p.refusal ≡ None) ps
+AllPlayed ps = AllByRecursion (λ p. p.cut ≡ None) ps
 
 -- no worker began, or the lines of one were cut off
 abbrev pub IsCutOff : (tasks players : List Player) → Type 0

@@ -9,69 +9,53 @@ use crate::main_lines::MainLines;
 use crate::player::Player;
 use fm_base::{ArenaId, Caller, Refusal};
 use fm_rule::Finished;
-use fm_script_lines::{Lent, Numbers, Reply};
+use fm_script_lines::{Bound, Numbers, Reply};
 use fm_script_report::{Report, report_lines};
 use fm_script_text::{Line, Script};
-use std::alloc::Global;
+use std::alloc::{AllocError, Global};
 
-/// The arena that each of the names stands for, if it does. Refused: `Memory`.
-pub(crate) fn opened_by(alloc: Global, lent: &[Lent]) -> Result<Vec<Option<ArenaId>>, Refusal>
-    ensures opened { IfOk result (λ opened. opened.items ≡ map (λ name. arena_of (standing_as name)) lent.now) }
-    ensures memory { IfErr result (λ refusal. refusal ≡ Refusal.Memory) }
+/// The arena that each of the names stands for, if it does.
+pub(crate) fn opened_by(alloc: Global, lent: &[Bound]) -> Result<Vec<Option<ArenaId>>, AllocError>
+    ensures { IfOk result (λ opened. opened.items ≡ map (λ name. arena_of (standing_as name)) lent.now) }
 {
     let mut opened = Vec::new(alloc);
     for name in lent {
-        if opened.push(name.arena()).is_err() {
-            return Err(Refusal::Memory);
-        }
+        opened.push(name.arena())?;
     }
     Ok(opened)
 }
 
-/// The passes' callers, pass 0's first. Refused: `Memory`.
+/// The passes' callers, pass 0's first.
 pub(crate) fn callers_of(
     alloc: Global,
     main: Caller,
     players: &[Player],
-) -> Result<Vec<Caller>, Refusal>
-    ensures callers { IfOk result (λ callers. callers.items ≡ main ∷ map (λ player. player.caller) players.now) }
-    ensures memory { IfErr result (λ refusal. refusal ≡ Refusal.Memory) }
+) -> Result<Vec<Caller>, AllocError>
+    ensures { IfOk result (λ callers. callers.items ≡ main ∷ map (λ player. player.caller) players.now) }
 {
     let mut callers = Vec::new(alloc);
-    if callers.push(main).is_err() {
-        return Err(Refusal::Memory);
-    }
+    callers.push(main)?;
     for player in players {
-        if callers.push(player.caller).is_err() {
-            return Err(Refusal::Memory);
-        }
+        callers.push(player.caller)?;
     }
     Ok(callers)
 }
 
-/// All replies in the order of printing. Refused: `Memory`.
+/// All replies in the order of printing.
 pub(crate) fn replies_of(
     alloc: Global,
     firsts: Vec<Reply>,
     players: &[Player],
     lasts: &[Reply],
-) -> Result<Vec<Reply>, Refusal>
-    ensures replies { IfOk result (λ all. all.items
+) -> Result<Vec<Reply>, AllocError>
+    ensures { IfOk result (λ all. all.items
         ≡ firsts.items ++ (flat_map (λ player. player.replies.items) players.now ++ lasts.now)) }
-    ensures memory { IfErr result (λ refusal. refusal ≡ Refusal.Memory) }
 {
     let mut replies = firsts;
     for player in players {
-        if replies
-            .extend_from_slice(player.replies.as_slice())
-            .is_err()
-        {
-            return Err(Refusal::Memory);
-        }
+        replies.extend_from_slice(player.replies.as_slice())?;
     }
-    if replies.extend_from_slice(lasts).is_err() {
-        return Err(Refusal::Memory);
-    }
+    replies.extend_from_slice(lasts)?;
     Ok(replies)
 }
 

@@ -3,12 +3,12 @@ ghost use Rattle.fm_script.specs.Players.{CanPlay, PlayedAs, playing};
 
 use crate::player::Player;
 use fm_arena::Shared;
-use fm_base::{Memory, Refusal};
+use fm_base::Memory;
 use fm_io::Gate;
 use fm_script_lines::{AtGate, Numbers, Standing, Table, Turns, count_lines, play};
 use fm_script_text::{Line, Who};
 use fm_workers::Work;
-use std::alloc::Global;
+use std::alloc::{AllocError, Global};
 use std::sync::Wait;
 
 /// What workers play: the script's lines, over the names of the first ones.
@@ -46,13 +46,13 @@ impl<'a, R: Wait + Sync, G: Gate> Work<Player> for Lines<'a, R, G> {
             player,
         );
         player.caller = memory.caller();
-        player.refusal = played.err();
+        player.cut = played.err();
     }
 
     ghost stays = { λ w. can_play_later (playing w.names.now w.lines.now w.firsts.now) };
 }
 
-/// Plays a worker's lines. Refused: `Memory`.
+/// Plays a worker's lines.
 fn play_as<R: Wait, T: Turns>(
     rt: &R,
     alloc: Global,
@@ -62,19 +62,18 @@ fn play_as<R: Wait, T: Turns>(
     firsts: &[Standing],
     turns: &T,
     player: &mut Player,
-) -> Result<(), Refusal>
+) -> Result<(), AllocError>
     requires outside { memory.old.inside ≡ None }
     requires can { CanPlay (playing names.now lines.now firsts.now) memory.old player.old }
     ensures { PlayedAs (playing names.now lines.now firsts.now) memory.old memory.new player.old player.new result }
 {
     let who = Who::Worker(player.number);
     let count = count_lines(lines, who);
-    let mut table = Table::new(alloc, firsts, player.start, count)?;
+    let mut table = Table::new(alloc, names, firsts, player.start, count)?;
     let played = play(
         rt,
         alloc,
         memory,
-        names,
         &mut table,
         lines,
         who,

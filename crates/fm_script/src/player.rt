@@ -1,5 +1,6 @@
-use fm_base::{Caller, Refusal};
-use fm_script_lines::{Lent, Reply};
+use fm_base::Caller;
+use fm_script_lines::{Bound, Reply};
+use std::alloc::AllocError;
 
 /// A worker of a script, and what its lines came to.
 #[derive(Drop)]
@@ -11,7 +12,7 @@ pub struct Player {
     pub caller: Caller,
     pub replies: Vec<Reply>,
     /// What its names stand for to others, once its lines ran.
-    pub lent: Vec<Lent>,
+    pub lent: Vec<Bound>,
     /// Want of memory, if that cut its lines off.
-    pub refusal: Option<Refusal>,
+    pub cut: Option<AllocError>,
 }

@@ -1,52 +1,44 @@
-ghost use Rattle.std.specs.Prelude.{◌≡◌, ◌<◌, ◌^◌, MatchBool, IfErr, IfOk, length};
+ghost use Rattle.std.specs.Prelude.{◌≡◌, ◌<◌, ◌^◌, MatchBool, IfOk, length};
 ghost use Rattle.fm_script.specs.Players.{ArePlayers, IsPlayer};
 ghost use Rattle.fm_script.specs.Runs.{AllPlayed};
 
 use crate::player::Player;
-use fm_base::{Caller, Refusal};
+use fm_base::Caller;
 use fm_script_lines::count_lines;
 use fm_script_text::{Line, Who};
-use std::alloc::Global;
+use std::alloc::{AllocError, Global};
 
-/// A worker for each number up to the last, with room for its replies and names. Refused: `Memory`.
+/// A worker for each number up to the last, with room for its replies and names.
 pub(crate) fn players_of(
     alloc: Global,
     lines: &[Line],
     starts: &[usize],
-) -> Result<Vec<Player>, Refusal>
-    requires few { length starts.now < 2 ^ 32 }
-    ensures players { IfOk result (λ players. ArePlayers lines.now starts.now players.items) }
-    ensures memory { IfErr result (λ refusal. refusal ≡ Refusal.Memory) }
+) -> Result<Vec<Player>, AllocError>
+    requires { length starts.now < 2 ^ 32 }
+    ensures { IfOk result (λ players. ArePlayers lines.now starts.now players.items) }
 {
     let mut players = Vec::new(alloc);
     for (place, start) in starts.iter().enumerate() {
         let player = player_of(alloc, lines, place as u32 + 1, *start)?;
-        if players.push(player).is_err() {
-            return Err(Refusal::Memory);
-        }
+        players.push(player)?;
     }
     Ok(players)
 }
 
-/// The worker of this number, that has played nothing. Refused: `Memory`.
-fn player_of(alloc: Global, lines: &[Line], number: u32, start: usize) -> Result<Player, Refusal>
-    ensures player { IfOk result (IsPlayer lines.now number start) }
-    ensures memory { IfErr result (λ refusal. refusal ≡ Refusal.Memory) }
+/// The worker of this number, that has played nothing.
+fn player_of(alloc: Global, lines: &[Line], number: u32, start: usize) -> Result<Player, AllocError>
+    ensures { IfOk result (IsPlayer lines.now number start) }
 {
     let count = count_lines(lines, Who::Worker(number));
-    let Ok(replies) = Vec::with_capacity(alloc, count) else {
-        return Err(Refusal::Memory);
-    };
-    let Ok(lent) = Vec::with_capacity(alloc, count) else {
-        return Err(Refusal::Memory);
-    };
+    let replies = Vec::with_capacity(alloc, count)?;
+    let lent = Vec::with_capacity(alloc, count)?;
     Ok(Player {
         number,
         start,
         caller: Caller { number: 0, term: 0 },
         replies,
         lent,
-        refusal: None,
+        cut: None,
     })
 }
 
@@ -55,7 +47,7 @@ pub(crate) fn all_played(players: &[Player]) -> bool
     ensures { MatchBool result (AllPlayed players.now) (¬ (AllPlayed players.now)) }
 {
     for player in players {
-        if player.refusal.is_some() {
+        if player.cut.is_some() {
             return false;
         }
     }

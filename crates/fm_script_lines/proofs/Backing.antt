@@ -19,13 +19,13 @@ use Rattle.fm_arena.specs.Learnt.{CanUnhold}
 use Rattle.fm_segment.specs.Access as segment
 use Rattle.fm_rule_facts.specs.Views.{View, IsKnown}
 use Rattle.fm_rule_calls.specs.Told.{view_of_pass}
-use Rattle.fm_script_lines.specs.declared.lent.Lent.{Lent}
-use Rattle.fm_script_lines.specs.declared.lent.Lent.TheVariants as other
+use Rattle.fm_script_lines.specs.declared.bound.Bound.{Bound}
+use Rattle.fm_script_lines.specs.declared.bound.Bound.TheVariants as other
 use Rattle.fm_script_lines.specs.declared.standing.Standing.{Standing}
 use Rattle.fm_script_lines.specs.declared.standing.Standing.TheVariants as standing
 use Rattle.fm_script_lines.specs.declared.standing.Standing.TheVariants.{Nothing, Arena, Segment, Hold, Handle}
 use Rattle.fm_script_lines.specs.Standings.{IsBacked, IsHandleIn, standing_at, standing_of, arena_of, segment_of, hold_in, handle_in, hold_of, handle_of, lent, unheld, handed_back, standing_as}
-use Rattle.fm_script_lines.specs.Tokens.{Backs, HasTokens, among, onto, holds_with, handles_with}
+use Rattle.fm_script_lines.specs.Tokens.{Backs, BacksWith, HasTokens, among, onto, holds_with, handles_with}
 use Rattle.fm_script_lines.proofs.Naming.{unheld-hold, unheld-handle, handed-hold, handed-handle, owned, lent-handle_in, standing-others, standing-between, standing-own}
 use Rattle.fm_script_lines.proofs.Counting.{among_push, among_set, how_many_onto, token_in, token_more, token_less}
 
@@ -106,8 +106,8 @@ module _ (token : Standing → Option ArenaId) where
 
 -- ---- what a pass has
 
-module _ (p q : View) {holds handles : List ArenaId} {base own : List Standing} (b : Backs p holds handles base own)
-    (l : Lasts (view_of_pass p) (view_of_pass q)) (same : made_by_pass q ≡ made_by_pass p) where
+module _ (p q : View) {all_holds all_handles holds handles : List ArenaId} {base own : List Standing}
+    (b : BacksWith p all_holds all_handles holds handles base own) (l : Lasts (view_of_pass p) (view_of_pass q)) (same : made_by_pass q ≡ made_by_pass p) where
   others_later : All (λ s. IsBacked q (lent s)) base
   others_later = All-weaker (λ s. IsBacked p (lent s)) (λ s. IsBacked q (lent s)) (λ s h. backed_later p q l same (lent s) h) base b.others_known
 
@@ -115,7 +115,7 @@ module _ (p q : View) {holds handles : List ArenaId} {base own : List Standing} 
   own_later = All-weaker (IsBacked p) (IsBacked q) (λ s h. backed_later p q l same s h) own b.own_known
 
   -- Nothing was taken and nothing given back.
-  pub backs_still : q.holds ≡ p.holds → q.handles ≡ p.handles → Backs q holds handles base own
+  pub backs_still : q.holds ≡ all_holds → q.handles ≡ all_handles → Backs q holds handles base own
   backs_still hs ks = record {
     others_known = others_later;
     own_known = own_later;
@@ -124,7 +124,7 @@ module _ (p q : View) {holds handles : List ArenaId} {base own : List Standing} 
   }
 
   -- A line's name more.
-  pub backs_more : (made : Standing) → q.holds ≡ holds_with made p.holds → q.handles ≡ handles_with made p.handles → IsBacked q made
+  pub backs_more : (made : Standing) → q.holds ≡ holds_with made all_holds → q.handles ≡ handles_with made all_handles → IsBacked q made
       → Backs q holds handles base (own ++ made ∷ [])
   backs_more made hs ks backed = record {
     others_known = others_later;
@@ -134,36 +134,36 @@ module _ (p q : View) {holds handles : List ArenaId} {base own : List Standing} 
         (tokens_push handle_of own made b.has_handles);
   }
 
+-- ---- what is given back
+
+module _ (p : View) {all_holds all_handles holds handles : List ArenaId} {base own : List Standing}
+    (b : BacksWith p all_holds all_handles holds handles base own) where
   -- A hold less.
-  pub backs_unheld : (at : ℕ) (a : ArenaId) → at < length own → hold_of (get_or own at Nothing) ≡ Some a → q.holds ≡ released a p.holds
-      → q.handles ≡ p.handles → Backs q holds handles base (set own at (unheld (get_or own at Nothing)))
-  backs_unheld at a k was hs ks =
+  pub backs_unheld : (at : ℕ) (a : ArenaId) → at < length own → hold_of (get_or own at Nothing) ≡ Some a
+      → BacksWith p (released a all_holds) all_handles holds handles base (set own at (unheld (get_or own at Nothing)))
+  backs_unheld at a k was =
       let s = get_or own at Nothing in
       record {
-        others_known = others_later;
-        own_known = All-set (IsBacked q) own at (unheld s) (backed_unheld q s (own_later at Nothing k)) own_later;
-        has_holds = subst (λ (xs : List ArenaId). HasTokens xs (among hold_of (set own at (unheld s))) holds) (sym hs)
-            (tokens_less hold_of own at (unheld s) a k was (unheld-hold s) b.has_holds);
-        has_handles = subst (λ (xs : List ArenaId). HasTokens xs (among handle_of (set own at (unheld s))) handles) (sym ks)
-            (tokens_same handle_of own at (unheld s) k (unheld-handle s) b.has_handles);
+        others_known = b.others_known;
+        own_known = All-set (IsBacked p) own at (unheld s) (backed_unheld p s (b.own_known at Nothing k)) b.own_known;
+        has_holds = tokens_less hold_of own at (unheld s) a k was (unheld-hold s) b.has_holds;
+        has_handles = tokens_same handle_of own at (unheld s) k (unheld-handle s) b.has_handles;
       }
 
   -- A handle less.
-  pub backs_handed : (at : ℕ) (a : ArenaId) → at < length own → handle_of (get_or own at Nothing) ≡ Some a → q.handles ≡ released a p.handles
-      → q.holds ≡ p.holds → Backs q holds handles base (set own at (handed_back (get_or own at Nothing)))
-  backs_handed at a k was ks hs =
+  pub backs_handed : (at : ℕ) (a : ArenaId) → at < length own → handle_of (get_or own at Nothing) ≡ Some a
+      → BacksWith p all_holds (released a all_handles) holds handles base (set own at (handed_back (get_or own at Nothing)))
+  backs_handed at a k was =
       let s = get_or own at Nothing in
       record {
-        others_known = others_later;
-        own_known = All-set (IsBacked q) own at (handed_back s) (backed_handed q s (own_later at Nothing k)) own_later;
-        has_holds = subst (λ (xs : List ArenaId). HasTokens xs (among hold_of (set own at (handed_back s))) holds) (sym hs)
-            (tokens_same hold_of own at (handed_back s) k (handed-hold s) b.has_holds);
-        has_handles = subst (λ (xs : List ArenaId). HasTokens xs (among handle_of (set own at (handed_back s))) handles) (sym ks)
-            (tokens_less handle_of own at (handed_back s) a k was (handed-handle s) b.has_handles);
+        others_known = b.others_known;
+        own_known = All-set (IsBacked p) own at (handed_back s) (backed_handed p s (b.own_known at Nothing k)) b.own_known;
+        has_holds = tokens_same hold_of own at (handed_back s) k (handed-hold s) b.has_holds;
+        has_handles = tokens_less handle_of own at (handed_back s) a k was (handed-handle s) b.has_handles;
       }
 
 -- Another pass's name more.
-pub backs_lent : (p : View) {holds handles : List ArenaId} {base own : List Standing} (o : Lent) → Backs p holds handles base own
+pub backs_lent : (p : View) {holds handles : List ArenaId} {base own : List Standing} (o : Bound) → Backs p holds handles base own
     → IsBacked p (standing_as o) → Backs p holds handles base (own ++ standing_as o ∷ [])
 backs_lent p other.Nothing b known =
     backs_more p p b (record { known = λ id k. k; given = λ id. omega arith; limit = refl; caller = refl }) refl Nothing refl refl known

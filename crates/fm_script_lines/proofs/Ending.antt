@@ -9,7 +9,7 @@ use Rattle.fm_base.proofs.Names.{same_id-self}
 use Rattle.fm_rule_facts.specs.Holds.{how_many, one_if}
 use Rattle.fm_rule_facts.specs.Views.{View}
 use Rattle.fm_rule_calls.specs.Told.{view_of_pass}
-use Rattle.fm_script_lines.specs.declared.lent.Lent.{Lent}
+use Rattle.fm_script_lines.specs.declared.bound.Bound.{Bound}
 use Rattle.fm_script_lines.specs.declared.standing.Standing.{Standing}
 use Rattle.fm_script_lines.specs.declared.standing.Standing.TheVariants as standing
 use Rattle.fm_script_lines.specs.declared.standing.Standing.TheVariants.{Nothing, Arena, Segment, Hold, Handle}
@@ -102,7 +102,7 @@ backs_gone p holds handles base own b none =
     (tokens_gone c.has_holds, tokens_gone c.has_handles)
 
 -- What is left of a name more.
-pub others_popped : (others : List Lent) (x : Lent) (rest : List Standing) (s : Standing) → standing_as x ≡ lent s
+pub others_popped : (others : List Bound) (x : Bound) (rest : List Standing) (s : Standing) → standing_as x ≡ lent s
     → map standing_as (others ++ x ∷ []) ++ reverse (map lent rest) ≡ map standing_as others ++ reverse (map lent (rest ++ s ∷ []))
 others_popped others x rest s is =
     let ends : reverse (map lent (rest ++ s ∷ [])) ≡ lent s ∷ reverse (map lent rest) =
@@ -127,7 +127,7 @@ map_reverse {X} {Y} f (x ∷ xs) =
     ∙ (ap (λ (ys : List Y). ys ++ f x ∷ []) (map_reverse f xs) ∙ sym (reverse-append (f x ∷ []) (map f xs))))
 
 -- All are there, the last first.
-pub turned : (others : List Lent) (own all : List Standing) → own ≡ []
+pub turned : (others : List Bound) (own all : List Standing) → own ≡ []
     → map standing_as others ++ reverse (map lent own) ≡ reverse (map lent all) → map standing_as (reverse others) ≡ map lent all
 turned others own all none is =
     let gone : map standing_as others ≡ reverse (map lent all) = sym (append-nil (map standing_as others))

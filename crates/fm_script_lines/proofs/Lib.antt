@@ -11,8 +11,9 @@ pub mod Numbering
 pub mod Opening
 pub mod Allocating
 pub mod Lending
-pub mod Rows
 pub mod Returning
+pub mod Giving
+pub mod Rows
 pub mod AdmittedNames
 pub mod AdmittedNumbers
 pub mod AdmittedMade

@@ -2,7 +2,7 @@
 use Rattle.std.proofs.Common.{◌≡◌, ◌≢◌, ℕ, ◌+◌, ◌-◌, ◌<◌, ◌≤◌, ◌==◌, nat_lt, Bool, true, false, if◌then◌else◌, List, [], ◌∷◌, ◌++◌, length, length-append, get_or, set, refl, ap, sym, ◌∙◌, subst, arith, Option, Some, None}
 use Rattle.std.proofs.lemmas.Bool.{ltb-true, ltb-false, eqb-true, eqb-false, lt-ltb}
 use Rattle.std.proofs.lemmas.Bool.Decides.{nat_tests}
-use Rattle.std.proofs.lemmas.List.{get_or_append_left, get_or_past, get_or_push, get_or-set_same, get_or-set_other, length-set}
+use Rattle.std.proofs.lemmas.List.{get_or_append_left, get_or_past, get_or_push, get_or-set_same, get_or-set_other}
 use Rattle.fm_script_lines.specs.declared.standing.Standing.{Standing}
 use Rattle.fm_script_lines.specs.declared.standing.Standing.TheVariants.{Nothing, Arena, Automatic, Segment, Hold, Handle}
 use Rattle.fm_script_lines.specs.Lines.{is_number}
@@ -90,21 +90,15 @@ standing-set base start own at s n h k = go (nat_lt n (length base)) refl (nat_l
 
 -- what each name stands for behind the taking
 abbrev pub Left : (Standing → Standing) → List Standing → ℕ → List Standing → Option ℕ → List Standing → Type 0
-Left left base start own number next = (n : ℕ) → standing_at base start (next ++ Nothing ∷ []) n
-    ≡ (if n == start + length own then Nothing
-    else (if is_number number n then left (standing_at base start own n) else standing_at base start own n))
+Left left base start own number next = (n : ℕ) → standing_at base start next n
+    ≡ (if is_number number n then left (standing_at base start own n) else standing_at base start own n)
 
 -- Where it was taken out.
 pub left-taken : (left : Standing → Standing) (base : List Standing) (start : ℕ) (own next : List Standing) (number : Option ℕ) (at : ℕ)
     → length base ≤ start → TookAt left (length base) start own next number at → Left left base start own number next
 left-taken left base start own next number at h t n =
-    let s = left (get_or own at Nothing) in
-    let long : length next ≡ length own = ap (λ (xs : List Standing). length xs) t.new_is ∙ length-set own at s in
-    let pushed = standing-push base start next Nothing n h in
-    let put : standing_at base start next n ≡ (if n == start + at then s else standing_at base start own n) =
-    ap (λ (xs : List Standing). standing_at base start xs n) t.new_is ∙ standing-set base start own at s n h t.own.within in
-    pushed ∙ (ap (λ (m : ℕ). if n == start + m then Nothing else standing_at base start next n) long
-    ∙ ap (λ (x : Standing). if n == start + length own then Nothing else x) (put ∙ here (n == start + at) refl))
+    ap (λ (xs : List Standing). standing_at base start xs n) t.new_is
+    ∙ (standing-set base start own at (left (get_or own at Nothing)) n h t.own.within ∙ here (n == start + at) refl)
   where
     here : (z : Bool) → (n == start + at) ≡ z
         → (if n == start + at then left (get_or own at Nothing) else standing_at base start own n)
@@ -119,11 +113,9 @@ left-taken left base start own next number at h t n =
     here false g = rw (t.own.is, g) refl
 
 -- Where there was none.
-pub left-none : (left : Standing → Standing) (base : List Standing) (start : ℕ) (own next : List Standing) (number : Option ℕ) → length base ≤ start
+pub left-none : (left : Standing → Standing) (base : List Standing) (start : ℕ) (own next : List Standing) (number : Option ℕ)
     → next ≡ own → left (standing_of base start own number) ≡ standing_of base start own number → Left left base start own number next
-left-none left base start own next number h same is n =
-    ap (λ (xs : List Standing). standing_at base start (xs ++ Nothing ∷ []) n) same ∙ (standing-push base start own Nothing n h
-    ∙ ap (λ (x : Standing). if n == start + length own then Nothing else x) (sym (here number is)))
+left-none left base start own next number same is n = ap (λ (xs : List Standing). standing_at base start xs n) same ∙ sym (here number is)
   where
     at_this : (m : ℕ) (z : Bool) → (n == m) ≡ z → left (standing_at base start own m) ≡ standing_at base start own m
         → (if z then left (standing_at base start own n) else standing_at base start own n) ≡ standing_at base start own n

@@ -1,119 +1,75 @@
 -- A pass's next line, with what it leaves of names.
-use Rattle.std.proofs.Common.{◌≡◌, ℕ, ◌+◌, ◌≤◌, ◌==◌, true, false, if◌then◌else◌, List, [], ◌∷◌, ◌++◌, length, length-append, refl, ap, sym, ◌∙◌, subst, Option, None}
+use Rattle.std.proofs.Common.{◌≡◌, ℕ, ◌+◌, ◌==◌, true, if◌then◌else◌, List, [], ◌∷◌, ◌++◌, length, length-append, refl, ap, sym, ◌∙◌, subst, Err}
 use Rattle.fm_base.specs.declared.arena_id.ArenaId.{ArenaId}
-use Rattle.fm_base.specs.Calls.{Entry}
-use Rattle.fm_base.specs.Outcomes.{Lasts}
 use Rattle.fm_rule_facts.specs.Views.{View}
-use Rattle.fm_rule_calls.specs.Told.{view_of_pass}
 use Rattle.fm_script_text.specs.declared.command.Command.{Command}
-use Rattle.fm_script_text.specs.declared.command.Command.TheVariants.{Open, Alloc, Slice, Readonly, Get, Set, Add, Cas, Fill, Copy, Mismatch, Alive, Hold, Unhold, Again, Back, Close}
-use Rattle.fm_script_lines.specs.declared.numbers.Numbers.{Numbers}
+use Rattle.fm_script_text.specs.declared.command.Command.TheVariants.{Unhold, Back}
 use Rattle.fm_script_lines.specs.declared.outcome.Outcome.{Outcome}
 use Rattle.fm_script_lines.specs.declared.reply.Reply.{Reply}
 use Rattle.fm_script_lines.specs.declared.standing.Standing.{Standing}
-use Rattle.fm_script_lines.specs.declared.standing.Standing.TheVariants.{Nothing}
+use Rattle.fm_script_lines.specs.declared.table.Table.{Table}
 use Rattle.fm_script_lines.specs.Calls.{CallDoes, keeps_tokens}
-use Rattle.fm_script_lines.specs.Lines.{LineRan, behind, is_number}
-use Rattle.fm_script_lines.specs.Numbers.{number_at}
-use Rattle.fm_script_lines.specs.Outcomes.{outcome, plain}
+use Rattle.fm_script_lines.specs.Learnt.{AfterLine, CallRan, KeepsTable, Leaves, MadeNoCall, stands_by}
+use Rattle.fm_script_lines.specs.Lines.{LineRan}
+use Rattle.fm_script_lines.specs.Outcomes.{outcome}
 use Rattle.fm_script_lines.specs.Pages.{PagesToldBy}
-use Rattle.fm_script_lines.specs.Runs.{RanLine, Went}
-use Rattle.fm_script_lines.specs.Slots.{SlotsTold, opens}
-use Rattle.fm_script_lines.specs.Standings.{standing_at, standing_of}
+use Rattle.fm_script_lines.specs.Slots.{SlotsTold}
+use Rattle.fm_script_lines.specs.Standings.{standing_at}
 use Rattle.fm_script_lines.specs.Tokens.{Backs}
 use Rattle.fm_script_lines.proofs.Backing.{backs_more}
 use Rattle.fm_script_lines.proofs.Going.{went_made}
-use Rattle.fm_script_lines.proofs.Naming.{Left, standing-push}
+use Rattle.fm_script_lines.proofs.Naming.{standing-push}
 
--- Other lines leave the holds and handles of names.
-behind-kept : (number : List ℕ → Option ℕ) (command : Command) (n : ℕ) (s : Standing) → keeps_tokens command ≡ true → behind number command n s ≡ s
-behind-kept number (Open name kind) n s e = refl
-behind-kept number (Alloc arena name size align) n s e = refl
-behind-kept number (Slice segment name offset size) n s e = refl
-behind-kept number (Readonly segment name) n s e = refl
-behind-kept number (Get cell) n s e = refl
-behind-kept number (Set cell value) n s e = refl
-behind-kept number (Add cell value) n s e = refl
-behind-kept number (Cas cell old new) n s e = refl
-behind-kept number (Fill segment byte) n s e = refl
-behind-kept number (Copy source target) n s e = refl
-behind-kept number (Mismatch segment other) n s e = refl
-behind-kept number (Alive arena) n s e = refl
-behind-kept number (Hold arena name) n s e = refl
-behind-kept number (Unhold hold) n s e = absurd (cc)
-behind-kept number (Again handle name) n s e = refl
-behind-kept number (Back handle) n s e = absurd (cc)
-behind-kept number (Close arena) n s e = refl
+-- A line that gives nothing back leaves the table as it is.
+pub leaves_kept : (p : View) (t : Table) (c : Command) → keeps_tokens c ≡ true → Leaves p t t c
+leaves_kept p t (Unhold hold) e = absurd (cc)
+leaves_kept p t (Back handle) e = absurd (cc)
+leaves_kept p t c e = record {
+  keeps = record { names = refl; base = refl; start = refl; room = refl };
+  many = refl;
+  stands = λ n. refl;
+  backs = λ holds handles b. b;
+}
 
--- A command that is neither of these.
-pub kept-by : (command : Command) → ((x : List ℕ) → command ≡ Unhold x → ⊥) → ((x : List ℕ) → command ≡ Back x → ⊥) → keeps_tokens command ≡ true
-kept-by (Open name kind) u b = refl
-kept-by (Alloc arena name size align) u b = refl
-kept-by (Slice segment name offset size) u b = refl
-kept-by (Readonly segment name) u b = refl
-kept-by (Get cell) u b = refl
-kept-by (Set cell value) u b = refl
-kept-by (Add cell value) u b = refl
-kept-by (Cas cell old new) u b = refl
-kept-by (Fill segment byte) u b = refl
-kept-by (Copy source target) u b = refl
-kept-by (Mismatch segment other) u b = refl
-kept-by (Alive arena) u b = refl
-kept-by (Hold arena name) u b = refl
-kept-by (Unhold hold) u b = absurd (u hold refl)
-kept-by (Again handle name) u b = refl
-kept-by (Back handle) u b = absurd (b handle refl)
-kept-by (Close arena) u b = refl
+-- Keeping once and again.
+pub keeps_then : {t u v : Table} → KeepsTable t u → KeepsTable u v → KeepsTable t v
+keeps_then a b = record { names = b.names ∙ a.names; base = b.base ∙ a.base; start = b.start ∙ a.start; room = b.room ∙ a.room }
 
-module _ (p q : View) (names : Numbers) (base : List Standing) (start : ℕ) (own next : List Standing) (command : Command) (reply : Reply)
-    (h : length base ≤ start) where
-  -- A line that gives nothing back.
-  pub line_kept : (out : Outcome) → keeps_tokens command ≡ true → next ≡ own ++ out.made ∷ [] → reply ≡ out.reply
-      → RanLine p q (CallDoes p.caller (λ name. standing_of base start own (number_at names name)) command) out
-      → (opens command ≡ true → SlotsTold p q out.reply)
-      → PagesToldBy (λ name. standing_of base start own (number_at names name)) p q command out.reply
-      → LineRan p q names base start own next command reply
-  line_kept out kept is said r told paged = record {
+-- Where memory was wanting all is as it was.
+pub line_wanted : {E : Type 0} (p q : View) (was now : Table) (c : Command) (e : E) → MadeNoCall p q was now c → AfterLine p q was now c (Err e)
+line_wanted p q was now c e n = record {
+  keeps = subst (λ (t : Table). KeepsTable was t) (sym n.table) (record { names = refl; base = refl; start = refl; room = refl });
+  ran = tt;
+  backs = λ holds handles b. subst (λ (r : View). Backs r holds handles was.base.now now.own.items) (sym n.pass)
+      (subst (λ (t : Table). Backs p holds handles was.base.now t.own.items) (sym n.table) b);
+  no_call = n;
+}
+
+module _ (p q : View) (was left now : Table) (c : Command) (out : Outcome) (reply : Reply) (l : Leaves p was left c)
+    (is : now.own.items ≡ left.own.items ++ out.made ∷ []) (ran : CallRan p q (stands_by was) c out) where
+  -- The line ran, and its name stands for what it made.
+  pub line_ran : reply ≡ out.reply → LineRan p q was.names.now was.base.now was.start was.own.items now.own.items c reply
+  line_ran said = record {
     made = out.made;
-    run = r.ran.own;
-    does = subst (λ (x : Reply). CallDoes p.caller (λ name. standing_of base start own (number_at names name)) command (outcome x out.made) r.ran.own)
-        (sym said) r.ran.does;
-    went = r.ran.went;
-    outside = r.ran.outside;
-    lasts = r.ran.lasts;
-    one_more = ap (λ (xs : List Standing). length xs) is ∙ length-append own (out.made ∷ []);
-    stands = λ n. ap (λ (xs : List Standing). standing_at base start xs n) is ∙ (standing-push base start own out.made n h
-        ∙ ap (λ (s : Standing). if n == start + length own then out.made else s)
-        (sym (behind-kept (number_at names) command n (standing_at base start own n) kept)));
-    slots = λ o. subst (λ (x : Reply). SlotsTold p q x) (sym said) (told o);
-    pages = subst (λ (x : Reply). PagesToldBy (λ name. standing_of base start own (number_at names name)) p q command x) (sym said) paged;
+    run = ran.ran.ran.own;
+    does = subst (λ (x : Reply). CallDoes p.caller (stands_by was) c (outcome x out.made) ran.ran.ran.own) (sym said) ran.ran.ran.does;
+    went = ran.ran.ran.went;
+    outside = ran.ran.ran.outside;
+    lasts = ran.ran.ran.lasts;
+    one_more = ap (λ (xs : List Standing). length xs) is
+        ∙ (length-append left.own.items (out.made ∷ []) ∙ ap (λ (k : ℕ). k + 1) l.many);
+    stands = λ n. ap (λ (xs : List Standing). standing_at was.base.now was.start xs n) is
+        ∙ (standing-push was.base.now was.start left.own.items out.made n was.behind
+        ∙ (ap (λ (k : ℕ). if n == was.start + k then out.made else standing_at was.base.now was.start left.own.items n) l.many
+        ∙ ap (λ (s : Standing). if n == was.start + length was.own.items then out.made else s) (l.stands n)));
+    slots = λ o. subst (λ (x : Reply). SlotsTold p q x) (sym said) (ran.slots o);
+    pages = subst (λ (x : Reply). PagesToldBy (stands_by was) p q c x) (sym said) ran.pages;
   }
 
-  pub backs_kept : (out : Outcome) (holds handles : List ArenaId) → next ≡ own ++ out.made ∷ []
-      → RanLine p q (CallDoes p.caller (λ name. standing_of base start own (number_at names name)) command) out
-      → Backs p holds handles base own → Backs q holds handles base next
-  backs_kept out holds handles is r b =
-      subst (λ (xs : List Standing). Backs q holds handles base xs) (sym is)
-      (backs_more p q b r.ran.lasts (went_made r.ran.went) out.made r.ran.same_holds r.ran.same_handles r.backed)
-
-  -- A line that gives a hold or a handle back, or is skipped.
-  pub line_took : (left : List Standing) (number : Option ℕ) (f : Standing → Standing) (run : List Entry)
-      → ((n : ℕ) (s : Standing) → behind (number_at names) command n s ≡ (if is_number number n then f s else s))
-      → Left f base start own number left → length left ≡ length own → next ≡ left ++ Nothing ∷ []
-      → CallDoes p.caller (λ name. standing_of base start own (number_at names name)) command (plain reply) run → Went p q run → q.inside ≡ None
-      → Lasts (view_of_pass p) (view_of_pass q) → opens command ≡ false
-      → PagesToldBy (λ name. standing_of base start own (number_at names name)) p q command reply
-      → LineRan p q names base start own next command reply
-  line_took left number f run behind_is stands many is does went outside lasts shuts paged = record {
-    made = Nothing;
-    run = run;
-    does = does;
-    went = went;
-    outside = outside;
-    lasts = lasts;
-    one_more = ap (λ (xs : List Standing). length xs) is ∙ (length-append left (Nothing ∷ []) ∙ ap (λ (k : ℕ). k + 1) many);
-    stands = λ n. ap (λ (xs : List Standing). standing_at base start xs n) is ∙ (stands n
-        ∙ ap (λ (s : Standing). if n == start + length own then Nothing else s) (sym (behind_is n (standing_at base start own n))));
-    slots = λ o. absurd (cc);
-    pages = paged;
-  }
+  -- And the pass has what its names stand for.
+  pub line_backs : (holds handles : List ArenaId) → Backs p holds handles was.base.now was.own.items
+      → Backs q holds handles was.base.now now.own.items
+  line_backs holds handles b =
+      subst (λ (xs : List Standing). Backs q holds handles was.base.now xs) (sym is)
+      (backs_more p q (l.backs holds handles b) ran.ran.ran.lasts (went_made ran.ran.ran.went) out.made ran.ran.ran.same_holds
+      ran.ran.ran.same_handles ran.ran.backed)

@@ -1,7 +1,7 @@
 -- Lines in a row.
 use Rattle.std.specs.Prelude.{Vec, vec_capacity}
 use Rattle.std.specs.declared.alloc.Global.{Global}
-use Rattle.std.proofs.Common.{◌≡◌, ℕ, ◌+◌, List, [], ◌∷◌, ◌++◌, length, length-append, refl, ap, sym, ◌∙◌, subst, arith, append_assoc, None, Option}
+use Rattle.std.proofs.Common.{◌≡◌, ℕ, ◌+◌, List, [], ◌∷◌, ◌++◌, length, length-append, refl, ap, sym, ◌∙◌, subst, arith, append_assoc, None, Option, Result, Ok, Err}
 use Rattle.std.proofs.lemmas.List.{length-map, map-append, append-nil}
 use Rattle.fm_base.specs.declared.arena_id.ArenaId.{ArenaId}
 use Rattle.fm_base.specs.declared.caller.Caller.{Caller}
@@ -14,6 +14,7 @@ use Rattle.fm_script_lines.specs.declared.reply.Reply.{Reply}
 use Rattle.fm_script_lines.specs.declared.standing.Standing.{Standing}
 use Rattle.fm_script_lines.specs.declared.table.Table.{Table}
 use Rattle.fm_script_lines.specs.Calls.{CallDoes}
+use Rattle.fm_script_lines.specs.Learnt.{AfterLine, AfterLines, KeepsTable, MadeNoCall}
 use Rattle.fm_script_lines.specs.Lines.{LineRan}
 use Rattle.fm_script_lines.specs.Numbers.{number_at}
 use Rattle.fm_script_lines.specs.Outcomes.{outcome}
@@ -26,6 +27,7 @@ use Rattle.fm_script_lines.specs.Tokens.{Backs}
 use Rattle.fm_script_lines.proofs.Allocating.{allocates_rightly}
 use Rattle.fm_script_lines.proofs.Going.{lasts_then, went_none, went_then}
 use Rattle.fm_script_lines.proofs.Lending.{behind_as, behind_more, few_later, finds_few, lends_later, lends_rightly}
+use Rattle.fm_script_lines.proofs.Returning.{keeps_then}
 use Rattle.fm_script_lines.proofs.Opening.{found_at, found_later, found_more, line_silent, opens_more, opens_rightly}
 
 -- What one more line leaves of names.
@@ -137,34 +139,74 @@ replied_many {lines = lines} {replies = replies} r =
     omega (arith, told, same, lines_mapped, replies_mapped)
 
 -- Where a loop over lines stands: these ran, from the table that was
-pub record SoFar (p : View) (names : Numbers) (was : Table) (room : ℕ) (lines : List Line) (m : View) (now : Table) (replies : Vec Reply Global) : Type 0 where
-  pub base : now.base ≡ was.base
-  pub start : now.start ≡ was.start
-  pub ran : LinesRan p m names was.base.now was.start was.own.items now.own.items lines replies.items
+pub record SoFar (p : View) (was : Table) (room : ℕ) (lines : List Line) (m : View) (now : Table) (replies : Vec Reply Global) : Type 0 where
+  pub keeps : KeepsTable was now
+  pub ran : LinesRan p m was.names.now was.base.now was.start was.own.items now.own.items lines replies.items
   pub backs : (holds handles : List ArenaId) → Backs p holds handles was.base.now was.own.items → Backs m holds handles was.base.now now.own.items
-  pub room_is : vec_capacity now.own ≡ vec_capacity was.own
   pub answers : vec_capacity replies ≡ room
 
+-- What it has for names, said of the table that is.
+pub so_far_backs : {p m : View} {was now : Table} {room : ℕ} {lines : List Line} {replies : Vec Reply Global} (i : SoFar p was room lines m now replies)
+    → (holds handles : List ArenaId) → Backs p holds handles was.base.now was.own.items → Backs m holds handles now.base.now now.own.items
+so_far_backs {m = m} {was = was} {now = now} i holds handles b =
+    let same : now.base.now ≡ was.base.now = λ j. (i.keeps.base j).now in
+    subst (λ (bs : List Standing). Backs m holds handles bs now.own.items) (sym same) (i.backs holds handles b)
+
+-- And of one behind it.
+so_far_behind : {p m : View} {was now : Table} {room : ℕ} {lines : List Line} {replies : Vec Reply Global} {E : Type 0} (next : View) (after : Table)
+    (l : Line) (result : Result Reply E) (i : SoFar p was room lines m now replies) → AfterLine m next now after l.command result
+    → (holds handles : List ArenaId) → Backs p holds handles was.base.now was.own.items → Backs next holds handles was.base.now after.own.items
+so_far_behind {was = was} {now = now} next after l result i a holds handles b =
+    let same : now.base.now ≡ was.base.now = λ j. (i.keeps.base j).now in
+    subst (λ (bs : List Standing). Backs next holds handles bs after.own.items) same (a.backs holds handles (so_far_backs i holds handles b))
+
 -- A line more.
-pub so_far_more : (p : View) (names : Numbers) (was : Table) (room : ℕ) (lines : List Line) (m next : View) (now after : Table)
-    (replies told : Vec Reply Global) (l : Line) (reply : Reply) → SoFar p names was room lines m now replies
-    → LineRan m next names now.base.now now.start now.own.items after.own.items l.command reply
-    → after.base ≡ now.base → after.start ≡ now.start → vec_capacity after.own ≡ vec_capacity now.own
-    → ((holds handles : List ArenaId) → Backs m holds handles now.base.now now.own.items → Backs next holds handles now.base.now after.own.items)
+pub so_far_more : {E : Type 0} (p : View) (was : Table) (room : ℕ) (lines : List Line) (m next : View) (now after : Table)
+    (replies told : Vec Reply Global) (l : Line) (reply : Reply) → SoFar p was room lines m now replies
+    → AfterLine {E = E} m next now after l.command (Ok reply)
     → told.items ≡ replies.items ++ reply ∷ [] → vec_capacity told ≡ vec_capacity replies
-    → SoFar p names was room (lines ++ l ∷ []) next after told
-so_far_more p names was room lines m next now after replies told l reply i ran base start capacity backs items same_room =
-    let same : now.base.now ≡ was.base.now = λ j. (i.base j).now in
-    let line : LineRan m next names was.base.now was.start now.own.items after.own.items l.command reply =
-    subst (λ (n : ℕ). LineRan m next names was.base.now n now.own.items after.own.items l.command reply) i.start
-    (subst (λ (bs : List Standing). LineRan m next names bs now.start now.own.items after.own.items l.command reply) same ran) in
+    → SoFar p was room (lines ++ l ∷ []) next after told
+so_far_more p was room lines m next now after replies told l reply i a items same_room =
+    let line : LineRan m next was.names.now was.base.now was.start now.own.items after.own.items l.command reply =
+    subst (λ (n : ℕ). LineRan m next was.names.now was.base.now n now.own.items after.own.items l.command reply) i.keeps.start
+    (subst (λ (bs : List Standing). LineRan m next was.names.now bs now.start now.own.items after.own.items l.command reply) (λ j. (i.keeps.base j).now)
+    (subst (λ (names : Numbers). LineRan m next names now.base.now now.start now.own.items after.own.items l.command reply)
+    (λ j. (i.keeps.names j).now) a.ran)) in
     record {
-      base = base ∙ i.base;
-      start = start ∙ i.start;
-      ran = subst (λ (rs : List Reply). LinesRan p next names was.base.now was.start was.own.items after.own.items (lines ++ l ∷ []) rs) (sym items)
-          (lines_more p names was.base.now was.start was.own.items m next now.own.items after.own.items lines l replies.items reply i.ran line);
-      backs = λ holds handles b. subst (λ (bs : List Standing). Backs next holds handles bs after.own.items) same
-          (backs holds handles (subst (λ (bs : List Standing). Backs m holds handles bs now.own.items) (sym same) (i.backs holds handles b)));
-      room_is = capacity ∙ i.room_is;
+      keeps = keeps_then i.keeps a.keeps;
+      ran = subst (λ (rs : List Reply). LinesRan p next was.names.now was.base.now was.start was.own.items after.own.items (lines ++ l ∷ []) rs) (sym items)
+          (lines_more p was.names.now was.base.now was.start was.own.items m next now.own.items after.own.items lines l replies.items reply i.ran line);
+      backs = so_far_behind next after l (Ok reply) i a;
       answers = same_room ∙ i.answers;
     }
+
+-- A line to which memory was wanting.
+pub so_far_stops : {E : Type 0} (p : View) (was : Table) (room : ℕ) (ran behind all : List Line) (m next : View) (now after : Table)
+    (replies : Vec Reply Global) (l : Line) (e : E) → SoFar p was room ran m now replies → AfterLine m next now after l.command (Err e)
+    → all ≡ ran ++ l ∷ behind → AfterLines p next was after all replies.items (Err e)
+so_far_stops p was room ran behind all m next now after replies l e i a parts =
+    let no_call : MadeNoCall m next now after l.command = a.no_call in
+    let stopped : LinesRan p next was.names.now was.base.now was.start was.own.items after.own.items ran replies.items =
+    subst (λ (q : View). LinesRan p q was.names.now was.base.now was.start was.own.items after.own.items ran replies.items) (sym no_call.pass)
+    (subst (λ (t : Table). LinesRan p m was.names.now was.base.now was.start was.own.items t.own.items ran replies.items) (sym no_call.table) i.ran) in
+    record {
+      keeps = keeps_then i.keeps a.keeps;
+      ran = tt;
+      went = ran_on stopped;
+      backs = so_far_behind next after l (Err e) i a;
+      many = let many = ran_many stopped in let split = ap (λ (xs : List Line). length xs) parts in let long = length-append ran (l ∷ behind) in
+          omega (arith, many, split, long);
+      stops = record { before = ran; line = l; behind = behind; parts = parts; takes = no_call.takes; ran = stopped };
+    }
+
+-- All lines ran.
+pub so_far_all : {E : Type 0} (p : View) (was : Table) (room : ℕ) (lines : List Line) (m : View) (now : Table) (replies : Vec Reply Global)
+    → SoFar p was room lines m now replies → AfterLines {E = E} p m was now lines replies.items (Ok tt)
+so_far_all p was room lines m now replies i = record {
+  keeps = i.keeps;
+  ran = i.ran;
+  went = ran_on i.ran;
+  backs = i.backs;
+  many = let many = ran_many i.ran in omega (arith, many);
+  stops = tt;
+}

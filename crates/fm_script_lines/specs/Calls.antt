@@ -184,27 +184,6 @@ module _ (c : Caller) where
     CallDoes (command.Back handle) = On (handle_of (stands handle)) GivesBack
     CallDoes (command.Close arena) = On (arena_at arena) Closes
 
--- the line is about an arena: it opens one, or asks for what is the arena's
-abbrev pub is_on_arena : Command → Bool
-is_on_arena (command.Open name kind) = true
-is_on_arena (command.Alloc arena name size align) = true
-is_on_arena (command.Alive arena) = true
-is_on_arena (command.Hold arena name) = true
-is_on_arena (command.Again handle name) = true
-is_on_arena (command.Close arena) = true
-is_on_arena c = false
-
--- the line is about segments, and wants no memory
-abbrev pub is_on_segment : Command → Bool
-is_on_segment (command.Slice segment name offset size) = true
-is_on_segment (command.Readonly segment name) = true
-is_on_segment (command.Get cell) = true
-is_on_segment (command.Set cell value) = true
-is_on_segment (command.Fill segment byte) = true
-is_on_segment (command.Copy source target) = true
-is_on_segment (command.Mismatch segment other) = true
-is_on_segment c = false
-
 -- the line's call is one of a handle, which is resolved in memory of its own
 abbrev pub takes_memory : Command → Bool
 takes_memory (command.Add cell value) = true

@@ -6,6 +6,7 @@ pub mod Runs
 pub mod Numbers
 pub mod Ordering
 pub mod Laws
+pub mod Learnt
 pub mod Lines
 pub mod Pages
 pub mod Played

@@ -1,5 +1,6 @@
 -- What a pass's next line does, to the pass and to what names stand for.
 use Rattle.std.specs.Prelude.{◌≡◌, ℕ, ◌+◌, ◌==◌, Bool, true, false, if◌then◌else◌, length, None, Option, Some, List}
+use Rattle.fm_base.specs.declared.arena_id.ArenaId.{ArenaId}
 use Rattle.fm_base.specs.Calls.{Entry}
 use Rattle.fm_base.specs.Outcomes.{Lasts}
 use Rattle.fm_rule_facts.specs.Views.{View}
@@ -15,7 +16,7 @@ use Rattle.fm_script_lines.specs.Outcomes.{outcome}
 use Rattle.fm_script_lines.specs.Pages.{PagesToldBy}
 use Rattle.fm_script_lines.specs.Runs.{Went}
 use Rattle.fm_script_lines.specs.Slots.{SlotsTold, opens}
-use Rattle.fm_script_lines.specs.Standings.{standing_at, standing_of, unheld, handed_back}
+use Rattle.fm_script_lines.specs.Standings.{handed_back, handle_of, hold_of, standing_at, standing_of, unheld}
 
 abbrev pub is_number : Option ℕ → ℕ → Bool
 is_number None n = false
@@ -26,6 +27,15 @@ abbrev pub behind : (List ℕ → Option ℕ) → Command → ℕ → Standing �
 behind number (command.Unhold hold) n s = if is_number (number hold) n then unheld s else s
 behind number (command.Back handle) n s = if is_number (number handle) n then handed_back s else s
 behind number c n s = s
+
+-- the hold that the line gives back, and the handle, where names stand for this
+abbrev pub hold_back : (List ℕ → Standing) → Command → Option ArenaId
+hold_back stands (command.Unhold hold) = hold_of (stands hold)
+hold_back stands c = None
+
+abbrev pub handle_back : (List ℕ → Standing) → Command → Option ArenaId
+handle_back stands (command.Back handle) = handle_of (stands handle)
+handle_back stands c = None
 
 -- The next of the pass's own lines ran
 pub record LineRan (old new : View) (names : Numbers) (base : List Standing) (start : ℕ) (own next : List Standing) (command : Command) (reply : Reply)

@@ -49,7 +49,11 @@ pub record RanWith (old new : View) (holds handles : List ArenaId) (Does : List 
 abbrev pub Ran : View → View → (List Entry → Type 0) → Type 0
 Ran old new Does = RanWith old new old.holds old.handles Does
 
--- The pass ran a line that came to this: it has what it had, and the hold or handle of the line's name
-pub record RanLine (old new : View) (Does : Outcome → List Entry → Type 0) (out : Outcome) : Type 0 where
-  pub ran : RanWith old new (holds_with out.made old.holds) (handles_with out.made old.handles) (Does out)
+-- The pass ran a line that came to this: it has these, and the hold or handle of the line's name
+pub record RanLineWith (old new : View) (holds handles : List ArenaId) (Does : Outcome → List Entry → Type 0) (out : Outcome) : Type 0 where
+  pub ran : RanWith old new (holds_with out.made holds) (handles_with out.made handles) (Does out)
   pub backed : IsBacked new out.made
+
+-- and what it had
+abbrev pub RanLine : View → View → (Outcome → List Entry → Type 0) → Outcome → Type 0
+RanLine old new Does out = RanLineWith old new old.holds old.handles Does out

@@ -11,8 +11,8 @@ use Rattle.fm_gate.specs.declared.held.Hold as held
 use Rattle.fm_gate.specs.Makers.{Made, made_by_pass}
 use Rattle.fm_rule_facts.specs.Views.{View, IsKnown}
 use Rattle.fm_rule_calls.specs.Told.{view_of_pass}
-use Rattle.fm_script_lines.specs.declared.lent.Lent.{Lent}
-use Rattle.fm_script_lines.specs.declared.lent.Lent.TheVariants as other
+use Rattle.fm_script_lines.specs.declared.bound.Bound.{Bound}
+use Rattle.fm_script_lines.specs.declared.bound.Bound.TheVariants as other
 use Rattle.fm_script_lines.specs.declared.standing.Standing.{Standing}
 use Rattle.fm_script_lines.specs.declared.standing.Standing.TheVariants.{Nothing, Arena, Automatic, Segment, Hold, Handle}
 
@@ -63,7 +63,7 @@ lent (Segment r) = Segment r
 lent _ = Nothing
 
 -- the same, as a name of one's own
-abbrev pub standing_as : Lent → Standing
+abbrev pub standing_as : Bound → Standing
 standing_as other.Nothing = Nothing
 standing_as (other.Arena id) = Arena id
 standing_as (other.Segment r) = Segment r

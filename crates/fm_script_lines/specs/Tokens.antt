@@ -32,6 +32,11 @@ CanSpend p (Automatic id handle) = IfSome handle (HasHandle p)
 CanSpend p (Handle handle) = IfSome handle (HasHandle p)
 CanSpend p s = ⊤
 
+-- outside all arenas, the pass may give it back
+pub record MaySpend (p : View) (s : Standing) : Type 0 where
+  pub outside : p.inside ≡ None
+  pub can : CanSpend p s
+
 -- those of these names
 abbrev pub among : (Standing → Option ArenaId) → List Standing → List ArenaId
 among token [] = []
@@ -43,12 +48,16 @@ pub record HasTokens (all named others : List ArenaId) : Type 0 where
   pub are : all ≡ mine ++ others
   pub as_many : (id : ArenaId) → how_many id mine ≡ how_many id named
 
--- The pass has what the names stand for: those of others' lines, and its own
-pub record Backs (p : View) (holds handles : List ArenaId) (base own : List Standing) : Type 0 where
+-- What the names stand for, those of others' lines and its own, the pass knows, and has by these holds and handles
+pub record BacksWith (p : View) (all_holds all_handles holds handles : List ArenaId) (base own : List Standing) : Type 0 where
   pub others_known : All (λ s. IsBacked p (lent s)) base
   pub own_known : All (IsBacked p) own
-  pub has_holds : HasTokens p.holds (among hold_of own) holds
-  pub has_handles : HasTokens p.handles (among handle_of own) handles
+  pub has_holds : HasTokens all_holds (among hold_of own) holds
+  pub has_handles : HasTokens all_handles (among handle_of own) handles
+
+-- by those that it has
+abbrev pub Backs : View → (holds handles : List ArenaId) (base own : List Standing) → Type 0
+Backs p holds handles base own = BacksWith p p.holds p.handles holds handles base own
 
 -- before the holds and handles of its names it had some others
 pub record IsReady (p : View) (base own : List Standing) : Type 0 where

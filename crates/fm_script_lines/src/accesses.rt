@@ -4,22 +4,23 @@ ghost use Rattle.fm_script_text.specs.Syntax.{IsOfKind};
 ghost use Rattle.fm_segment.specs.Access.{IsKnown};
 ghost use Rattle.fm_script_lines.specs.Calls.{On, Gets, Sets};
 ghost use Rattle.fm_script_lines.specs.Runs.{RanLine};
+ghost use Rattle.fm_script_lines.specs.Standings.{segment_of, standing_as};
 
+use crate::bound::Bound;
 use crate::outcome::Outcome;
 use crate::reply::Reply;
 use crate::values::{layout_of, value_of};
 use fm_arena::Shared;
 use fm_script_text::Cell;
-use fm_segment::Segment;
 use std::sync::Wait;
 
 /// `get SEG TYPE OFFSET`
-pub(crate) fn get(m: &mut Shared, segment: Option<Segment>, cell: &Cell) -> Outcome
+pub(crate) fn get(m: &mut Shared, bound: Bound, cell: &Cell) -> Outcome
     requires outside { m.old.inside ≡ None }
-    requires known { IfSome segment (IsKnown (view_of_pass m.old)) }
-    ensures { RanLine m.old m.new (On segment (Gets m.old.caller cell.now)) result }
+    requires known { IfSome (segment_of (standing_as bound)) (IsKnown (view_of_pass m.old)) }
+    ensures { RanLine m.old m.new (On (segment_of (standing_as bound)) (Gets m.old.caller cell.now)) result }
 {
-    let Some(segment) = segment else {
+    let Some(segment) = bound.segment() else {
         return Outcome::plain(Reply::Skipped);
     };
     match segment.get(m, &layout_of(cell), cell.offset) {
@@ -29,19 +30,13 @@ pub(crate) fn get(m: &mut Shared, segment: Option<Segment>, cell: &Cell) -> Outc
 }
 
 /// `set SEG TYPE OFFSET VALUE`
-pub(crate) fn set<R: Wait>(
-    rt: &R,
-    m: &mut Shared,
-    segment: Option<Segment>,
-    cell: &Cell,
-    value: i64,
-) -> Outcome
+pub(crate) fn set<R: Wait>(rt: &R, m: &mut Shared, bound: Bound, cell: &Cell, value: i64) -> Outcome
     requires outside { m.old.inside ≡ None }
-    requires known { IfSome segment (IsKnown (view_of_pass m.old)) }
+    requires known { IfSome (segment_of (standing_as bound)) (IsKnown (view_of_pass m.old)) }
     requires of_kind { IsOfKind cell.now.kind value }
-    ensures { RanLine m.old m.new (On segment (Sets m.old.caller cell.now value)) result }
+    ensures { RanLine m.old m.new (On (segment_of (standing_as bound)) (Sets m.old.caller cell.now value)) result }
 {
-    let Some(segment) = segment else {
+    let Some(segment) = bound.segment() else {
         return Outcome::plain(Reply::Skipped);
     };
     let value = value_of(cell.kind, value);

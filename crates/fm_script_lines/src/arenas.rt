@@ -3,12 +3,14 @@ ghost use Rattle.fm_rule_facts.specs.Views.{IsKnown};
 ghost use Rattle.fm_script_lines.specs.Calls.{On, Opens, Asks, Closes};
 ghost use Rattle.fm_script_lines.specs.Runs.{RanLine};
 ghost use Rattle.fm_script_lines.specs.Slots.{SlotsTold};
+ghost use Rattle.fm_script_lines.specs.Standings.{arena_of, standing_as};
 
+use crate::bound::Bound;
 use crate::outcome::Outcome;
 use crate::reply::Reply;
 use crate::standing::Standing;
 use fm_arena::{AutoHandle, Shared};
-use fm_base::{ArenaId, Kind, Memory};
+use fm_base::{Kind, Memory};
 use std::sync::Wait;
 
 /// `open NAME KIND`
@@ -55,12 +57,12 @@ fn open_by_hand<R: Wait>(rt: &R, m: &mut Shared, kind: Kind) -> Outcome
 }
 
 /// `alive ARENA`
-pub(crate) fn ask(m: &mut Shared, arena: Option<ArenaId>) -> Outcome
+pub(crate) fn ask(m: &mut Shared, bound: Bound) -> Outcome
     requires outside { m.old.inside ≡ None }
-    requires known { IfSome arena (IsKnown m.old) }
-    ensures { RanLine m.old m.new (On arena (Asks m.old.caller)) result }
+    requires known { IfSome (arena_of (standing_as bound)) (IsKnown m.old) }
+    ensures { RanLine m.old m.new (On (arena_of (standing_as bound)) (Asks m.old.caller)) result }
 {
-    let Some(arena) = arena else {
+    let Some(arena) = bound.arena() else {
         return Outcome::plain(Reply::Skipped);
     };
     match m.is_alive(arena) {
@@ -70,12 +72,12 @@ pub(crate) fn ask(m: &mut Shared, arena: Option<ArenaId>) -> Outcome
 }
 
 /// `close ARENA`
-pub(crate) fn close<R: Wait>(rt: &R, m: &mut Shared, arena: Option<ArenaId>) -> Outcome
+pub(crate) fn close<R: Wait>(rt: &R, m: &mut Shared, bound: Bound) -> Outcome
     requires outside { m.old.inside ≡ None }
-    requires known { IfSome arena (IsKnown m.old) }
-    ensures { RanLine m.old m.new (On arena (Closes m.old.caller)) result }
+    requires known { IfSome (arena_of (standing_as bound)) (IsKnown m.old) }
+    ensures { RanLine m.old m.new (On (arena_of (standing_as bound)) (Closes m.old.caller)) result }
 {
-    let Some(arena) = arena else {
+    let Some(arena) = bound.arena() else {
         return Outcome::plain(Reply::Skipped);
     };
     match m.close(rt, arena) {

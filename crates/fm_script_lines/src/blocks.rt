@@ -3,20 +3,21 @@ ghost use Rattle.fm_rule_calls.specs.Told.{view_of_pass};
 ghost use Rattle.fm_segment.specs.Access.{IsKnown};
 ghost use Rattle.fm_script_lines.specs.Calls.{On, Fills, Copies, Compares};
 ghost use Rattle.fm_script_lines.specs.Runs.{RanLine};
+ghost use Rattle.fm_script_lines.specs.Standings.{segment_of, standing_as};
 
+use crate::bound::Bound;
 use crate::outcome::Outcome;
 use crate::reply::Reply;
 use fm_arena::Shared;
-use fm_segment::Segment;
 use std::sync::Wait;
 
 /// `fill SEG BYTE`
-pub(crate) fn fill<R: Wait>(rt: &R, m: &mut Shared, segment: Option<Segment>, byte: u8) -> Outcome
+pub(crate) fn fill<R: Wait>(rt: &R, m: &mut Shared, bound: Bound, byte: u8) -> Outcome
     requires outside { m.old.inside ≡ None }
-    requires known { IfSome segment (IsKnown (view_of_pass m.old)) }
-    ensures { RanLine m.old m.new (On segment (Fills m.old.caller byte)) result }
+    requires known { IfSome (segment_of (standing_as bound)) (IsKnown (view_of_pass m.old)) }
+    ensures { RanLine m.old m.new (On (segment_of (standing_as bound)) (Fills m.old.caller byte)) result }
 {
-    let Some(segment) = segment else {
+    let Some(segment) = bound.segment() else {
         return Outcome::plain(Reply::Skipped);
     };
     match segment.fill(rt, m, byte) {
@@ -26,21 +27,16 @@ pub(crate) fn fill<R: Wait>(rt: &R, m: &mut Shared, segment: Option<Segment>, by
 }
 
 /// `copy SRC DST`
-pub(crate) fn copy<R: Wait>(
-    rt: &R,
-    m: &mut Shared,
-    source: Option<Segment>,
-    target: Option<Segment>,
-) -> Outcome
+pub(crate) fn copy<R: Wait>(rt: &R, m: &mut Shared, source: Bound, target: Bound) -> Outcome
     requires outside { m.old.inside ≡ None }
-    requires source { IfSome source (IsKnown (view_of_pass m.old)) }
-    requires target { IfSome target (IsKnown (view_of_pass m.old)) }
-    ensures { RanLine m.old m.new (On source (λ r. On target (Copies m.old.caller r))) result }
+    requires source { IfSome (segment_of (standing_as source)) (IsKnown (view_of_pass m.old)) }
+    requires target { IfSome (segment_of (standing_as target)) (IsKnown (view_of_pass m.old)) }
+    ensures { RanLine m.old m.new (On (segment_of (standing_as source)) (λ r. On (segment_of (standing_as target)) (Copies m.old.caller r))) result }
 {
-    let Some(source) = source else {
+    let Some(source) = source.segment() else {
         return Outcome::plain(Reply::Skipped);
     };
-    let Some(target) = target else {
+    let Some(target) = target.segment() else {
         return Outcome::plain(Reply::Skipped);
     };
     match target.copy_from(rt, m, &source) {
@@ -50,16 +46,16 @@ pub(crate) fn copy<R: Wait>(
 }
 
 /// `mismatch SEG SEG`
-pub(crate) fn mismatch(m: &mut Shared, segment: Option<Segment>, other: Option<Segment>) -> Outcome
+pub(crate) fn mismatch(m: &mut Shared, segment: Bound, other: Bound) -> Outcome
     requires outside { m.old.inside ≡ None }
-    requires segment { IfSome segment (IsKnown (view_of_pass m.old)) }
-    requires other { IfSome other (IsKnown (view_of_pass m.old)) }
-    ensures { RanLine m.old m.new (On segment (λ r. On other (Compares m.old.caller r))) result }
+    requires segment { IfSome (segment_of (standing_as segment)) (IsKnown (view_of_pass m.old)) }
+    requires other { IfSome (segment_of (standing_as other)) (IsKnown (view_of_pass m.old)) }
+    ensures { RanLine m.old m.new (On (segment_of (standing_as segment)) (λ r. On (segment_of (standing_as other)) (Compares m.old.caller r))) result }
 {
-    let Some(segment) = segment else {
+    let Some(segment) = segment.segment() else {
         return Outcome::plain(Reply::Skipped);
     };
-    let Some(other) = other else {
+    let Some(other) = other.segment() else {
         return Outcome::plain(Reply::Skipped);
     };
     match segment.mismatch(m, &other) {

@@ -7,12 +7,10 @@
 mod accesses;
 mod arenas;
 mod blocks;
+mod bound;
 mod laws;
-mod lent;
 mod line;
 mod numbers;
-mod on_arenas;
-mod on_segments;
 mod ordering;
 mod outcome;
 mod playing;
@@ -27,8 +25,8 @@ mod turns;
 mod updates;
 mod values;
 
+pub use bound::Bound;
 pub use laws::{admitted_lines_leave_nothing, settled_lines_are_a_memorys};
-pub use lent::Lent;
 pub use line::run_line;
 pub use numbers::Numbers;
 pub use ordering::{Order, count_lines, in_order};

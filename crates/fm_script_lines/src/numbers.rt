@@ -1,12 +1,11 @@
-ghost use Rattle.std.specs.Prelude.{◌≡◌, IfOk, IfErr, OnOk, List, ℕ, if◌then◌else◌};
+ghost use Rattle.std.specs.Prelude.{◌≡◌, IfOk, OnOk, List, ℕ, if◌then◌else◌};
 ghost use Rattle.fm_script_text.specs.Rules.{made};
 ghost use Rattle.fm_script_lines.specs.Numbers.{AreNumbers, is_made, number_at};
 ghost use Rattle.fm_script_lines.specs.Ordering.{lines_at};
 
-use fm_base::Refusal;
 use fm_path_text::NameText;
 use fm_script_text::Line;
-use std::alloc::Global;
+use std::alloc::{AllocError, Global};
 use std::collections::BTreeMap;
 use std::str;
 
@@ -17,38 +16,29 @@ pub struct Numbers {
 }
 
 impl Numbers {
-    /// Those of these lines, of which the first has number 0. Refused: `Memory`.
-    pub fn of_lines(alloc: Global, lines: &[&Line]) -> Result<Numbers, Refusal>
-        ensures numbers { IfOk result (AreNumbers (lines_at lines.now)) }
-        ensures memory { IfErr result (λ refusal. refusal ≡ Refusal.Memory) }
+    /// Those of these lines, of which the first has number 0.
+    pub fn of_lines(alloc: Global, lines: &[&Line]) -> Result<Numbers, AllocError>
+        ensures { IfOk result (AreNumbers (lines_at lines.now)) }
     {
         let mut names = Numbers {
             makers: BTreeMap::new(alloc),
         };
         for (number, line) in lines.iter().enumerate() {
-            match names.note(alloc, number, line) {
-                Ok(_) => {}
-                Err(refusal) => return Err(refusal),
-            }
+            names.note(alloc, number, line)?;
         }
         Ok(names)
     }
 
-    /// Keeps the number of this line. Refused: `Memory`.
-    fn note(&mut self, alloc: Global, number: usize, line: &Line) -> Result<(), Refusal>
-        ensures noted { OnOk result ((name : List ℕ) → number_at self.new name
+    /// Keeps the number of this line.
+    fn note(&mut self, alloc: Global, number: usize, line: &Line) -> Result<(), AllocError>
+        ensures { OnOk result ((name : List ℕ) → number_at self.new name
             ≡ (if is_made name (made line.now.command) then Some number else number_at self.old name)) }
-        ensures memory { IfErr result (λ refusal. refusal ≡ Refusal.Memory) }
     {
         let Some((name, _)) = line.command.makes() else {
             return Ok(());
         };
-        let Ok(key) = String::from_str(alloc, text_of(name)) else {
-            return Err(Refusal::Memory);
-        };
-        let Ok(_) = self.makers.insert(key, number) else {
-            return Err(Refusal::Memory);
-        };
+        let key = String::from_str(alloc, text_of(name))?;
+        self.makers.insert(key, number)?;
         Ok(())
     }
 
@@ -66,6 +56,6 @@ fn text_of(name: &NameText) -> &str
 {
     match str::from_utf8(name.as_bytes()) {
         Ok(text) => text,
-        Err(_) => unreachable!(),
+        Err(_) => "",
     }
 }

@@ -1,10 +1,9 @@
-ghost use Rattle.std.specs.Prelude.{◌≡◌, ◌++◌, length, IfOk, IfErr, OnOk};
+ghost use Rattle.std.specs.Prelude.{◌≡◌, ◌++◌, length, IfOk, OnOk};
 ghost use Rattle.fm_script_lines.specs.Ordering.{AreStarts, in_order, is_by, lines_at};
 ghost use Rattle.fm_script_lines.specs.Report.{lines_by};
 
-use fm_base::Refusal;
 use fm_script_text::{Line, Who};
-use std::alloc::Global;
+use std::alloc::{AllocError, Global};
 
 /// The lines of a script in the order of printing.
 #[derive(Debug, Drop)]
@@ -15,19 +14,16 @@ pub struct Order<'a> {
     pub starts: Vec<usize>,
 }
 
-/// The order of a script's lines, where it has so many workers. Refused: `Memory`.
-pub fn in_order<'a>(alloc: Global, lines: &'a [Line], workers: u32) -> Result<Order<'a>, Refusal>
+/// The order of a script's lines, where it has so many workers.
+pub fn in_order<'a>(alloc: Global, lines: &'a [Line], workers: u32) -> Result<Order<'a>, AllocError>
     ensures lines { IfOk result (λ order. lines_at order.lines.items ≡ in_order workers lines.now) }
     ensures starts { IfOk result (λ order. AreStarts lines.now workers order.starts.items) }
-    ensures memory { IfErr result (λ refusal. refusal ≡ Refusal.Memory) }
 {
     let mut order = Vec::new(alloc);
     let mut starts = Vec::new(alloc);
     add_lines(&mut order, lines, Who::First)?;
     for worker in 0..workers {
-        if starts.push(order.len()).is_err() {
-            return Err(Refusal::Memory);
-        }
+        starts.push(order.len())?;
         add_lines(&mut order, lines, Who::Worker(worker + 1))?;
     }
     add_lines(&mut order, lines, Who::Last)?;
@@ -50,16 +46,13 @@ pub fn count_lines(lines: &[Line], who: Who) -> usize
     count
 }
 
-/// Puts those of the lines that are these behind the others. Refused: `Memory`.
-fn add_lines<'a>(order: &mut Vec<&'a Line>, lines: &'a [Line], who: Who) -> Result<(), Refusal>
-    ensures lines { OnOk result (lines_at order.new.items ≡ lines_at order.old.items ++ lines_by (is_by who) lines.now) }
-    ensures memory { IfErr result (λ refusal. refusal ≡ Refusal.Memory) }
+/// Puts those of the lines that are these behind the others.
+fn add_lines<'a>(order: &mut Vec<&'a Line>, lines: &'a [Line], who: Who) -> Result<(), AllocError>
+    ensures { OnOk result (lines_at order.new.items ≡ lines_at order.old.items ++ lines_by (is_by who) lines.now) }
 {
     for line in lines {
         if is_by(who, line.who) {
-            if order.push(line).is_err() {
-                return Err(Refusal::Memory);
-            }
+            order.push(line)?;
         }
     }
     Ok(())

@@ -1,67 +1,44 @@
-ghost use Rattle.std.specs.Prelude.{◌≡◌, ◌<◌, None, length, vec_capacity, List};
-ghost use Rattle.fm_base.specs.declared.arena_id.ArenaId.{ArenaId};
-ghost use Rattle.fm_script_lines.specs.Lines.{LineRan};
-ghost use Rattle.fm_script_lines.specs.Tokens.{Backs, IsReady};
+ghost use Rattle.std.specs.Prelude.{◌≡◌, None};
+ghost use Rattle.fm_script_lines.specs.Learnt.{CallRan, Leaves, stands_by};
+ghost use Rattle.fm_script_lines.specs.Tokens.{IsReady};
 ghost use Rattle.fm_script_text.specs.declared.command.Command.TheVariants as command;
 
-use crate::numbers::Numbers;
 use crate::outcome::Outcome;
 use crate::reply::Reply;
 use crate::table::Table;
-use crate::tokens::{give_back, unhold};
+use crate::tokens::{end_handle, end_hold};
 use fm_arena::Shared;
 use fm_path_text::NameText;
 use std::sync::Wait;
 
-/// `unhold HOLD`, as the pass's next line.
-pub(crate) fn run_unhold(
-    m: &mut Shared,
-    names: &Numbers,
-    table: &mut Table,
-    hold: &NameText,
-) -> Reply
+/// `unhold HOLD`
+pub(crate) fn unhold(m: &mut Shared, table: &mut Table, hold: &NameText) -> Outcome
     requires outside { m.old.inside ≡ None }
-    requires room { length table.old.own.items < vec_capacity table.old.own }
     requires ready { IsReady m.old table.old.base.now table.old.own.items }
-    ensures base { table.new.base ≡ table.old.base }
-    ensures start { table.new.start ≡ table.old.start }
-    ensures room { vec_capacity table.new.own ≡ vec_capacity table.old.own }
-    ensures ran { LineRan m.old m.new names.now table.old.base.now table.old.start table.old.own.items
-        table.new.own.items (command.Unhold hold.now) result }
-    ensures backs { (holds handles : List ArenaId)
-        → Backs m.old holds handles table.old.base.now table.old.own.items
-        → Backs m.new holds handles table.old.base.now table.new.own.items }
+    ensures ran { CallRan m.old m.new (stands_by table.old) (command.Unhold hold.now) result }
+    ensures leaves { Leaves m.old table.old table.new (command.Unhold hold.now) }
 {
-    let Some(hold) = table.take_hold(names.of(hold)) else {
-        return table.take_in(Outcome::plain(Reply::Skipped));
+    let Some(hold) = table.take_hold(hold) else {
+        return Outcome::plain(Reply::Skipped);
     };
-    unhold(m, hold);
-    table.take_in(Outcome::plain(Reply::Fine))
+    end_hold(m, hold);
+    Outcome::plain(Reply::Fine)
 }
 
-/// `back HANDLE`, as the pass's next line.
-pub(crate) fn run_back<R: Wait>(
+/// `back HANDLE`
+pub(crate) fn give_back<R: Wait>(
     rt: &R,
     m: &mut Shared,
-    names: &Numbers,
     table: &mut Table,
     handle: &NameText,
-) -> Reply
+) -> Outcome
     requires outside { m.old.inside ≡ None }
-    requires room { length table.old.own.items < vec_capacity table.old.own }
     requires ready { IsReady m.old table.old.base.now table.old.own.items }
-    ensures base { table.new.base ≡ table.old.base }
-    ensures start { table.new.start ≡ table.old.start }
-    ensures room { vec_capacity table.new.own ≡ vec_capacity table.old.own }
-    ensures ran { LineRan m.old m.new names.now table.old.base.now table.old.start table.old.own.items
-        table.new.own.items (command.Back handle.now) result }
-    ensures backs { (holds handles : List ArenaId)
-        → Backs m.old holds handles table.old.base.now table.old.own.items
-        → Backs m.new holds handles table.old.base.now table.new.own.items }
+    ensures ran { CallRan m.old m.new (stands_by table.old) (command.Back handle.now) result }
+    ensures leaves { Leaves m.old table.old table.new (command.Back handle.now) }
 {
-    let Some(handle) = table.take_handle(names.of(handle)) else {
-        return table.take_in(Outcome::plain(Reply::Skipped));
+    let Some(handle) = table.take_handle(handle) else {
+        return Outcome::plain(Reply::Skipped);
     };
-    let reply = give_back(rt, m, handle);
-    table.take_in(Outcome::plain(reply))
+    Outcome::plain(end_handle(rt, m, handle))
 }

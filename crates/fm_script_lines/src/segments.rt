@@ -8,12 +8,14 @@ ghost use Rattle.fm_segment.specs.Slices.{slice_of};
 ghost use Rattle.fm_script_lines.specs.Calls.{On, Allocates, Answers, Called, segment_made};
 ghost use Rattle.fm_script_lines.specs.Pages.{PagesTold};
 ghost use Rattle.fm_script_lines.specs.Runs.{RanLine};
+ghost use Rattle.fm_script_lines.specs.Standings.{arena_of, segment_of, standing_as};
 
+use crate::bound::Bound;
 use crate::outcome::Outcome;
 use crate::reply::Reply;
 use crate::standing::Standing;
 use fm_arena::Shared;
-use fm_base::{ArenaId, Memory};
+use fm_base::Memory;
 use fm_segment::Segment;
 use std::sync::Wait;
 
@@ -21,16 +23,16 @@ use std::sync::Wait;
 pub(crate) fn allocate<R: Wait>(
     rt: &R,
     m: &mut Shared,
-    arena: Option<ArenaId>,
+    bound: Bound,
     size: u64,
     align: u64,
 ) -> Outcome
     requires outside { m.old.inside ≡ None }
-    requires known { IfSome arena (pass.IsKnown m.old) }
-    ensures ran { RanLine m.old m.new (On arena (Allocates m.old.caller size align)) result }
-    ensures pages { IfSome arena (λ id. PagesTold m.old m.new id size align result.reply) }
+    requires known { IfSome (arena_of (standing_as bound)) (pass.IsKnown m.old) }
+    ensures ran { RanLine m.old m.new (On (arena_of (standing_as bound)) (Allocates m.old.caller size align)) result }
+    ensures pages { IfSome (arena_of (standing_as bound)) (λ id. PagesTold m.old m.new id size align result.reply) }
 {
-    let Some(arena) = arena else {
+    let Some(arena) = bound.arena() else {
         return Outcome::plain(Reply::Skipped);
     };
     match m.allocate(rt, arena, size, align) {
@@ -43,11 +45,11 @@ pub(crate) fn allocate<R: Wait>(
 }
 
 /// `slice SEG NAME OFFSET SIZE`
-pub(crate) fn slice(segment: Option<Segment>, offset: u64, size: u64) -> Outcome
-    ensures { (p : View) → p.inside ≡ None → IfSome segment (IsKnown (view_of_pass p))
-        → RanLine p p (On segment (λ r. Called (Answers (slice_of offset size r)) segment_made)) result }
+pub(crate) fn slice(bound: Bound, offset: u64, size: u64) -> Outcome
+    ensures { (p : View) → p.inside ≡ None → IfSome (segment_of (standing_as bound)) (IsKnown (view_of_pass p))
+        → RanLine p p (On (segment_of (standing_as bound)) (λ r. Called (Answers (slice_of offset size r)) segment_made)) result }
 {
-    let Some(segment) = segment else {
+    let Some(segment) = bound.segment() else {
         return Outcome::plain(Reply::Skipped);
     };
     match segment.as_slice(offset, size) {
@@ -60,11 +62,11 @@ pub(crate) fn slice(segment: Option<Segment>, offset: u64, size: u64) -> Outcome
 }
 
 /// `readonly SEG NAME`
-pub(crate) fn read_only(segment: Option<Segment>) -> Outcome
-    ensures { (p : View) → p.inside ≡ None → IfSome segment (IsKnown (view_of_pass p))
-        → RanLine p p (On segment (λ r. Called (Answers (Ok (read_only_of r))) segment_made)) result }
+pub(crate) fn read_only(bound: Bound) -> Outcome
+    ensures { (p : View) → p.inside ≡ None → IfSome (segment_of (standing_as bound)) (IsKnown (view_of_pass p))
+        → RanLine p p (On (segment_of (standing_as bound)) (λ r. Called (Answers (Ok (read_only_of r))) segment_made)) result }
 {
-    let Some(segment) = segment else {
+    let Some(segment) = bound.segment() else {
         return Outcome::plain(Reply::Skipped);
     };
     Outcome {

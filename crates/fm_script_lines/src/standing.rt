@@ -1,6 +1,7 @@
 ghost use Rattle.std.specs.Prelude.{◌≡◌};
-ghost use Rattle.fm_script_lines.specs.Standings.{arena_of, segment_of};
+ghost use Rattle.fm_script_lines.specs.Standings.{lent, standing_as};
 
+use crate::bound::Bound;
 use fm_arena::AutoHandle;
 use fm_base::ArenaId;
 use fm_gate::Hold;
@@ -21,23 +22,14 @@ pub enum Standing {
 }
 
 impl Standing {
-    /// The arena, if it is one.
-    pub fn arena(&self) -> Option<ArenaId>
-        ensures { result ≡ arena_of self.now }
+    /// What its name is bound to.
+    pub(crate) fn bound(&self) -> Bound
+        ensures { standing_as result ≡ lent self.now }
     {
         match self {
-            Standing::Arena(id) | Standing::Automatic(id, _) => Some(*id),
-            _ => None,
-        }
-    }
-
-    /// The segment, if it is one.
-    pub(crate) fn segment(&self) -> Option<Segment>
-        ensures { result ≡ segment_of self.now }
-    {
-        match self {
-            Standing::Segment(segment) => Some(*segment),
-            _ => None,
+            Standing::Arena(id) | Standing::Automatic(id, _) => Bound::Arena(*id),
+            Standing::Segment(segment) => Bound::Segment(*segment),
+            Standing::Nothing | Standing::Hold(_) | Standing::Handle(_) => Bound::Nothing,
         }
     }
 }

@@ -1,24 +1,26 @@
-ghost use Rattle.std.specs.Prelude.{◌≡◌, ◌≤◌, ◌<◌, ◌+◌, ◌++◌, ◌∷◌, [], Some, MatchOption, length, map, vec_capacity, None, All, IfOk, IfErr, List};
+ghost use Rattle.std.specs.Prelude.{◌≡◌, ◌≤◌, ◌<◌, ◌+◌, ◌++◌, ◌∷◌, [], MatchOption, length, map, vec_capacity, All, IfOk, List};
 ghost use Rattle.std.specs.Option.{option_map};
 ghost use Rattle.fm_base.specs.declared.arena_id.ArenaId.{ArenaId};
-ghost use Rattle.fm_script_lines.specs.Standings.{IsBacked, lent, standing_as, arena_of, segment_of, hold_in, handle_of, handle_in, standing_of, unheld, handed_back};
 ghost use Rattle.fm_rule_facts.specs.Views.{View};
+ghost use Rattle.fm_script_lines.specs.Numbers.{number_at};
+ghost use Rattle.fm_script_lines.specs.Standings.{IsBacked, lent, standing_as, arena_of, segment_of, hold_in, handle_in, standing_of, unheld, handed_back};
+ghost use Rattle.fm_script_lines.specs.Tables.{Took, IsOwn};
 ghost use Rattle.fm_script_lines.specs.Tokens.{Backs};
-ghost use Rattle.fm_script_lines.specs.Tables.{SeenAs, Took, IsOwn};
 
-use crate::lent::Lent;
+use crate::bound::Bound;
+use crate::numbers::Numbers;
 use crate::outcome::Outcome;
 use crate::reply::Reply;
 use crate::standing::Standing;
 use fm_arena::AutoHandle;
-use fm_base::{ArenaId, Refusal};
 use fm_gate::Hold;
-use fm_segment::Segment;
-use std::alloc::Global;
+use fm_path_text::NameText;
+use std::alloc::{AllocError, Global};
 
-/// What the names of a pass's lines stand for, and the names of others' lines that it may use. A name is the number of
-/// the line that makes it.
+/// What the names of a pass's lines stand for, and the names of others' lines that it may use, by the numbers of the
+/// lines that make them.
 pub struct Table<'a> {
+    pub(crate) names: &'a Numbers,
     /// Of the lines before all workers', in a worker's table.
     pub(crate) base: &'a [Standing],
     /// The number of the first line of its own.
@@ -29,26 +31,26 @@ pub struct Table<'a> {
 }
 
 impl<'a> Table<'a> {
-    /// Of no lines of its own yet, with room for so many. The first has the number `start`. Refused: `Memory`.
+    ghost use Rattle.fm_script_lines.specs.Learnt.{IsFresh, KeepsTable};
+
+    /// Of no lines of its own yet, with room for so many. The first has the number `start`.
     pub fn new(
         alloc: Global,
+        names: &'a Numbers,
         base: &'a [Standing],
         start: usize,
         lines: usize,
-    ) -> Result<Table<'a>, Refusal>
+    ) -> Result<Table<'a>, AllocError>
         requires { length base.now ≤ start }
-        ensures start { IfOk result (λ t. t.start ≡ start) }
-        ensures base { IfOk result (λ t. t.base.now ≡ base.now) }
-        ensures own { IfOk result (λ t. t.own.items ≡ []) }
-        ensures room { IfOk result (λ t. lines ≤ vec_capacity t.own) }
-        ensures backs { IfOk result (λ t. (p : View) → All (λ s. IsBacked p (lent s)) base.now
-            → Backs p p.holds p.handles base.now t.own.items) }
-        ensures memory { IfErr result (λ refusal. refusal ≡ Refusal.Memory) }
+        ensures { IfOk result (IsFresh names.now base.now start lines) }
     {
-        let Ok(own) = Vec::with_capacity(alloc, lines) else {
-            return Err(Refusal::Memory);
-        };
-        Ok(Table { base, start, own })
+        let own = Vec::with_capacity(alloc, lines)?;
+        Ok(Table {
+            names,
+            base,
+            start,
+            own,
+        })
     }
 
     /// What its own names stand for, as far as their lines have run.
@@ -59,11 +61,9 @@ impl<'a> Table<'a> {
     }
 
     /// Puts another pass's names behind its own.
-    pub fn take_over(&mut self, others: &[Lent])
+    pub fn take_over(&mut self, others: &[Bound])
         requires room { length self.old.own.items + length others.now ≤ vec_capacity self.old.own }
-        ensures base { self.new.base ≡ self.old.base }
-        ensures start { self.new.start ≡ self.old.start }
-        ensures room { vec_capacity self.new.own ≡ vec_capacity self.old.own }
+        ensures keeps { KeepsTable self.old self.new }
         ensures own { self.new.own.items ≡ self.old.own.items ++ map standing_as others.now }
         ensures backs { (p : View) (holds handles : List ArenaId)
             → Backs p holds handles self.old.base.now self.old.own.items
@@ -78,9 +78,7 @@ impl<'a> Table<'a> {
     /// Takes in what the next of its own lines came to, and answers the reply.
     pub(crate) fn take_in(&mut self, out: Outcome) -> Reply
         requires { length self.old.own.items < vec_capacity self.old.own }
-        ensures same_base { self.new.base ≡ self.old.base }
-        ensures same_start { self.new.start ≡ self.old.start }
-        ensures room { vec_capacity self.new.own ≡ vec_capacity self.old.own }
+        ensures keeps { KeepsTable self.old self.new }
         ensures own { self.new.own.items ≡ self.old.own.items ++ out.made ∷ [] }
         ensures reply { result ≡ out.reply }
     {
@@ -89,34 +87,34 @@ impl<'a> Table<'a> {
         reply
     }
 
-    /// The arena that the line of this number made.
-    pub(crate) fn arena(&self, number: Option<usize>) -> Option<ArenaId>
-        ensures { result ≡ arena_of (standing_of self.now.base.now self.now.start self.now.own.items number) }
+    /// What the name is bound to, by a line before all workers' or by one of its own that has run.
+    pub(crate) fn at(&self, name: &NameText) -> Bound
+        ensures arena { arena_of (standing_as result) ≡ arena_of (standing_of self.now.base.now self.now.start
+            self.now.own.items (number_at self.now.names.now name.now)) }
+        ensures segment { segment_of (standing_as result) ≡ segment_of (standing_of self.now.base.now self.now.start
+            self.now.own.items (number_at self.now.names.now name.now)) }
     {
-        match self.at(number) {
-            Some(standing) => standing.arena(),
-            None => None,
+        let Some(number) = self.names.of(name) else {
+            return Bound::Nothing;
+        };
+        if number < self.base.len() {
+            return self.base[number].bound();
+        }
+        if number < self.start {
+            return Bound::Nothing;
+        }
+        match self.own.get(number - self.start) {
+            Some(standing) => standing.bound(),
+            None => Bound::Nothing,
         }
     }
 
-    /// The segment that it made.
-    pub(crate) fn segment(&self, number: Option<usize>) -> Option<Segment>
-        ensures { result ≡ segment_of (standing_of self.now.base.now self.now.start self.now.own.items number) }
+    /// The handle that it is bound to by a line of its own, unless that was given back.
+    pub(crate) fn handle(&self, name: &NameText) -> Option<&AutoHandle>
+        ensures { option_map (λ h. h.now) result ≡ handle_in (standing_of self.now.base.now self.now.start
+            self.now.own.items (number_at self.now.names.now name.now)) }
     {
-        match self.at(number) {
-            Some(standing) => standing.segment(),
-            None => None,
-        }
-    }
-
-    /// The handle that it made and that wasn't given back.
-    pub(crate) fn handle(&self, number: Option<usize>) -> Option<&AutoHandle>
-        ensures arena { option_map (λ h. h.now.arena) result
-            ≡ handle_of (standing_of self.now.base.now self.now.start self.now.own.items number) }
-        ensures handle { option_map (λ h. h.now) result
-            ≡ handle_in (standing_of self.now.base.now self.now.start self.now.own.items number) }
-    {
-        let Some(at) = self.own_place(number) else {
+        let Some(at) = self.own_place(name) else {
             return None;
         };
         match &self.own[at] {
@@ -125,15 +123,13 @@ impl<'a> Table<'a> {
         }
     }
 
-    /// Takes the hold out that it made.
-    pub(crate) fn take_hold(&mut self, number: Option<usize>) -> Option<Hold>
-        ensures same_base { self.new.base ≡ self.old.base }
-        ensures same_start { self.new.start ≡ self.old.start }
-        ensures room { vec_capacity self.new.own ≡ vec_capacity self.old.own }
-        ensures took { Took unheld hold_in self.old.base.now self.old.start self.old.own.items self.new.own.items number
-            result }
+    /// Takes the hold out that the name is bound to.
+    pub(crate) fn take_hold(&mut self, name: &NameText) -> Option<Hold>
+        ensures keeps { KeepsTable self.old self.new }
+        ensures took { Took unheld hold_in self.old.base.now self.old.start self.old.own.items self.new.own.items
+            (number_at self.old.names.now name.now) result }
     {
-        let Some(at) = self.own_place(number) else {
+        let Some(at) = self.own_place(name) else {
             return None;
         };
         match &mut self.own[at] {
@@ -142,15 +138,13 @@ impl<'a> Table<'a> {
         }
     }
 
-    /// Takes the handle out that it made.
-    pub(crate) fn take_handle(&mut self, number: Option<usize>) -> Option<AutoHandle>
-        ensures same_base { self.new.base ≡ self.old.base }
-        ensures same_start { self.new.start ≡ self.old.start }
-        ensures room { vec_capacity self.new.own ≡ vec_capacity self.old.own }
+    /// Takes the handle out.
+    pub(crate) fn take_handle(&mut self, name: &NameText) -> Option<AutoHandle>
+        ensures keeps { KeepsTable self.old self.new }
         ensures took { Took handed_back handle_in self.old.base.now self.old.start self.old.own.items self.new.own.items
-            number result }
+            (number_at self.old.names.now name.now) result }
     {
-        let Some(at) = self.own_place(number) else {
+        let Some(at) = self.own_place(name) else {
             return None;
         };
         match &mut self.own[at] {
@@ -160,31 +154,15 @@ impl<'a> Table<'a> {
         }
     }
 
-    /// What it made, as this pass may use it.
-    fn at(&self, number: Option<usize>) -> Option<&Standing>
+    /// The place of the line that makes the name, if it is one of its own.
+    fn own_place(&self, name: &NameText) -> Option<usize>
         ensures { MatchOption result
-            (standing_of self.now.base.now self.now.start self.now.own.items number ≡ Standing.Nothing)
-            (λ s. SeenAs (standing_of self.now.base.now self.now.start self.now.own.items number) s.now) }
+            ((at : _) → IsOwn (length self.now.base.now) self.now.start (length self.now.own.items)
+            (number_at self.now.names.now name.now) at → ⊥)
+            (IsOwn (length self.now.base.now) self.now.start (length self.now.own.items)
+            (number_at self.now.names.now name.now)) }
     {
-        let Some(number) = number else {
-            return None;
-        };
-        if number < self.base.len() {
-            return Some(&self.base[number]);
-        }
-        if number < self.start {
-            return None;
-        }
-        self.own.get(number - self.start)
-    }
-
-    /// Which of its own lines has this number.
-    fn own_place(&self, number: Option<usize>) -> Option<usize>
-        ensures { MatchOption result
-            ((at : _) → IsOwn (length self.now.base.now) self.now.start (length self.now.own.items) number at → ⊥)
-            (IsOwn (length self.now.base.now) self.now.start (length self.now.own.items) number) }
-    {
-        let Some(number) = number else {
+        let Some(number) = self.names.of(name) else {
             return None;
         };
         if number < self.base.len()

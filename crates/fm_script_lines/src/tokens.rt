@@ -7,23 +7,24 @@ ghost use Rattle.fm_rule_facts.specs.Views.{IsKnown};
 ghost use Rattle.fm_script_lines.specs.Calls.{On, Holds, Unholds, TakesAgain, GivesBack};
 ghost use Rattle.fm_script_lines.specs.Outcomes.{plain};
 ghost use Rattle.fm_script_lines.specs.Runs.{RanLine, RanWith};
+ghost use Rattle.fm_script_lines.specs.Standings.{arena_of, standing_as};
 
+use crate::bound::Bound;
 use crate::outcome::Outcome;
 use crate::reply::Reply;
 use crate::standing::Standing;
 use fm_arena::{AutoHandle, Shared};
-use fm_base::ArenaId;
 use fm_close::GaveBack;
 use fm_gate::Hold;
 use std::sync::Wait;
 
 /// `hold ARENA NAME`
-pub(crate) fn hold<R: Wait>(rt: &R, m: &mut Shared, arena: Option<ArenaId>) -> Outcome
+pub(crate) fn hold<R: Wait>(rt: &R, m: &mut Shared, bound: Bound) -> Outcome
     requires outside { m.old.inside ≡ None }
-    requires known { IfSome arena (IsKnown m.old) }
-    ensures { RanLine m.old m.new (On arena (Holds m.old.caller)) result }
+    requires known { IfSome (arena_of (standing_as bound)) (IsKnown m.old) }
+    ensures { RanLine m.old m.new (On (arena_of (standing_as bound)) (Holds m.old.caller)) result }
 {
-    let Some(arena) = arena else {
+    let Some(arena) = bound.arena() else {
         return Outcome::plain(Reply::Skipped);
     };
     match m.hold(rt, arena) {
@@ -35,8 +36,8 @@ pub(crate) fn hold<R: Wait>(rt: &R, m: &mut Shared, arena: Option<ArenaId>) -> O
     }
 }
 
-/// `unhold HOLD`
-pub(crate) fn unhold(m: &mut Shared, hold: Hold)
+/// Gives the hold back.
+pub(crate) fn end_hold(m: &mut Shared, hold: Hold)
     requires outside { m.old.inside ≡ None }
     requires can { CanUnhold m.old hold }
     ensures { RanWith m.old m.new (released hold.arena m.old.holds) m.old.handles
@@ -63,8 +64,8 @@ pub(crate) fn again<R: Wait>(rt: &R, m: &mut Shared, handle: Option<&AutoHandle>
     }
 }
 
-/// `back HANDLE`
-pub(crate) fn give_back<R: Wait>(rt: &R, m: &mut Shared, handle: AutoHandle) -> Reply
+/// Gives the handle back.
+pub(crate) fn end_handle<R: Wait>(rt: &R, m: &mut Shared, handle: AutoHandle) -> Reply
     requires { CanGiveBack m.old handle }
     ensures { RanWith m.old m.new m.old.holds (released handle.arena m.old.handles)
         (GivesBack m.old.caller handle.arena (plain result)) }

@@ -1,15 +1,14 @@
-ghost use Rattle.std.specs.Prelude.{◌≡◌, [], IfOk, IfErr};
+ghost use Rattle.std.specs.Prelude.{◌≡◌, [], IfOk};
 ghost use Rattle.fm_layout.specs.Parts.{IsValue as IsValueLayout};
 ghost use Rattle.fm_script_text.specs.Syntax.{IsOfKind};
 ghost use Rattle.fm_script_lines.specs.Calls.{IsHandleOf, IsValue, tree_of};
 
-use fm_base::Refusal;
 use fm_handle::VarHandle;
 use fm_lanes::{Value, ValueKind};
 use fm_layout::Layout;
 use fm_path::resolve;
 use fm_script_text::Cell;
-use std::alloc::Global;
+use std::alloc::{AllocError, Global};
 
 /// The value of this kind that the number is.
 pub(crate) fn value_of(kind: ValueKind, number: i64) -> Value
@@ -34,13 +33,12 @@ pub(crate) fn layout_of(cell: &Cell) -> Layout
     Layout::value(cell.kind).with_order(cell.order)
 }
 
-/// A handle on that layout alone. Refused: `Memory`.
-pub(crate) fn handle_of(alloc: Global, cell: &Cell) -> Result<VarHandle, Refusal>
-    ensures handle { IfOk result (IsHandleOf cell.now) }
-    ensures refused { IfErr result (λ refusal. refusal ≡ Refusal.Memory) }
+/// A handle on that layout alone.
+pub(crate) fn handle_of(alloc: Global, cell: &Cell) -> Result<VarHandle, AllocError>
+    ensures { IfOk result (IsHandleOf cell.now) }
 {
     match resolve(alloc, &layout_of(cell), &[]) {
         Ok(resolved) => Ok(VarHandle::of(resolved)),
-        Err(_) => Err(Refusal::Memory),
+        Err(_) => Err(AllocError),
     }
 }

@@ -22,13 +22,12 @@ fn run<R: Abort + AllocGlobal + Wait>(rt: &R, m: &mut Shared, script: &Script) -
     let order = in_order(alloc, lines, 0).expect(rt, "an order");
     let names = Numbers::of_lines(alloc, order.lines.as_slice()).expect(rt, "names");
     let count = count_lines(lines, Who::First);
-    let mut table = Table::new(alloc, &[], 0, count).expect(rt, "room");
+    let mut table = Table::new(alloc, &names, &[], 0, count).expect(rt, "room");
     let mut replies = Vec::with_capacity(alloc, count).expect(rt, "room");
     play(
         rt,
         alloc,
         m,
-        &names,
         &mut table,
         lines,
         Who::First,

@@ -4,7 +4,7 @@ use Rattle.std.specs.Borrow.{Bor}
 use Rattle.std.proofs.lemmas.List.{length-map}
 use Rattle.std.proofs.lemmas.Result.{IfOk-weaker}
 use Rattle.fm_script_text.specs.declared.line.Line.{Line}
-use Rattle.fm_script_lines.specs.declared.lent.Lent.{Lent}
+use Rattle.fm_script_lines.specs.declared.bound.Bound.{Bound}
 use Rattle.fm_script_lines.specs.declared.reply.Reply.{Reply}
 use Rattle.fm_script_lines.specs.Ordering.{lines_at}
 use Rattle.fm_script.specs.declared.player.Player.{Player}
@@ -20,7 +20,7 @@ report_lines-requires c =
     let players = c.args.players.now in
     let parts : c.as_slice-3.result.now ≡ all_replies c.args.script.now order c.args.names.now c.args.caller players main c.args.finished h =
     c.as_slice-3.ensures.value
-    ∙ (c.in_ok-replies.ensures.replies
+    ∙ (c.in_ok-replies.ensures
     ∙ ap (λ (rs : List Reply). main.firsts.items ++ (flat_map (λ (p : Player). p.replies.items) players ++ rs)) lasts) in
     ap (λ (rs : List Reply). length rs) parts
     ∙ (replies_many c.args.script.now order c.args.names.now c.args.caller players main c.args.finished h
@@ -30,7 +30,7 @@ pub of-requires : goal.of-requires
 of-requires c =
     let main = c.args.main in
     let arenas : c.as_slice-4.result.now ≡ arenas_lent main.lent.items =
-    c.as_slice-4.ensures.value ∙ (c.in_ok-opened.ensures.opened ∙ ap (λ (ls : List Lent). arenas_lent ls) c.as_slice.ensures.value) in
+    c.as_slice-4.ensures.value ∙ (c.in_ok-opened.ensures ∙ ap (λ (ls : List Bound). arenas_lent ls) c.as_slice.ensures.value) in
     all_opened c.args.script.now (lines_at c.args.order.now) c.args.names.now c.args.caller c.args.players.now main c.args.finished c.requires
     c.as_slice-4.result.now arenas
 
@@ -43,11 +43,11 @@ returns-clause-report c =
     let players = c.args.players.now in
     let parts : c.as_slice-3.result.now ≡ all_replies c.args.script.now order c.args.names.now c.args.caller players main c.args.finished h =
     c.as_slice-3.ensures.value
-    ∙ (c.in_ok-replies.ensures.replies
+    ∙ (c.in_ok-replies.ensures
     ∙ ap (λ (rs : List Reply). main.firsts.items ++ (flat_map (λ (p : Player). p.replies.items) players ++ rs)) lasts) in
     let arenas : c.as_slice-4.result.now ≡ arenas_lent main.lent.items =
-    c.as_slice-4.ensures.value ∙ (c.in_ok-opened.ensures.opened ∙ ap (λ (ls : List Lent). arenas_lent ls) c.as_slice.ensures.value) in
+    c.as_slice-4.ensures.value ∙ (c.in_ok-opened.ensures ∙ ap (λ (ls : List Bound). arenas_lent ls) c.as_slice.ensures.value) in
     IfOk-weaker c.of.result _ _
     (λ r is. run_told c.args.script.now order c.args.names.now c.args.caller players main c.args.finished h c.as_slice-4.result.now
-    c.in_ok-callers.callers.items c.as_slice-3.result.now c.in_ok-lines.lines.items r arenas c.in_ok-callers.ensures.callers parts
+    c.in_ok-callers.callers.items c.as_slice-3.result.now c.in_ok-lines.lines.items r arenas c.in_ok-callers.ensures parts
     c.in_ok-lines.ensures.lines is) c.of.ensures.report

@@ -1,11 +1,13 @@
-use Rattle.std.proofs.Common.{◌≡◌, List, [], refl, subst, sym, Result}
+use Rattle.std.proofs.Common.{◌≡◌, List, length, [], Result, refl, sym, ap, subst, arith}
 use Rattle.std.proofs.lemmas.Result.{err_from_is_err_and, on_ok_weaker}
-use Rattle.fm_base.specs.declared.refusal.Refusal.{Refusal}
+use Rattle.fm_script_lines.specs.declared.numbers.Numbers.{Numbers}
 use Rattle.fm_script_lines.specs.declared.standing.Standing.{Standing}
-use Rattle.fm_script_lines.specs.Tokens.{Backs, IsReady}
+use Rattle.fm_script_lines.specs.Playing.{LinesRan}
+use Rattle.fm_script_lines.specs.Tokens.{Backs}
 use Rattle.fm_script.specs.declared.player.Player.{Player}
 use Rattle.fm_script.specs.Players.{PlayedAs, lines_for, playing}
 use Rattle.fm_script.proofs.Passing.{ran_from}
+use Rattle.fm_script.proofs.Running.{all_spelled}
 use Rattle.fm_script.proofs.Worker.{played_as, played_none}
 use Rattle.fm_script.proofs.lines.play_as.Goals as goal
 
@@ -15,30 +17,56 @@ returns-in_err-table g c =
     let m = c.args.memory.now in
     let player = c.args.player.now in
     let p = err_from_is_err_and c.from_residual.result c.from_residual.ensures.1 in
-    subst (λ (r : Result (Unit {0}) Refusal). PlayedAs w m m player player r) (sym p.1) (played_none w m player p.0 c.requires.outside)
+    subst (λ (r : Result (Unit {0}) _). PlayedAs w m m player player r) (sym p.1) (played_none w m player p.0 c.requires.outside)
 
-pub play-played-requires-clause-ready : goal.play-played-requires-clause-ready
-play-played-requires-clause-ready g c =
+pub play-played-requires : goal.play-played-requires
+play-played-requires g c =
     let m = c.args.memory.now in
     let t = c.in_ok-table.table in
     let e = c.in_ok-table.ensures in
-    subst (λ (bs : List Standing). IsReady m bs t.own.items) (sym e.base)
-    (record { other_holds = m.holds; other_handles = m.handles; backs = e.backs m c.requires.can.known })
+    let p = c.requires.can.player in
+    record {
+      outside = c.requires.outside;
+      spelled = all_spelled c.args.lines.now c.requires.can.rules;
+      room =
+          let none = ap (λ (xs : List Standing). length xs) e.own in
+          let many = c.count_lines-count.ensures in
+          let room = e.room in
+          omega (arith, none, many, room);
+      ready = record {
+        other_holds = m.holds;
+        other_handles = m.handles;
+        backs = subst (λ (bs : List Standing). Backs m m.holds m.handles bs t.own.items) (sym e.base) (e.backs m c.requires.can.known);
+      };
+      no_reply = p.no_reply;
+      answers = p.room;
+    }
 
-pub settle-requires-clause-ready : goal.settle-requires-clause-ready
-settle-requires-clause-ready g c =
+pub settle-requires : goal.settle-requires
+settle-requires g c =
     let m = c.args.memory.now in
     let q = c.play-played.new.m in
     let t = c.in_ok-table.table in
     let u = c.play-played.new.table in
     let e = c.in_ok-table.ensures in
-    let same : u.base.now ≡ t.base.now = λ i. (c.play-played.ensures.base i).now in
+    let a = c.play-played.ensures in
+    let p = c.requires.can.player in
+    let same : u.base.now ≡ t.base.now = λ i. (a.keeps.base i).now in
     record {
-      other_holds = m.holds;
-      other_handles = m.handles;
-      backs = subst (λ (bs : List Standing). Backs q m.holds m.handles bs u.own.items) (sym same)
-          (c.play-played.ensures.backs m.holds m.handles
-          (subst (λ (bs : List Standing). Backs m m.holds m.handles bs t.own.items) (sym e.base) (e.backs m c.requires.can.known)));
+      outside = a.went.outside;
+      ready = record {
+        other_holds = m.holds;
+        other_handles = m.handles;
+        backs = subst (λ (bs : List Standing). Backs q m.holds m.handles bs u.own.items) (sym same)
+            (a.backs m.holds m.handles
+            (subst (λ (bs : List Standing). Backs m m.holds m.handles bs t.own.items) (sym e.base) (e.backs m c.requires.can.known)));
+      };
+      no_other = p.no_name;
+      room =
+          let none = ap (λ (xs : List Standing). length xs) e.own in
+          let many = a.many in
+          let room = p.names_room in
+          omega (arith, none, many, room);
     }
 
 pub returns : goal.returns
@@ -50,15 +78,18 @@ returns g c =
     let u = c.play-played.new.table in
     let old : Player = c.args.player.now in
     let e = c.in_ok-table.ensures in
-    let same : u.base.now ≡ t.base.now = λ i. (c.play-played.ensures.base i).now in
+    let a = c.play-played.ensures in
+    let s = c.settle.ensures in
+    let same : u.base.now ≡ t.base.now = λ i. (a.keeps.base i).now in
     let backs : Backs q m.holds m.handles u.base.now u.own.items =
     subst (λ (bs : List Standing). Backs q m.holds m.handles bs u.own.items) (sym same)
-    (c.play-played.ensures.backs m.holds m.handles
+    (a.backs m.holds m.handles
     (subst (λ (bs : List Standing). Backs m m.holds m.handles bs t.own.items) (sym e.base) (e.backs m c.requires.can.known))) in
     let new : Player = record old { replies = c.play-played.new.replies; lent = c.settle.new.others } in
     played_as w m q c.settle.new.m old new u.own.items c.play-played.result c.requires.can refl refl
     (on_ok_weaker c.play-played.result
-    (ran_from m q c.args.names.now t.base.now c.args.firsts.now t.start old.start t.own.items [] u.own.items (lines_for w old)
-    c.play-played.new.replies.items e.base e.start e.own)
-    c.play-played.ensures.ran)
-    c.play-played.ensures.went c.settle.ensures.went c.settle.ensures.spent (c.settle.ensures.left m.holds m.handles backs) c.settle.ensures.others
+    (λ ran. ran_from m q c.args.names.now t.base.now c.args.firsts.now t.start old.start t.own.items [] u.own.items (lines_for w old)
+    c.play-played.new.replies.items e.base e.start e.own
+    (subst (λ (ns : Numbers). LinesRan m q ns t.base.now t.start t.own.items u.own.items (lines_for w old) c.play-played.new.replies.items) e.names ran))
+    a.ran)
+    a.went s.went s.spent (s.left m.holds m.handles backs) s.others

@@ -1,17 +1,24 @@
-use Rattle.std.proofs.Common.{List, subst, sym}
+use Rattle.std.proofs.Common.{subst, sym}
 use Rattle.fm_rule_facts.specs.Views.{View}
 use Rattle.fm_rule.specs.Passes.{IsOf}
-use Rattle.fm_script_lines.specs.declared.standing.Standing.{Standing}
-use Rattle.fm_script_lines.specs.Tokens.{Backs}
+use Rattle.fm_script_lines.specs.Learnt.{AfterLines, CanRunLines}
+use Rattle.fm_script_lines.specs.Ordering.{is_by}
+use Rattle.fm_script_lines.specs.Report.{lines_by}
 use Rattle.fm_script.proofs.Outside.{still_of}
 use Rattle.fm_script.proofs.main_lines.play_main.Goals as goal
 
-pub returns-clause-backs : goal.returns-clause-backs
-returns-clause-backs g c holds handles b =
-    let base : List Standing = c.args.table.now.base.now in
-    subst (λ (p : View). Backs p holds handles base c.play-played.new.table.own.items) (sym c.into_pass-pass.ensures.same)
-    (c.play-played.ensures.backs holds handles
-    (subst (λ (p : View). Backs p holds handles base c.args.table.now.own.items) (sym c.new-memory.ensures) b))
+pub play-played-requires : goal.play-played-requires
+play-played-requires g c =
+    subst (λ (p : View). CanRunLines p c.args.table.now c.args.lines.now c.args.who c.args.replies.now) (sym c.new-memory.ensures) c.requires.can
+
+pub returns-clause-after : goal.returns-clause-after
+returns-clause-after g c =
+    let lines = lines_by (is_by c.args.who) c.args.lines.now in
+    let t = c.args.table.now in
+    let u = c.play-played.new.table in
+    let replies = c.play-played.new.replies.items in
+    subst (λ (q : View). AfterLines c.args.pass q t u lines replies c.play-played.result) (sym c.into_pass-pass.ensures.same)
+    (subst (λ (p : View). AfterLines p c.play-played.new.m t u lines replies c.play-played.result) c.new-memory.ensures c.play-played.ensures)
 
 pub returns-clause-outside : goal.returns-clause-outside
 returns-clause-outside g c = record {

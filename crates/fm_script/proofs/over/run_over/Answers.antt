@@ -1,25 +1,44 @@
-use Rattle.std.specs.Prelude.{OnOk}
-use Rattle.std.proofs.Common.{◌≡◌, ◌∙◌, List, [], Result, subst, sym}
-use Rattle.fm_base.specs.declared.refusal.Refusal.{Refusal}
+use Rattle.std.specs.Prelude.{OnOk, Vec, vec_capacity}
+use Rattle.std.specs.declared.alloc.Global.{Global}
+use Rattle.std.proofs.Common.{◌≡◌, ◌∙◌, ℕ, List, [], Result, ap, arith, subst, sym}
 use Rattle.fm_rule_facts.specs.Views.{View}
 use Rattle.fm_rule.specs.Passes.{IsOf}
-use Rattle.fm_script_lines.specs.declared.reply.Reply.{Reply}
+use Rattle.fm_script_lines.specs.declared.bound.Bound.{Bound}
 use Rattle.fm_script_lines.specs.declared.standing.Standing.{Standing}
+use Rattle.fm_script_lines.specs.Learnt.{CanSettle, IsFresh}
 use Rattle.fm_script_lines.specs.Tokens.{IsReady}
 use Rattle.fm_script.specs.declared.player.Player.{Player}
+use Rattle.fm_script.specs.Mains.{HasRoom}
 use Rattle.fm_script.specs.Runs.{AllRan}
 use Rattle.fm_script.proofs.Outside.{still_of}
 use Rattle.fm_script.proofs.Passing.{all_spent, ran_settled, ready_backs}
 use Rattle.fm_script.proofs.over.run_over.Goals as goal
 
-pub settle-requires-clause-ready : goal.settle-requires-clause-ready
-settle-requires-clause-ready g c =
+pub run_all-pass-requires-clause-can : goal.run_all-pass-requires-clause-can
+run_all-pass-requires-clause-can g c κs within = record {
+  outside = c.requires.outside;
+  can = c.requires.can;
+  fresh = subst (λ (n : ℕ). IsFresh c.args.names.now [] 0 n c.in-Ok-new.table) c.requires.all c.in-Ok-new.ensures;
+  room = subst (λ (n : ℕ). HasRoom c.args.lines.now n c.in-Ok.main) c.requires.all c.in-Ok.ensures;
+}
+
+pub settle-requires : goal.settle-requires
+settle-requires g c =
     let q = c.run_all-pass.result.0 in
     let t = c.run_all-pass.new.table in
-    let base : t.base.now ≡ [] = (λ i. (c.run_all-pass.ensures.base i).now) ∙ c.in-Ok-new.ensures.base in
-    subst (λ (p : View). IsReady p t.base.now t.own.items) (sym c.new-memory.ensures)
-    (subst (λ (bs : List Standing). IsReady q bs t.own.items) (sym base)
-    (ready_backs c.args.pass q t.own.items c.run_all-pass.ensures.backs))
+    let a = c.run_all-pass.ensures in
+    let base : t.base.now ≡ [] = (λ i. (a.keeps.base i).now) ∙ c.in-Ok-new.ensures.base in
+    subst (λ (p : View). CanSettle p t c.run_all-pass.new.main.lent) (sym c.new-memory.ensures) (record {
+      outside = a.outside.outside.outside;
+      ready = subst (λ (bs : List Standing). IsReady q bs t.own.items) (sym base) (ready_backs c.args.pass q t.own.items a.backs);
+      no_other = ap (λ (v : Vec Bound Global). v.items) a.lent ∙ c.in-Ok.ensures.no_name;
+      room =
+          let few = a.room in
+          let all = c.requires.all in
+          let room = c.in-Ok.ensures.lent in
+          let same = ap (λ (v : Vec Bound Global). vec_capacity v) a.lent in
+          omega (arith, few, all, room, same);
+    })
 
 pub returns-in-Ok-ran-clause-ran : goal.returns-in-Ok-ran-clause-ran
 returns-in-Ok-ran-clause-ran g c =
@@ -30,14 +49,13 @@ returns-in-Ok-ran-clause-ran g c =
     let tasks : List Player = c.args.players.now.items in
     let players : List Player = c.run_all-pass.new.players.items in
     let own : List Standing = c.run_all-pass.new.table.own.items in
-    let firsts : List Reply = c.run_all-pass.new.firsts.items in
-    let lasts : List Reply = c.run_all-pass.new.lasts.items in
-    let all = subst (λ (r : Result (Unit {0}) Refusal). OnOk r (AllRan names lines p q tasks players own firsts lasts)) c.in-Ok-ran.is
+    let main = c.run_all-pass.new.main in
+    let all = subst (λ (r : Result (Unit {0}) _). OnOk r (AllRan names lines p q tasks players own main.firsts.items main.lasts.items)) c.in-Ok-ran.is
     c.run_all-pass.ensures.ran in
-    let still = c.settle.ensures.spent (all_spent names lines p q tasks players own firsts lasts c.requires.can all) in
+    let still = c.settle.ensures.spent (all_spent names lines p q tasks players own main.firsts.items main.lasts.items c.requires.can all) in
     record {
       own = own;
-      all = ran_settled names lines p q tasks players own firsts lasts c.requires.can c.into_pass-pass.result
+      all = ran_settled names lines p q tasks players own main.firsts.items main.lasts.items c.requires.can c.into_pass-pass.result
           (c.into_pass-pass.ensures.same ∙ (still ∙ c.new-memory.ensures)) all;
       lent_names = c.settle.ensures.others;
     }

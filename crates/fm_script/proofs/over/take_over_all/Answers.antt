@@ -1,9 +1,10 @@
 use Rattle.std.proofs.Common.{◌≡◌, ◌+◌, ◌++◌, All, List, length, length-append, map, take, append_assoc, ap, sym, ◌∙◌, subst, arith}
 use Rattle.std.proofs.lemmas.List.{take_all}
-use Rattle.fm_script_lines.specs.declared.lent.Lent.{Lent}
+use Rattle.fm_script_lines.specs.declared.bound.Bound.{Bound}
 use Rattle.fm_script_lines.specs.declared.standing.Standing.{Standing}
 use Rattle.fm_script_lines.specs.Standings.{IsBacked, standing_as}
 use Rattle.fm_script_lines.specs.Tokens.{Backs}
+use Rattle.fm_script_lines.proofs.Returning.{keeps_then}
 use Rattle.fm_script.specs.declared.player.Player.{Player}
 use Rattle.fm_script.specs.Runs.{names_lent}
 use Rattle.fm_script.proofs.Arranged.{all_of_both, lent_room, lent_taken}
@@ -20,9 +21,9 @@ take_over-requires c =
           let here = lent_room ps k p c.loop-player-test.true c.player-item.is in
           let long = ap (λ (xs : List Standing). length xs) i.own in
           let parts = length-append c.args.table.now.own.items (names_lent (take k ps)) in
-          let same = ap (λ (xs : List Lent). length xs) c.as_slice.ensures.value in
+          let same = ap (λ (xs : List Bound). length xs) c.as_slice.ensures.value in
           let room = c.requires.room in
-          let cap = i.room in
+          let cap = i.keeps.room in
           omega (arith, here, long, parts, same, room, cap);
     }
 
@@ -38,12 +39,10 @@ loop-player-preserved c =
     let mine : List Standing = map standing_as p.lent.items in
     let e = c.take_over.ensures in
     let more : names_lent (take (k + 1) ps) ≡ names_lent (take k ps) ++ mine = lent_taken ps k p c.loop-player-test.true c.player-item.is in
-    let taken : map standing_as c.as_slice.result.now ≡ mine = ap (λ (xs : List Lent). map standing_as xs) c.as_slice.ensures.value in
-    let base : t.base.now ≡ c.args.table.now.base.now = λ j. (i.base j).now in
+    let taken : map standing_as c.as_slice.result.now ≡ mine = ap (λ (xs : List Bound). map standing_as xs) c.as_slice.ensures.value in
+    let base : t.base.now ≡ c.args.table.now.base.now = λ j. (i.keeps.base j).now in
     record {
-      base = e.base ∙ i.base;
-      start = e.start ∙ i.start;
-      room = e.room ∙ i.room;
+      keeps = keeps_then i.keeps e.keeps;
       own = e.own ∙ ((λ j. i.own j ++ taken j)
           ∙ (append_assoc was (names_lent (take k ps)) mine ∙ ap (λ (xs : List Standing). was ++ xs) (sym more)));
       backs = λ v holds handles b known.

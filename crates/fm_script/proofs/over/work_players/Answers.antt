@@ -1,6 +1,6 @@
 -- What workers play is lent to their threads. What a `&` to it holds doesn't depend on how its lifetime is called.
 use denote.RattleType.{RattleType}
-use Rattle.std.proofs.Common.{inl}
+use Rattle.std.proofs.Common.{inl, rules}
 use denote.Ref.{NamedLft}
 use denote.Signature.{static_lft}
 use denote.Param.Send.{IsSync, param_sync}
@@ -16,10 +16,11 @@ work_crew-requires-sync-W g c κs within =
     let inner : IsSync row = record { shared = λ x b o κ. (lines_sync ℓ _ _ c.type_bounds.sync-R c.type_bounds.sync-G).shared x b o κ } in
     param_sync 2 row inner
 
-pub returns-in-Err-clause-memory : goal.returns-in-Err-clause-memory
-returns-in-Err-clause-memory g c =
-    crew_refused _ c.args.pass.now c.work_crew.new.pass c.args.players.now.items c.work_crew.new.tasks.items c.in-Err.refusal c.in-Err.ensures.worked
-    c.requires.whole c.requires.enough
+pub prove-unreachable-requires : goal.prove-unreachable-requires
+prove-unreachable-requires g c =
+    let is = crew_refused _ c.args.pass.now c.work_crew.new.pass c.args.players.now.items c.work_crew.new.tasks.items c.in-Err.refusal c.in-Err.ensures.worked
+    c.requires.can.whole c.requires.can.enough in
+    search (rules, is)
 
 pub returns-in-Err-clause-cut : goal.returns-in-Err-clause-cut
 returns-in-Err-clause-cut g c =

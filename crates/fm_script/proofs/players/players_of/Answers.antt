@@ -1,5 +1,4 @@
-use Rattle.std.specs.Result.{is_ok}
-use Rattle.std.proofs.Common.{◌≡◌, ◌∙◌, Bool, true, not, if◌then◌else◌, List, [], ◌∷◌, ◌++◌, length, ap, arith}
+use Rattle.std.proofs.Common.{◌≡◌, List, [], ◌∷◌, ◌++◌, length, ap, arith}
 use Rattle.std.proofs.lemmas.List.{length_push}
 use Rattle.fm_script.specs.declared.player.Player.{Player}
 use Rattle.fm_script.proofs.Arranged.{player_more}
@@ -12,9 +11,8 @@ loop-place-preserved c =
     let ps : List Player = c.loop-place.players.items in
     let p : Player = c.in_ok-player.player in
     let next : List Player = c.push.new.self.items in
-    let ok : is_ok c.push.result ≡ true = c.is_err.ensures.negation ∙ ap not c.if-is_err.false in
-    let pushed : next ≡ ps ++ p ∷ [] = c.push.ensures.items ∙ ap (λ (b : Bool). if b then ps ++ p ∷ [] else ps) ok in
+    let pushed : next ≡ ps ++ p ∷ [] = c.in_ok-push.ensures.items in
     record {
       many = let one = ap (λ (xs : List Player). length xs) pushed in let long = length_push ps p in let many = i.many in omega (arith, one, long, many);
-      each = player_more c.args.lines.now c.args.starts.now k ps next p pushed i.many c.in_ok-player.ensures.player i.each;
+      each = player_more c.args.lines.now c.args.starts.now k ps next p pushed i.many c.in_ok-player.ensures i.each;
     }

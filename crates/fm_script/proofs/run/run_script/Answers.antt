@@ -1,7 +1,6 @@
 use Rattle.std.proofs.Common.{◌≡◌, ℕ, ◌-◌, List, Ok, Result, sym, ap, ◌∙◌, subst}
 use Rattle.std.specs.Prelude.{IfOk}
 use Rattle.std.specs.Borrow.{Bor}
-use Rattle.fm_base.specs.declared.refusal.Refusal.{Refusal}
 use Rattle.fm_rule.specs.Views.{first_pass, numbers_of}
 use Rattle.fm_words.specs.declared.shape.Shape.{Shape}
 use Rattle.fm_script_text.specs.declared.line.Line.{Line}
@@ -34,10 +33,10 @@ run_over-pass-requires-clause-can g c κs within =
     (subst (λ (ls : List Line). AreStarts ls (c.shape.result.passes - 1) c.in_ok-order.order.starts.items) lines_are
     c.in_ok-order.ensures.starts)) in
     let are_players : ArePlayers s.lines starts players =
-    subst (λ (ls : List Line). ArePlayers ls starts players) lines_are c.in_ok-players.ensures.players in
+    subst (λ (ls : List Line). ArePlayers ls starts players) lines_are c.in_ok-players.ensures in
     let first : p ≡ first_pass home s.shape = c.in_ok-pool.ensures.pass ∙ ap (λ (z : Shape). first_pass home z) again in
     subst (λ (ls : List Line). CanRun names ls p players) (sym lines_are)
-    (can_run s c.requires order names starts players in_printing c.in_ok-names.ensures.numbers are_starts are_players home p first
+    (can_run s c.requires order names starts players in_printing c.in_ok-names.ensures are_starts are_players home p first
     c.in_ok-pool.ensures.sound)
 
 pub report_run-requires : goal.report_run-requires
@@ -65,16 +64,16 @@ report_run-requires g c =
     (subst (λ (ls : List Line). AreStarts ls (c.shape.result.passes - 1) c.in_ok-order.order.starts.items) lines_are
     c.in_ok-order.ensures.starts)) in
     let are_players : ArePlayers s.lines starts players =
-    subst (λ (ls : List Line). ArePlayers ls starts players) lines_are c.in_ok-players.ensures.players in
+    subst (λ (ls : List Line). ArePlayers ls starts players) lines_are c.in_ok-players.ensures in
     let first : p ≡ first_pass home s.shape =
     c.in_ok-pool.ensures.pass ∙ ap (λ (z : Shape). first_pass home z) again in
     let is_main : c.run_over-pass.result.1 ≡ Ok main = c.in_ok-main.was in
     let got : Ran names c.lines-lines.result.now p q players c.run_over-pass.new.players.items main =
-    subst (λ (r : Result MainLines Refusal). IfOk r (λ m. Ran names c.lines-lines.result.now p q players c.run_over-pass.new.players.items m)) is_main
+    subst (λ (r : Result MainLines _). IfOk r (λ m. Ran names c.lines-lines.result.now p q players c.run_over-pass.new.players.items m)) is_main
     c.run_over-pass.ensures.ran in
     let ran : Ran names s.lines p q players next main =
     subst (λ (ps : List Player). Ran names s.lines p q players ps main) (sym c.as_slice-2.ensures.value)
     (subst (λ (ls : List Line). Ran names ls p q players c.run_over-pass.new.players.items main) lines_are got) in
-    has_run s c.requires order names starts players in_printing c.in_ok-names.ensures.numbers are_starts are_players home p first
+    has_run s c.requires order names starts players in_printing c.in_ok-names.ensures are_starts are_players home p first
     c.in_ok-pool.ensures.sound pool q c.caller-caller.result next main c.in_ok-finished.finished (c.in_ok-pool.ensures.pool ∙ again)
     c.caller-caller.ensures.caller ran c.in_ok-finished.ensures.finishes

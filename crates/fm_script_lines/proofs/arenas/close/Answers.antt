@@ -1,6 +1,8 @@
+use Rattle.std.proofs.Common.{sym, ◌∙◌}
 use Rattle.fm_script_lines.specs.Calls.{Closes}
 use Rattle.fm_script_lines.proofs.Lines.{line_none}
 use Rattle.fm_script_lines.proofs.arenas.close.Goals as goal
 
 pub returns-in_default : goal.returns-in_default
-returns-in_default g c = line_none c.args.m.now c.args.arena (Closes c.args.m.now.caller) c.plain.result c.in_default.is c.requires.outside c.plain.ensures
+returns-in_default g c = line_none c.args.m.now _ (Closes c.args.m.now.caller) c.plain.result
+    (sym c.arena.ensures ∙ c.in_default.is) c.requires.outside c.plain.ensures

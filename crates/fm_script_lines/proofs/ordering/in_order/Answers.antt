@@ -1,4 +1,4 @@
-use Rattle.std.proofs.Common.{◌≡◌, ◌∷◌, ◌++◌, ℕ, if◌then◌else◌, Bool, true, not, is_ok, List, [], length, ap, sym, ◌∙◌, arith, vec_len}
+use Rattle.std.proofs.Common.{◌≡◌, List, length, sym, ◌∙◌, arith, vec_len}
 use Rattle.std.proofs.lemmas.List.{length-map}
 use Rattle.std.specs.Borrow.{Bor}
 use Rattle.fm_script_text.specs.declared.line.Line.{Line}
@@ -12,12 +12,9 @@ loop-worker-preserved c =
     let order : List (Bor Line) = c.loop-worker.order.items in
     let n = c.loop-worker.worker in
     let ls : List Line = c.args.lines.now in
-    let ok : is_ok c.push.result ≡ true = c.is_err.ensures.negation ∙ ap not c.if-is_err.false in
-    let starts : List ℕ = c.loop-worker.starts.items in
     let long : vec_len c.loop-worker.order ≡ length order = omega (arith, c.loop-worker.order.ok.0) in
     record {
-      so_far = lines_so_far (lines_at order) (lines_at c.add_lines-in-loop-worker.new.order.items) n ls i.so_far c.in_ok-add_lines-2.ensures.lines;
-      starts = starts-push c.loop-worker.starts.items c.push.new.self.items n c.len.result (lines_at order) ls i.starts
-          (c.push.ensures.items ∙ ap (λ (b : Bool). if b then starts ++ c.len.result ∷ [] else starts) ok)
+      so_far = lines_so_far (lines_at order) (lines_at c.add_lines-in-loop-worker.new.order.items) n ls i.so_far c.in_ok-add_lines-2.ensures;
+      starts = starts-push c.loop-worker.starts.items c.push.new.self.items n c.len.result (lines_at order) ls i.starts c.in_ok-push.ensures.items
           (c.len.ensures ∙ long ∙ sym (length-map order (λ (l : Bor Line). l.now))) i.so_far;
     }

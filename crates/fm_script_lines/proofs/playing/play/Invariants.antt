@@ -6,4 +6,4 @@ use Rattle.fm_script_lines.proofs.playing.play.Given as goal
 
 abbrev pub invariant-loop-line : goal.invariant-loop-line
 invariant-loop-line g l =
-    SoFar l.fn.m l.names l.fn.table (vec_capacity l.fn.replies) (lines_by (is_by l.who) (take l.line-index l.lines)) l.m l.table l.replies
+    SoFar l.fn.m l.fn.table (vec_capacity l.fn.replies) (lines_by (is_by l.who) (take l.line-index l.lines)) l.m l.table l.replies

@@ -1,4 +1,4 @@
-use Rattle.std.proofs.Common.{ap, Ok, Err, refl}
+use Rattle.std.proofs.Common.{ap, Ok, Err, refl, ◌∙◌, sym}
 use Rattle.fm_script_lines.specs.declared.outcome.Outcome.{Outcome}
 use Rattle.fm_script_lines.specs.Calls.{Allocates}
 use Rattle.fm_script_lines.proofs.Allocating.{pages_told, pages_untold}
@@ -6,18 +6,18 @@ use Rattle.fm_script_lines.proofs.Lines.{line_none}
 use Rattle.fm_script_lines.proofs.segments.allocate.Goals as goal
 
 pub returns-in_default-clause-ran : goal.returns-in_default-clause-ran
-returns-in_default-clause-ran g c = line_none c.args.m.now c.args.arena
-    (Allocates c.args.m.now.caller c.args.size c.args.align) c.plain.result c.in_default.is c.requires.outside c.plain.ensures
+returns-in_default-clause-ran g c = line_none c.args.m.now _
+    (Allocates c.args.m.now.caller c.args.size c.args.align) c.plain.result (sym c.arena.ensures ∙ c.in_default.is) c.requires.outside c.plain.ensures
 
 pub returns-in_default-clause-pages : goal.returns-in_default-clause-pages
 returns-in_default-clause-pages g c =
-    pages_untold c.args.m.now c.args.m.now c.args.arena c.args.size c.args.align c.plain.result.reply c.in_default.is
+    pages_untold c.args.m.now c.args.m.now _ c.args.size c.args.align c.plain.result.reply (sym c.arena.ensures ∙ c.in_default.is)
 
 pub returns-in-Ok-clause-pages : goal.returns-in-Ok-clause-pages
 returns-in-Ok-clause-pages g c =
-    pages_told c.args.arena c.in-Some.arena c.args.size c.args.align (Ok c.in-Ok.place) _ c.in-Some.is refl c.in-Ok.ensures.exact
+    pages_told _ c.in-Some.arena c.args.size c.args.align (Ok c.in-Ok.place) _ (sym c.arena.ensures ∙ c.in-Some.is) refl c.in-Ok.ensures.exact
 
 pub returns-in-Err-clause-pages : goal.returns-in-Err-clause-pages
 returns-in-Err-clause-pages g c =
-    pages_told c.args.arena c.in-Some.arena c.args.size c.args.align (Err c.in-Err.refusal) c.plain-in-Err.result.reply c.in-Some.is
+    pages_told _ c.in-Some.arena c.args.size c.args.align (Err c.in-Err.refusal) c.plain-in-Err.result.reply (sym c.arena.ensures ∙ c.in-Some.is)
     (ap (λ (o : Outcome). o.reply) c.plain-in-Err.ensures) c.in-Err.ensures.exact

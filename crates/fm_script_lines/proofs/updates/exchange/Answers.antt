@@ -1,4 +1,4 @@
-use Rattle.std.proofs.Common.{◌≡◌, ℤ, refl, ap, subst, w64, Ok, Err}
+use Rattle.std.proofs.Common.{◌≡◌, ℤ, refl, ap, subst, w64, Ok, Err, ◌∙◌, sym}
 use Rattle.std.proofs.lemmas.Int.{to_z-of_z}
 use Rattle.fm_script_lines.specs.Calls.{IsValue}
 use Rattle.fm_script_lines.specs.declared.reply.Reply.TheVariants.{Number, Refused}
@@ -9,22 +9,22 @@ use Rattle.fm_script_lines.proofs.updates.exchange.Goals as goal
 
 pub returns-in_default-clause-ran : goal.returns-in_default-clause-ran
 returns-in_default-clause-ran g c =
-    line_none c.args.m.now c.args.segment (Exchanges c.args.m.now.caller c.args.cell.now c.args.wanted c.args.value) c.plain.result c.in_default.is
+    line_none c.args.m.now _ (Exchanges c.args.m.now.caller c.args.cell.now c.args.wanted c.args.value) c.plain.result (sym c.segment.ensures ∙ c.in_default.is)
     c.requires.outside c.plain.ensures
 
-pub returns-in-Ok-compare_and_exchange-clause-ran : goal.returns-in-Ok-compare_and_exchange-clause-ran
-returns-in-Ok-compare_and_exchange-clause-ran g c =
+pub returns-in-Ok-clause-ran : goal.returns-in-Ok-clause-ran
+returns-in-Ok-clause-ran g c =
     let wanted = subst (λ (z : ℤ). IsValue c.args.cell.now.kind z c.value_of-wanted.result) (to_z-of_z w64 c.args.wanted c.ranges.wanted)
     c.value_of-wanted.ensures in
     let value = subst (λ (z : ℤ). IsValue c.args.cell.now.kind z c.value_of-value.result) (to_z-of_z w64 c.args.value c.ranges.value)
     c.value_of-value.ensures in
-    let said = subst (λ (z : ℤ). c.plain-in-Ok-compare_and_exchange.result ≡ plain (Number z)) (to_z-of_z w64 c.number.result
+    let said = subst (λ (z : ℤ). c.plain-in-Ok.result ≡ plain (Number z)) (to_z-of_z w64 c.number.result
     (record { sfits = c.number.type_inv }))
-    c.plain-in-Ok-compare_and_exchange.ensures in
-    line_exchanged c.args.segment c.in-Some.segment c.args.cell.now c.in-Ok.handle c.args.wanted c.args.value c.value_of-wanted.result
-    c.value_of-value.result (Ok c.in-Ok-compare_and_exchange.found) (Number c.number.result) _ c.in-Some.is c.in-Ok.ensures.handle
+    c.plain-in-Ok.ensures in
+    line_exchanged _ c.in-Some.segment c.args.cell.now c.in_ok-handle.handle c.args.wanted c.args.value c.value_of-wanted.result
+    c.value_of-value.result (Ok c.in-Ok.found) (Number c.number.result) _ (sym c.segment.ensures ∙ c.in-Some.is) c.in_ok-handle.ensures
     wanted value said (ap (λ z. plain (Number z)) c.number.ensures)
-    c.in-Ok-compare_and_exchange.ensures.outside c.in-Ok-compare_and_exchange.ensures.did
+    c.in-Ok.ensures.outside c.in-Ok.ensures.did
 
 pub returns-clause-ran : goal.returns-clause-ran
 returns-clause-ran g c =
@@ -32,7 +32,7 @@ returns-clause-ran g c =
     c.value_of-wanted.ensures in
     let value = subst (λ (z : ℤ). IsValue c.args.cell.now.kind z c.value_of-value.result) (to_z-of_z w64 c.args.value c.ranges.value)
     c.value_of-value.ensures in
-    line_exchanged c.args.segment c.in-Some.segment c.args.cell.now c.in-Ok.handle c.args.wanted c.args.value c.value_of-wanted.result
-    c.value_of-value.result (Err c.in-Err-compare_and_exchange.refusal) (Refused c.in-Err-compare_and_exchange.refusal) _ c.in-Some.is
-    c.in-Ok.ensures.handle wanted value c.plain-in-Err-compare_and_exchange.ensures refl
-    c.in-Err-compare_and_exchange.ensures.outside c.in-Err-compare_and_exchange.ensures.did
+    line_exchanged _ c.in-Some.segment c.args.cell.now c.in_ok-handle.handle c.args.wanted c.args.value c.value_of-wanted.result
+    c.value_of-value.result (Err c.in-Err.refusal) (Refused c.in-Err.refusal) _ (sym c.segment.ensures ∙ c.in-Some.is)
+    c.in_ok-handle.ensures wanted value c.plain-in-Err.ensures refl
+    c.in-Err.ensures.outside c.in-Err.ensures.did

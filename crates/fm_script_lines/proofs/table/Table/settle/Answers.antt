@@ -1,6 +1,6 @@
 use Rattle.std.proofs.Common.{◌≡◌, ◌∷◌, ◌++◌, ℕ, ◌-◌, take, ap, All, arith, length, length-append, List, [], refl, subst, sym, ◌∙◌, map, reverse}
 use Rattle.std.proofs.lemmas.List.{append-nil}
-use Rattle.fm_script_lines.specs.declared.lent.Lent.{Lent}
+use Rattle.fm_script_lines.specs.declared.bound.Bound.{Bound}
 use Rattle.fm_script_lines.specs.declared.standing.Standing.{Standing}
 use Rattle.fm_script_lines.specs.Standings.{IsSpent, lent, standing_as}
 use Rattle.fm_script_lines.specs.Tokens.{Backs}
@@ -14,17 +14,21 @@ loop-standing-init g c = record {
   left = λ holds handles b. b;
   spent = λ all. (refl, all);
   went = went_on_none c.args.m.now c.requires.outside;
-  room = let none = ap (λ (xs : List Lent). length xs) c.requires.none in let room = c.requires.room in omega (arith, none, room);
-  others = ap (λ (xs : List Lent). map standing_as xs ++ reverse (map lent c.args.self.own.items)) c.requires.none;
+  room = let none = ap (λ (xs : List Bound). length xs) c.requires.no_other in let room = c.requires.room in omega (arith, none, room);
+  others = ap (λ (xs : List Bound). map standing_as xs ++ reverse (map lent c.args.self.own.items)) c.requires.no_other;
 }
 
-pub spend-requires-clause-can : goal.spend-requires-clause-can
-spend-requires-clause-can g c =
+pub spend-requires : goal.spend-requires
+spend-requires g c =
     let m = c.loop-standing.m in
-    let r = c.loop-standing.invariant.ready in
+    let i = c.loop-standing.invariant in
+    let r = i.ready in
     let base : List Standing = c.args.self.base.now in
-    can_spend m base c.pop.new.self.items c.in-Some.standing
-    (subst (λ (xs : List Standing). Backs m r.other_holds r.other_handles base xs) c.in-Some.ensures.items r.backs)
+    record {
+      outside = i.went.outside;
+      can = can_spend m base c.pop.new.self.items c.in-Some.standing
+          (subst (λ (xs : List Standing). Backs m r.other_holds r.other_handles base xs) c.in-Some.ensures.items r.backs);
+    }
 
 pub loop-standing-preserved : goal.loop-standing-preserved
 loop-standing-preserved g c =
@@ -35,7 +39,7 @@ loop-standing-preserved g c =
     let base : List Standing = c.args.self.base.now in
     let rest : List Standing = c.pop.new.self.items in
     let s : Standing = c.in-Some.standing in
-    let others : List Lent = c.loop-standing.others.items in
+    let others : List Bound = c.loop-standing.others.items in
     let e = c.spend.ensures in
     let pushed = c.push_reserved.ensures in
     record {
@@ -56,14 +60,14 @@ loop-standing-preserved g c =
       went = went_on_then c.args.m.now m next i.went e.went;
       room =
           let here = i.room in
-          let one = ap (λ (xs : List Lent). length xs) pushed.items in
+          let one = ap (λ (xs : List Bound). length xs) pushed.items in
           let more = length-append others (c.spend.result ∷ []) in
           let less = ap (λ (xs : List Standing). length xs) c.in-Some.ensures.items in
           let last = length-append rest (s ∷ []) in
           let same = pushed.capacity in
           omega (arith, here, one, more, less, last, same);
       others =
-          ap (λ (xs : List Lent). map standing_as xs ++ reverse (map lent rest)) pushed.items
+          ap (λ (xs : List Bound). map standing_as xs ++ reverse (map lent rest)) pushed.items
           ∙ (others_popped others c.spend.result rest s e.lent
           ∙ (ap (λ (xs : List Standing). map standing_as others ++ reverse (map lent xs)) (sym c.in-Some.ensures.items) ∙ i.others));
     }
@@ -71,7 +75,7 @@ loop-standing-preserved g c =
 pub returns : goal.returns
 returns g c =
     let own : List Standing = c.loop-standing.own.items in
-    let others : List Lent = c.loop-standing.others.items in
+    let others : List Bound = c.loop-standing.others.items in
     let all : List Standing = c.args.self.own.items in
     let i = c.loop-standing.invariant in
     let e = c.in_default.ensures in
@@ -80,6 +84,6 @@ returns g c =
       spent = λ all. (i.spent all).0;
       left = λ holds handles b. backs_gone c.loop-standing.m holds handles c.args.self.base.now own (i.left holds handles b) none;
       went = i.went;
-      others = ap (λ (xs : List Lent). map standing_as xs) c.reverse.ensures.items
+      others = ap (λ (xs : List Bound). map standing_as xs) c.reverse.ensures.items
           ∙ turned others own all none i.others;
     }

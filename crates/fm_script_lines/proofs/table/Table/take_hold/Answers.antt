@@ -1,10 +1,14 @@
 use Rattle.std.proofs.Common.{refl}
 use Rattle.std.proofs.lemmas.Option.{MatchOption-at_none}
+use Rattle.fm_script_lines.specs.Numbers.{number_at}
 use Rattle.fm_script_lines.specs.Standings.{hold_in}
 use Rattle.fm_script_lines.proofs.Naming.{not-own, lent-hold_in}
 use Rattle.fm_script_lines.proofs.table.Table.take_hold.Goals as goal
 
 pub returns-in_default-clause-took : goal.returns-in_default-clause-took
 returns-in_default-clause-took c =
-    let t = c.args.self.now in
-    (not-own hold_in lent-hold_in refl t.base.now t.start t.own.items c.args.number (MatchOption-at_none _ _ c.in_default.is c.own_place.ensures), refl)
+    let t = c.args.self.now in (
+      not-own hold_in lent-hold_in refl t.base.now t.start t.own.items (number_at t.names.now c.args.name.now)
+          (MatchOption-at_none _ _ c.in_default.is c.own_place.ensures),
+      refl,
+    )

@@ -1,6 +1,6 @@
 use Rattle.std.proofs.Common.{◌≡◌, ◌+◌, ◌∷◌, ◌++◌, All, List, [], length, length-append, map, take, append_assoc, ap, sym, ◌∙◌, subst, arith}
 use Rattle.std.proofs.lemmas.List.{map-append, take_all, take_more}
-use Rattle.fm_script_lines.specs.declared.lent.Lent.{Lent}
+use Rattle.fm_script_lines.specs.declared.bound.Bound.{Bound}
 use Rattle.fm_script_lines.specs.declared.standing.Standing.{Standing}
 use Rattle.fm_script_lines.specs.Standings.{IsBacked, standing_as}
 use Rattle.fm_script_lines.specs.Tokens.{Backs}
@@ -12,19 +12,17 @@ pub loop-other-preserved : goal.loop-other-preserved
 loop-other-preserved c =
     let i = c.loop-other.invariant in
     let k = c.loop-other.other-index in
-    let all : List Lent = c.args.others.now in
-    let o : Lent = c.other-item.result in
+    let all : List Bound = c.args.others.now in
+    let o : Bound = c.other-item.result in
     let own : List Standing = c.loop-other.self.own.items in
     let was : List Standing = c.args.self.now.own.items in
     let next : List Standing = c.push_reserved.new.self.items in
     let pushed : next ≡ own ++ standing_as o ∷ [] = c.push_reserved.ensures.items ∙ ap (λ (s : Standing). own ++ s ∷ []) c.standing.ensures in
     let more : map standing_as (take (k + 1) all) ≡ map standing_as (take k all) ++ standing_as o ∷ [] =
-    ap (λ (xs : List Lent). map standing_as xs) (take_more all k o c.loop-other-test.true ∙ ap (λ (x : Lent). take k all ++ x ∷ []) (sym c.other-item.is))
+    ap (λ (xs : List Bound). map standing_as xs) (take_more all k o c.loop-other-test.true ∙ ap (λ (x : Bound). take k all ++ x ∷ []) (sym c.other-item.is))
     ∙ map-append standing_as (take k all) (o ∷ []) in
     record {
-      base = i.base;
-      start = i.start;
-      same_room = c.push_reserved.ensures.capacity ∙ i.same_room;
+      keeps = record { names = i.keeps.names; base = i.keeps.base; start = i.keeps.start; room = c.push_reserved.ensures.capacity ∙ i.keeps.room };
       room =
           let room = i.room in let below = c.loop-other-test.true in let same = c.push_reserved.ensures.capacity in
           let one = ap (λ (xs : List Standing). length xs) pushed in let long = length-append own (standing_as o ∷ []) in
@@ -41,5 +39,5 @@ loop-other-preserved c =
 pub returns-clause-backs : goal.returns-clause-backs
 returns-clause-backs c p holds handles b known =
     c.loop-other.invariant.backs p holds handles b
-    (subst (λ (xs : List Lent). All (IsBacked p) (map standing_as xs))
+    (subst (λ (xs : List Bound). All (IsBacked p) (map standing_as xs))
     (sym (take_all c.loop-other.other-index c.args.others.now c.loop-other-test.false)) known)
