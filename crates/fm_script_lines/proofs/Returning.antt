@@ -1,5 +1,5 @@
 -- A pass's next line, with what it leaves of names.
-use Rattle.std.proofs.Common.{◌≡◌, ℕ, ◌+◌, ◌==◌, true, if◌then◌else◌, List, [], ◌∷◌, ◌++◌, length, length-append, refl, ap, sym, ◌∙◌, subst, Err}
+use Rattle.std.proofs.Common.{◌≡◌, ℕ, ◌+◌, ◌==◌, Bool, true, false, if◌then◌else◌, List, [], ◌∷◌, ◌++◌, length, length-append, refl, ap, sym, ◌∙◌, subst, Err}
 use Rattle.fm_base.specs.declared.arena_id.ArenaId.{ArenaId}
 use Rattle.fm_rule_facts.specs.Views.{View}
 use Rattle.fm_script_text.specs.declared.command.Command.{Command}
@@ -8,7 +8,7 @@ use Rattle.fm_script_lines.specs.declared.outcome.Outcome.{Outcome}
 use Rattle.fm_script_lines.specs.declared.reply.Reply.{Reply}
 use Rattle.fm_script_lines.specs.declared.standing.Standing.{Standing}
 use Rattle.fm_script_lines.specs.declared.table.Table.{Table}
-use Rattle.fm_script_lines.specs.Calls.{CallDoes, keeps_tokens}
+use Rattle.fm_script_lines.specs.Calls.{CallDoes}
 use Rattle.fm_script_lines.specs.Learnt.{AfterLine, CallRan, KeepsTable, Leaves, MadeNoCall, stands_by}
 use Rattle.fm_script_lines.specs.Lines.{LineRan}
 use Rattle.fm_script_lines.specs.Outcomes.{outcome}
@@ -19,6 +19,12 @@ use Rattle.fm_script_lines.specs.Tokens.{Backs}
 use Rattle.fm_script_lines.proofs.Backing.{backs_more}
 use Rattle.fm_script_lines.proofs.Going.{went_made}
 use Rattle.fm_script_lines.proofs.Naming.{standing-push}
+
+-- the line gives back no hold and no handle
+abbrev pub keeps_tokens : Command → Bool
+keeps_tokens (Unhold hold) = false
+keeps_tokens (Back handle) = false
+keeps_tokens c = true
 
 -- A line that gives nothing back leaves the table as it is.
 pub leaves_kept : (p : View) (t : Table) (c : Command) → keeps_tokens c ≡ true → Leaves p t t c

@@ -189,9 +189,3 @@ abbrev pub takes_memory : Command → Bool
 takes_memory (command.Add cell value) = true
 takes_memory (command.Cas cell old new) = true
 takes_memory c = false
-
--- the line gives back no hold and no handle
-abbrev pub keeps_tokens : Command → Bool
-keeps_tokens (command.Unhold hold) = false
-keeps_tokens (command.Back handle) = false
-keeps_tokens c = true

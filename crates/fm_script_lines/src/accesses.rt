@@ -18,7 +18,8 @@ use std::sync::Wait;
 pub(crate) fn get(m: &mut Shared, bound: Bound, cell: &Cell) -> Outcome
     requires outside { m.old.inside ≡ None }
     requires known { IfSome (segment_of (standing_as bound)) (IsKnown (view_of_pass m.old)) }
-    ensures { RanLine m.old m.new (On (segment_of (standing_as bound)) (Gets m.old.caller cell.now)) result }
+    ensures { RanLine m.old m.new (On (segment_of (standing_as bound))
+        (Gets m.old.caller cell.now)) result }
 {
     let Some(segment) = bound.segment() else {
         return Outcome::plain(Reply::Skipped);
@@ -34,7 +35,8 @@ pub(crate) fn set<R: Wait>(rt: &R, m: &mut Shared, bound: Bound, cell: &Cell, va
     requires outside { m.old.inside ≡ None }
     requires known { IfSome (segment_of (standing_as bound)) (IsKnown (view_of_pass m.old)) }
     requires of_kind { IsOfKind cell.now.kind value }
-    ensures { RanLine m.old m.new (On (segment_of (standing_as bound)) (Sets m.old.caller cell.now value)) result }
+    ensures { RanLine m.old m.new (On (segment_of (standing_as bound))
+        (Sets m.old.caller cell.now value)) result }
 {
     let Some(segment) = bound.segment() else {
         return Outcome::plain(Reply::Skipped);

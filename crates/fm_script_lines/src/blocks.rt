@@ -15,7 +15,8 @@ use std::sync::Wait;
 pub(crate) fn fill<R: Wait>(rt: &R, m: &mut Shared, bound: Bound, byte: u8) -> Outcome
     requires outside { m.old.inside ≡ None }
     requires known { IfSome (segment_of (standing_as bound)) (IsKnown (view_of_pass m.old)) }
-    ensures { RanLine m.old m.new (On (segment_of (standing_as bound)) (Fills m.old.caller byte)) result }
+    ensures { RanLine m.old m.new (On (segment_of (standing_as bound))
+        (Fills m.old.caller byte)) result }
 {
     let Some(segment) = bound.segment() else {
         return Outcome::plain(Reply::Skipped);
@@ -31,7 +32,8 @@ pub(crate) fn copy<R: Wait>(rt: &R, m: &mut Shared, source: Bound, target: Bound
     requires outside { m.old.inside ≡ None }
     requires source { IfSome (segment_of (standing_as source)) (IsKnown (view_of_pass m.old)) }
     requires target { IfSome (segment_of (standing_as target)) (IsKnown (view_of_pass m.old)) }
-    ensures { RanLine m.old m.new (On (segment_of (standing_as source)) (λ r. On (segment_of (standing_as target)) (Copies m.old.caller r))) result }
+    ensures { RanLine m.old m.new (On (segment_of (standing_as source))
+        (λ r. On (segment_of (standing_as target)) (Copies m.old.caller r))) result }
 {
     let Some(source) = source.segment() else {
         return Outcome::plain(Reply::Skipped);
@@ -50,7 +52,8 @@ pub(crate) fn mismatch(m: &mut Shared, segment: Bound, other: Bound) -> Outcome
     requires outside { m.old.inside ≡ None }
     requires segment { IfSome (segment_of (standing_as segment)) (IsKnown (view_of_pass m.old)) }
     requires other { IfSome (segment_of (standing_as other)) (IsKnown (view_of_pass m.old)) }
-    ensures { RanLine m.old m.new (On (segment_of (standing_as segment)) (λ r. On (segment_of (standing_as other)) (Compares m.old.caller r))) result }
+    ensures { RanLine m.old m.new (On (segment_of (standing_as segment))
+        (λ r. On (segment_of (standing_as other)) (Compares m.old.caller r))) result }
 {
     let Some(segment) = segment.segment() else {
         return Outcome::plain(Reply::Skipped);

@@ -29,7 +29,7 @@ pub use bound::Bound;
 pub use laws::{admitted_lines_leave_nothing, settled_lines_are_a_memorys};
 pub use line::run_line;
 pub use numbers::Numbers;
-pub use ordering::{Order, count_lines, in_order};
+pub use ordering::{LinesInOrder, count_lines, in_order};
 pub use outcome::Outcome;
 pub use playing::play;
 pub use reply::Reply;

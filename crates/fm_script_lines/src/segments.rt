@@ -29,8 +29,10 @@ pub(crate) fn allocate<R: Wait>(
 ) -> Outcome
     requires outside { m.old.inside ≡ None }
     requires known { IfSome (arena_of (standing_as bound)) (pass.IsKnown m.old) }
-    ensures ran { RanLine m.old m.new (On (arena_of (standing_as bound)) (Allocates m.old.caller size align)) result }
-    ensures pages { IfSome (arena_of (standing_as bound)) (λ id. PagesTold m.old m.new id size align result.reply) }
+    ensures ran { RanLine m.old m.new (On (arena_of (standing_as bound))
+        (Allocates m.old.caller size align)) result }
+    ensures pages { IfSome (arena_of (standing_as bound))
+        (λ id. PagesTold m.old m.new id size align result.reply) }
 {
     let Some(arena) = bound.arena() else {
         return Outcome::plain(Reply::Skipped);
@@ -46,8 +48,10 @@ pub(crate) fn allocate<R: Wait>(
 
 /// `slice SEG NAME OFFSET SIZE`
 pub(crate) fn slice(bound: Bound, offset: u64, size: u64) -> Outcome
-    ensures { (p : View) → p.inside ≡ None → IfSome (segment_of (standing_as bound)) (IsKnown (view_of_pass p))
-        → RanLine p p (On (segment_of (standing_as bound)) (λ r. Called (Answers (slice_of offset size r)) segment_made)) result }
+    ensures { (p : View) → p.inside ≡ None → IfSome (segment_of (standing_as bound))
+        (IsKnown (view_of_pass p))
+        → RanLine p p (On (segment_of (standing_as bound))
+        (λ r. Called (Answers (slice_of offset size r)) segment_made)) result }
 {
     let Some(segment) = bound.segment() else {
         return Outcome::plain(Reply::Skipped);
@@ -63,8 +67,10 @@ pub(crate) fn slice(bound: Bound, offset: u64, size: u64) -> Outcome
 
 /// `readonly SEG NAME`
 pub(crate) fn read_only(bound: Bound) -> Outcome
-    ensures { (p : View) → p.inside ≡ None → IfSome (segment_of (standing_as bound)) (IsKnown (view_of_pass p))
-        → RanLine p p (On (segment_of (standing_as bound)) (λ r. Called (Answers (Ok (read_only_of r))) segment_made)) result }
+    ensures { (p : View) → p.inside ≡ None → IfSome (segment_of (standing_as bound))
+        (IsKnown (view_of_pass p))
+        → RanLine p p (On (segment_of (standing_as bound))
+        (λ r. Called (Answers (Ok (read_only_of r))) segment_made)) result }
 {
     let Some(segment) = bound.segment() else {
         return Outcome::plain(Reply::Skipped);

@@ -89,10 +89,12 @@ impl<'a> Table<'a> {
 
     /// What the name is bound to, by a line before all workers' or by one of its own that has run.
     pub(crate) fn at(&self, name: &NameText) -> Bound
-        ensures arena { arena_of (standing_as result) ≡ arena_of (standing_of self.now.base.now self.now.start
-            self.now.own.items (number_at self.now.names.now name.now)) }
-        ensures segment { segment_of (standing_as result) ≡ segment_of (standing_of self.now.base.now self.now.start
-            self.now.own.items (number_at self.now.names.now name.now)) }
+        ensures arena { arena_of (standing_as result)
+            ≡ arena_of (standing_of self.now.base.now self.now.start self.now.own.items
+            (number_at self.now.names.now name.now)) }
+        ensures segment { segment_of (standing_as result)
+            ≡ segment_of (standing_of self.now.base.now self.now.start self.now.own.items
+            (number_at self.now.names.now name.now)) }
     {
         let Some(number) = self.names.of(name) else {
             return Bound::Nothing;
@@ -111,8 +113,9 @@ impl<'a> Table<'a> {
 
     /// The handle that it is bound to by a line of its own, unless that was given back.
     pub(crate) fn handle(&self, name: &NameText) -> Option<&AutoHandle>
-        ensures { option_map (λ h. h.now) result ≡ handle_in (standing_of self.now.base.now self.now.start
-            self.now.own.items (number_at self.now.names.now name.now)) }
+        ensures { option_map (λ h. h.now) result
+            ≡ handle_in (standing_of self.now.base.now self.now.start self.now.own.items
+            (number_at self.now.names.now name.now)) }
     {
         let Some(at) = self.own_place(name) else {
             return None;
@@ -126,7 +129,8 @@ impl<'a> Table<'a> {
     /// Takes the hold out that the name is bound to.
     pub(crate) fn take_hold(&mut self, name: &NameText) -> Option<Hold>
         ensures keeps { KeepsTable self.old self.new }
-        ensures took { Took unheld hold_in self.old.base.now self.old.start self.old.own.items self.new.own.items
+        ensures took { Took unheld hold_in self.old.base.now self.old.start self.old.own.items
+            self.new.own.items
             (number_at self.old.names.now name.now) result }
     {
         let Some(at) = self.own_place(name) else {
@@ -141,7 +145,8 @@ impl<'a> Table<'a> {
     /// Takes the handle out.
     pub(crate) fn take_handle(&mut self, name: &NameText) -> Option<AutoHandle>
         ensures keeps { KeepsTable self.old self.new }
-        ensures took { Took handed_back handle_in self.old.base.now self.old.start self.old.own.items self.new.own.items
+        ensures took { Took handed_back handle_in self.old.base.now self.old.start
+            self.old.own.items self.new.own.items
             (number_at self.old.names.now name.now) result }
     {
         let Some(at) = self.own_place(name) else {

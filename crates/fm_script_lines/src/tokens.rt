@@ -50,7 +50,8 @@ pub(crate) fn end_hold(m: &mut Shared, hold: Hold)
 pub(crate) fn again<R: Wait>(rt: &R, m: &mut Shared, handle: Option<&AutoHandle>) -> Outcome
     requires outside { m.old.inside ≡ None }
     requires has { IfSome handle (λ h. HasHandle m.old h.now) }
-    ensures { RanLine m.old m.new (On (option_map (λ h. h.now.arena) handle.entry) (TakesAgain m.old.caller)) result }
+    ensures { RanLine m.old m.new (On (option_map (λ h. h.now.arena) handle.entry)
+        (TakesAgain m.old.caller)) result }
 {
     let Some(handle) = handle else {
         return Outcome::plain(Reply::Skipped);

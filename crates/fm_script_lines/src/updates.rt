@@ -27,7 +27,8 @@ pub(crate) fn add<R: Wait>(
     requires outside { m.old.inside ≡ None }
     requires known { IfSome (segment_of (standing_as bound)) (IsKnown (view_of_pass m.old)) }
     requires of_kind { IsOfKind cell.now.kind value }
-    ensures ran { IfOk result (RanLine m.old m.new (On (segment_of (standing_as bound)) (Adds m.old.caller cell.now value))) }
+    ensures ran { IfOk result (RanLine m.old m.new (On (segment_of (standing_as bound))
+        (Adds m.old.caller cell.now value))) }
     ensures kept { OnErr result (m.new ≡ m.old) }
 {
     let Some(segment) = bound.segment() else {
@@ -55,7 +56,8 @@ pub(crate) fn exchange<R: Wait>(
     requires known { IfSome (segment_of (standing_as bound)) (IsKnown (view_of_pass m.old)) }
     requires old_kind { IsOfKind cell.now.kind wanted }
     requires new_kind { IsOfKind cell.now.kind value }
-    ensures ran { IfOk result (RanLine m.old m.new (On (segment_of (standing_as bound)) (Exchanges m.old.caller cell.now wanted value))) }
+    ensures ran { IfOk result (RanLine m.old m.new (On (segment_of (standing_as bound))
+        (Exchanges m.old.caller cell.now wanted value))) }
     ensures kept { OnErr result (m.new ≡ m.old) }
 {
     let Some(segment) = bound.segment() else {
