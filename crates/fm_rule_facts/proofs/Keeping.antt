@@ -1,5 +1,5 @@
 -- A step keeps the rule, and tells its caller what others did.
-use Rattle.std.proofs.Common.{Option, ◌≡◌, ◌≢◌, ◌⊎◌, ℕ, zero, suc, true, List, [], ◌∷◌, ◌++◌, set, sym, refl, ap, ◌∙◌, subst, arith, inl, inr, ⊎_elim, append_assoc, Some}
+use Rattle.std.proofs.Common.{Bool, Option, ◌≡◌, ◌≢◌, ◌⊎◌, ℕ, zero, suc, true, List, [], ◌∷◌, ◌++◌, set, sym, refl, ap, ◌∙◌, subst, arith, inl, inr, ⊎_elim, append_assoc, Some}
 use Rattle.std.proofs.lemmas.List.{append-nil}
 use Rattle.std.proofs.lemmas.List.Elements.{filter-append}
 use mathlib.Core.Logic.{dite}
@@ -11,17 +11,17 @@ use Rattle.fm_words.specs.declared.shape.Shape.{Shape}
 use Rattle.fm_base.specs.declared.caller.Caller.{Caller}
 use Rattle.fm_base.specs.Calls.{Entry}
 use Rattle.fm_base.specs.Histories.{made_by}
-use Rattle.fm_base.specs.Finds.{Gathered, Close, Sweep}
+use Rattle.fm_base.specs.Finds.{Find, Gathered, Close, Sweep}
 use Rattle.fm_base_machine.specs.Functions.{Machine}
 use Rattle.fm_base_machine.specs.Steps.{moved_by}
 use Rattle.fm_rule_facts.specs.Views.{Met, View, In, all_gathered, brought, limit_of}
 use Rattle.fm_base.specs.declared.arena_id.ArenaId.{ArenaId}
 use Rattle.fm_rule_facts.specs.Parts.{Swept, unread, named, wiping}
-use Rattle.fm_rule_facts.specs.Facts.{Memory, Owners, IsStanding, IsAt, IsNext, HasSwept, HasPages, IsClosing, IsSweeping, IsGathered, IsSilent, Begins, Somewhere, Owns, Knows, WasDrawn, bit_of, next_of, IsLoose, IsUndrawn, HasNumberInHand}
+use Rattle.fm_rule_facts.specs.Facts.{Memory, Owners, IsStanding, IsAt, IsNext, HasSwept, HasPages, IsClosing, IsSweeping, IsGathered, IsSilent, HasInHand, Begins, Somewhere, Work, Owns, Knows, WasDrawn, bit_of, next_of, IsLoose, IsUndrawn, HasNumberInHand}
 use Rattle.fm_rule_facts.specs.Moves.{MayMake, NoEnd, StaysEnded, Moved}
 use Rattle.fm_rule_facts.proofs.Frame.{others_stay, none_come, still_closing, still_over, still_given, made_by-other}
 use Rattle.fm_rule_facts.proofs.Sessions.{unstanding}
-use Rattle.fm_rule_facts.specs.Hands.{Number, no_number, number_taken, number_learnt, number_drawn, number_left, number_joined, most_draws}
+use Rattle.fm_rule_facts.specs.Hands.{Hand, IsTaker, Number, no_number, number_taken, number_learnt, number_drawn, number_left, number_joined, most_draws}
 use Rattle.fm_rule_facts.proofs.Handing.{hand_on, took_on}
 
 -- ---- lists
@@ -116,31 +116,49 @@ sweeping_on limit c m t es m' ok stands z j o o' x k e s = record {
   reset = λ l. s.given ∙ k.reset l;
 }
 
--- where these are as they were, a close and a sweep are a seat's still
-pub closing_as : {t : Machine} {o : Owners} {j : ℕ} {c : Close} {who : ℕ → Caller} {rank seat : Caller → ℕ} {number holder : ℕ → ℕ}
-    {taker : ℕ → Option Caller} → IsClosing t o j c
-    → IsClosing t (record o { who = who; rank = rank; seat = seat; number = number; holder = holder; taker = taker }) j c
-closing_as y = record { owner = y.owner; life = y.life; passed = y.passed }
+-- callers, numbers and what was seen are no part of the work, which goes on with this slot in the hand
+pub work_with : {z : Shape} {m : Memory} {t : Machine} {o : Owners} {j : ℕ} {v : View} {draw bits : ℕ} {numbers terms : ℕ → ℕ} {who : ℕ → Caller}
+    {rank seat : Caller → ℕ} {owner holder : ℕ → ℕ} {taker : ℕ → Option Caller} {seen : List Entry} {hand : Hand} {number : Number} {met : List Met}
+    {finds : List Find} {gathered : List Gathered} {whole : Bool}
+    → Work z m t o j v → HasInHand z bits m.sessions holder j hand → IsTaker taker v.caller hand
+    → Work z (record m { draw = draw; bits = bits; numbers = numbers; terms = terms }) t
+    (record o { who = who; rank = rank; seat = seat; number = owner; holder = holder; taker = taker }) j
+    (record v { seen = seen; hand = hand; number = number; met = met; finds = finds; gathered = gathered; whole = whole })
+work_with w hand took = record {
+  inside = w.inside;
+  mark = w.mark;
+  closes = λ c i. let y = w.closes c i in record { owner = y.owner; life = y.life; passed = y.passed };
+  once = w.once;
+  sweeps = λ c i.
+      let y = w.sweeps c i in
+      record { owner = y.owner; life = y.life; session = y.session; parts = y.parts; count = y.count; reset = y.reset };
+  swept_once = w.swept_once;
+  hand = hand;
+  took = took;
+  pages = w.pages;
+}
 
-pub sweeping_as : {z : Shape} {m : Memory} {t : Machine} {o : Owners} {j : ℕ} {c : Sweep} {draw bits : ℕ} {numbers terms : ℕ → ℕ} {who : ℕ → Caller}
-    {rank seat : Caller → ℕ} {number holder : ℕ → ℕ} {taker : ℕ → Option Caller}
-    → IsSweeping z m t o j c → IsSweeping z (record m { draw = draw; bits = bits; numbers = numbers; terms = terms }) t
-    (record o { who = who; rank = rank; seat = seat; number = number; holder = holder; taker = taker }) j c
-sweeping_as y = record { owner = y.owner; life = y.life; session = y.session; parts = y.parts; count = y.count; reset = y.reset }
+-- and with the same slot
+pub work_as : {z : Shape} {m : Memory} {t : Machine} {o : Owners} {j : ℕ} {v : View} {draw : ℕ} {numbers terms : ℕ → ℕ} {who : ℕ → Caller}
+    {rank seat : Caller → ℕ} {owner : ℕ → ℕ} {seen : List Entry} {number : Number} {met : List Met} {finds : List Find} {gathered : List Gathered} {whole : Bool}
+    → Work z m t o j v → Work z (record m { draw = draw; numbers = numbers; terms = terms }) t
+    (record o { who = who; rank = rank; seat = seat; number = owner }) j
+    (record v { seen = seen; number = number; met = met; finds = finds; gathered = gathered; whole = whole })
+work_as w = work_with w w.hand w.took
 
 -- who was drawn is so after a step, and nobody else
 module _ {me : ℕ} {z : Shape} {c : Caller} {m : Memory} {t : Machine} {o : Owners} {es : List Entry} {m' : Memory} {o' : Owners}
     (d : Moved me z c m t o es m' o') where
   pub drawn_still : (k : Caller) → WasDrawn m.draw o.who o.rank k → WasDrawn m'.draw o'.who o'.rank k
   drawn_still k y = (
-    (let a = d.draw in let b = d.rank k in let l = y.0 in omega arith),
-    d.who (o'.rank k) ∙ (ap o.who (d.rank k) ∙ y.1),
+    (let a = d.callers.draw in let b = d.callers.rank k in let l = y.0 in omega arith),
+    d.callers.who (o'.rank k) ∙ (ap o.who (d.callers.rank k) ∙ y.1),
   )
 
   pub drawn_before : (k : Caller) → WasDrawn m'.draw o'.who o'.rank k → WasDrawn m.draw o.who o.rank k
   drawn_before k y = (
-    (let a = d.draw in let b = d.rank k in let l = y.0 in omega arith),
-    sym (d.who (o.rank k)) ∙ (ap o'.who (sym (d.rank k)) ∙ y.1),
+    (let a = d.callers.draw in let b = d.callers.rank k in let l = y.0 in omega arith),
+    sym (d.callers.who (o.rank k)) ∙ (ap o'.who (sym (d.callers.rank k)) ∙ y.1),
   )
 
 module _ (z : Shape) (h : List Entry) (me : ℕ) (c : Caller) (m : Memory) (t : Machine) (o : Owners) (es : List Entry) (m' : Memory) (o' : Owners)
@@ -165,11 +183,11 @@ module _ (z : Shape) (h : List Entry) (me : ℕ) (c : Caller) (m : Memory) (t : 
 
     loose_on : (n : ℕ) → IsLoose z m o j n → IsLoose z m' o' j n
     loose_on n y =
-        let w = d.numbers n y.bit (at_other n y.owner) in
+        let w = d.numbers.others n y.bit (at_other n y.owner) in
         record { low = y.low; owner = w.0 ∙ y.owner; bit = w.1; mark = d.marks n (away n y.owner) ∙ y.mark }
 
     term_on : (n : ℕ) → IsLoose z m o j n → m'.terms n ≡ m.terms n
-    term_on n y = (d.numbers n y.bit (at_other n y.owner)).2
+    term_on n y = (d.numbers.others n y.bit (at_other n y.owner)).2
 
     next_on : (n : ℕ) → IsUndrawn z m o j n → IsUndrawn z m' o' j n
     next_on n y = record {
@@ -187,12 +205,12 @@ module _ (z : Shape) (h : List Entry) (me : ℕ) (c : Caller) (m : Memory) (t : 
       term = y.term ∙ sym (term_on k.number y.loose);
       drawn = drawn_still d k y.drawn;
       later = y.later;
-      seated = d.seat k ∙ y.seated;
+      seated = d.callers.seat k ∙ y.seated;
       apart = y.apart;
       ungathered = y.ungathered;
       silent = silent_on (limit_of z) h c t es d.allowed k (apart k y.seated) y.silent;
     }
-    number_on v (number_left n) y = (next_on n y.0, ⊎_elim (λ (e : m.draw ≡ most_draws). inl (d.draw ∙ e)) inr y.1)
+    number_on v (number_left n) y = (next_on n y.0, ⊎_elim (λ (e : m.draw ≡ most_draws). inl (d.callers.draw ∙ e)) inr y.1)
     number_on v (number_joined k) y = record {
       loose = loose_on k.number y.loose;
       term = y.term ∙ sym (term_on k.number y.loose);
@@ -203,10 +221,10 @@ module _ (z : Shape) (h : List Entry) (me : ℕ) (c : Caller) (m : Memory) (t : 
   -- what another seat knows of pages
   others_pages : (j : ℕ) (v : View) → j ≢ me → Owns z h m t o j v → HasPages z m'.maps m'.cells o'.berth j v.inside v.reads v.pages v.sweeps v.swept
   others_pages j v other k = record {
-    read = λ a e x i. d.pages.stay a x.part x.page (stands v.caller a (k.inside ∙ e)) (k.pages.read a e x i);
-    claims = λ p i. let y = k.pages.claims p i in (still p (subst (IsAt j) (sym y) refl)).0 ∙ y;
-    lone = k.pages.lone;
-    sweep = go v.swept k.pages.sweep;
+    read = λ a e x i. d.pages.stay a x.part x.page (stands v.caller a (k.work.inside ∙ e)) (k.work.pages.read a e x i);
+    claims = λ p i. let y = k.work.pages.claims p i in (still p (subst (IsAt j) (sym y) refl)).0 ∙ y;
+    lone = k.work.pages.lone;
+    sweep = go v.swept k.work.pages.sweep;
   }
     where
       still : (p : ℕ) → IsAt j (o.berth p) → (o'.berth p ≡ o.berth p) × ((w : ℕ) → m'.cells p w ≡ m.cells p w)
@@ -214,7 +232,7 @@ module _ (z : Shape) (h : List Entry) (me : ℕ) (c : Caller) (m : Memory) (t : 
 
       maps_of : (a : ArenaId) (i : ℕ) → IsNext v.sweeps a i → m'.maps a.slot i ≡ m.maps a.slot i
       maps_of a i n =
-          let y = k.sweeps n.sweep n.there in
+          let y = k.work.sweeps n.sweep n.there in
           let w = d.sweepers n.sweep.arena y.life y.session (λ e. other (sym y.owner ∙ e)) in
           subst (λ (b : ArenaId). m'.maps b.slot i ≡ m.maps b.slot i) n.arena (w.1.maps i)
 
@@ -229,26 +247,28 @@ module _ (z : Shape) (h : List Entry) (me : ℕ) (c : Caller) (m : Memory) (t : 
   others_own j v other k = record {
     drawn = drawn_still d v.caller k.drawn;
     term = k.term ∙ sym (kept v.caller.number k.bit k.owner).2;
-    seated = d.seat v.caller ∙ k.seated;
+    seated = d.callers.seat v.caller ∙ k.seated;
     owner = (kept v.caller.number k.bit k.owner).0 ∙ k.owner;
     bit = (kept v.caller.number k.bit k.owner).1;
     mine = made_by-on (limit_of z) h c t es d.allowed v.caller far ∙ k.mine;
-    inside = others_stay (limit_of z) c v.caller es t far d.allowed ∙ k.inside;
-    mark = d.marks v.caller.number (away j other v.caller.number k.owner) ∙ k.mark;
-    closes = λ x i.
-        let y = k.closes x i in
-        let w = d.closers x.arena y.life (λ e. other (sym y.owner ∙ e)) in
-        closing_on (limit_of z) h c t es d.allowed j o o' x y w.0 w.1;
-    once = k.once;
-    sweeps = λ x i.
-        let y = k.sweeps x i in
-        let w = d.sweepers x.arena y.life y.session (λ e. other (sym y.owner ∙ e)) in
-        sweeping_on (limit_of z) c m t es m' d.allowed stands z j o o' x y w.0 w.1;
-    swept_once = k.swept_once;
-    hand = hand_on z m.bits m'.bits m.sessions m'.sessions o.holder o'.holder j
-        (λ s g f b e. let w = d.holders s g f b (λ q. other (sym e ∙ q)) in (w.0 ∙ e, w.1, w.2)) v.hand k.hand;
-    took = took_on z m.bits m.sessions o.holder j o.taker o'.taker v.caller (λ s g f b e. (d.holders s g f b (λ q. other (sym e ∙ q))).3) v.hand k.hand k.took;
-    pages = others_pages j v other k;
+    work = record {
+      inside = others_stay (limit_of z) c v.caller es t far d.allowed ∙ k.work.inside;
+      mark = d.marks v.caller.number (away j other v.caller.number k.owner) ∙ k.work.mark;
+      closes = λ x i.
+          let y = k.work.closes x i in
+          let w = d.closers x.arena y.life (λ e. other (sym y.owner ∙ e)) in
+          closing_on (limit_of z) h c t es d.allowed j o o' x y w.0 w.1;
+      once = k.work.once;
+      sweeps = λ x i.
+          let y = k.work.sweeps x i in
+          let w = d.sweepers x.arena y.life y.session (λ e. other (sym y.owner ∙ e)) in
+          sweeping_on (limit_of z) c m t es m' d.allowed stands z j o o' x y w.0 w.1;
+      swept_once = k.work.swept_once;
+      hand = hand_on z m.bits m'.bits m.sessions m'.sessions o.holder o'.holder j
+          (λ s g f b e. let w = d.holders s g f b (λ q. other (sym e ∙ q)) in (w.0 ∙ e, w.1, w.2)) v.hand k.work.hand;
+      took = took_on z m.bits m.sessions o.holder j o.taker o'.taker v.caller (λ s g f b e. (d.holders s g f b (λ q. other (sym e ∙ q))).3) v.hand k.work.hand k.work.took;
+      pages = others_pages j v other k;
+    };
     gathered = λ g i. still v.seen g (k.gathered g i);
     coming = λ x j g i. still x.seen g (k.coming x j g i);
     one_each = k.one_each;
@@ -261,7 +281,7 @@ module _ (z : Shape) (h : List Entry) (me : ℕ) (c : Caller) (m : Memory) (t : 
     where
       kept : (n : ℕ) → bit_of m.numbers n ≡ 0 → o.number n ≡ j
           → (o'.number n ≡ o.number n) × (bit_of m'.numbers n ≡ 0) × (m'.terms n ≡ m.terms n)
-      kept n b e = d.numbers n b (at_other j other n e)
+      kept n b e = d.numbers.others n b (at_other j other n e)
 
       far : v.caller ≢ c
       far = apart j other v.caller k.seated
@@ -272,7 +292,7 @@ module _ (z : Shape) (h : List Entry) (me : ℕ) (c : Caller) (m : Memory) (t : 
           let apart' : g.caller ≢ c = apart j other g.caller y.seated in
           record {
             drawn = drawn_still d g.caller y.drawn;
-            seated = d.seat g.caller ∙ y.seated;
+            seated = d.callers.seat g.caller ∙ y.seated;
             apart = y.apart;
             outside = others_stay (limit_of z) c g.caller es t apart' d.allowed ∙ y.outside;
             quiet = made_by-on (limit_of z) h c t es d.allowed g.caller apart' ∙ y.quiet;

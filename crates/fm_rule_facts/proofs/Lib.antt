@@ -30,3 +30,5 @@ pub mod Sounding
 pub mod Ruling
 pub mod Wanting
 pub mod Terming
+pub mod Leaving
+pub mod Seating

@@ -10,11 +10,11 @@ use Rattle.fm_base.specs.Finds.{Find, Gathered}
 use Rattle.fm_base_machine.specs.Functions.{Machine}
 use Rattle.fm_base_machine.specs.Steps.{moved_by}
 use Rattle.fm_rule_facts.specs.Views.{View, In, IsSound, all_gathered, brought, limit_of, HasOwnHandles}
-use Rattle.fm_rule_facts.specs.Facts.{Memory, Owners, IsOnce, Knows, WasDrawn, bit_of, HasNumberInHand}
-use Rattle.fm_rule_facts.specs.Hands.{Number, no_number, number_taken, number_learnt, number_drawn, number_left, number_joined}
-use Rattle.fm_rule_facts.specs.Moves.{Moved, Same, Part, told, Gives}
+use Rattle.fm_rule_facts.specs.Facts.{Memory, Owners, IsOnce, Work, Knows, WasDrawn, bit_of}
+use Rattle.fm_rule_facts.specs.Moves.{Moved, Same, KeepsHand, told, Gives}
 use Rattle.fm_rule_facts.proofs.Frame.{others_stay, made_by-other}
-use Rattle.fm_rule_facts.proofs.Keeping.{none_added, begins_on, gathered_all, made_by-on, drawn_still, drawn_before}
+use Rattle.fm_rule_facts.proofs.Handing.{hand_view}
+use Rattle.fm_rule_facts.proofs.Keeping.{none_added, begins_on, gathered_all, made_by-on, drawn_still, drawn_before, work_as}
 
 module _ (z : Shape) (h zs : List Entry) (me : ℕ) (m m' : Memory) (t : Machine) (o o' : Owners) (es : List Entry) (fs : ℕ → List Find) (v p : View)
     (k : Knows z h m t o me v) (l : v.live ≡ true) (d : Moved me z v.caller m t o es m' o') (is : h ≡ v.seen ++ zs) (s : Same v p) where
@@ -27,35 +27,8 @@ module _ (z : Shape) (h zs : List Entry) (me : ℕ) (m m' : Memory) (t : Machine
   seen_is : w.seen ≡ h ++ es
   seen_is = ap (λ (xs : List Entry). (xs ++ zs) ++ es) s.seen ∙ ap (λ (xs : List Entry). xs ++ es) (sym is)
 
-  -- the number in the hand of what is told
-  number_told : (hand : Number) → HasNumberInHand z (h ++ es) m' (moved_by t es) o' me p hand → HasNumberInHand z (h ++ es) m' (moved_by t es) o' me w hand
-  number_told no_number y = tt
-  number_told (number_taken n) y = y
-  number_told (number_learnt n x) y = y
-  number_told (number_drawn k) y = record {
-    loose = y.loose;
-    term = y.term;
-    drawn = y.drawn;
-    later = y.later;
-    seated = y.seated;
-    apart = y.apart;
-    ungathered = λ g i. y.ungathered g (subst (In g) (append-nil (all_gathered p)) i);
-    silent = y.silent;
-  }
-  number_told (number_left n) y = (
-    y.0,
-    ⊎_elim inl (λ (q : (g : Gathered) × In g (all_gathered p) × (g.caller.number ≡ n)).
-        inr (q.0, subst (In q.0) (sym (append-nil (all_gathered p))) q.1, q.2)) y.1,
-  )
-  number_told (number_joined k) y = record {
-    loose = y.loose;
-    term = y.term;
-    left = y.left;
-    gathered = (y.gathered.0, subst (In y.gathered.0) (sym (append-nil (all_gathered p))) y.gathered.1, y.gathered.2);
-  }
-
-  pub own_view : Part z (h ++ es) v m' (moved_by t es) o' me p → HasOwnHandles w → Knows z (h ++ es) m' (moved_by t es) o' me w
-  own_view q handles =
+  pub own_view : Work z m' (moved_by t es) o' me p → KeepsHand z (h ++ es) v m' (moved_by t es) o' me p → HasOwnHandles w → Knows z (h ++ es) m' (moved_by t es) o' me w
+  own_view work q handles =
       let u = k.owns l in
       let ok = d.allowed in
       let num : p.caller.number ≡ v.caller.number = ap (λ (x : Caller). x.number) s.caller in
@@ -66,20 +39,12 @@ module _ (z : Shape) (h zs : List Entry) (me : ℕ) (m m' : Memory) (t : Machine
         met = λ x i. absurd i;
         owns = λ e. record {
           drawn = subst (WasDrawn m'.draw o'.who o'.rank) (sym s.caller) (still v.caller u.drawn);
-          term = ap (λ (x : Caller). x.term) s.caller ∙ (u.term ∙ (sym d.own.term ∙ ap m'.terms (sym num)));
-          seated = ap o'.seat s.caller ∙ (d.seat v.caller ∙ u.seated);
-          owner = ap o'.number num ∙ (d.own.owner ∙ u.owner);
-          bit = ap (bit_of m'.numbers) num ∙ (d.own.bit ∙ u.bit);
+          term = ap (λ (x : Caller). x.term) s.caller ∙ (u.term ∙ (sym d.numbers.term ∙ ap m'.terms (sym num)));
+          seated = ap o'.seat s.caller ∙ (d.callers.seat v.caller ∙ u.seated);
+          owner = ap o'.number num ∙ (d.numbers.owner ∙ u.owner);
+          bit = ap (bit_of m'.numbers) num ∙ (d.numbers.bit ∙ u.bit);
           mine = ap (made_by p.caller) (sym seen_is);
-          inside = q.inside;
-          mark = q.mark;
-          closes = q.closes;
-          once = q.once;
-          sweeps = q.sweeps;
-          swept_once = q.swept_once;
-          hand = q.hand;
-          took = q.took;
-          pages = q.pages;
+          work = work_as work;
           handles = handles;
           coming = λ x i. absurd i;
           one_each = subst (IsOnce (λ (g : Gathered). g.caller)) (sym (append-nil (all_gathered p) ∙ same_all)) u.one_each;
@@ -87,13 +52,15 @@ module _ (z : Shape) (h zs : List Entry) (me : ℕ) (m m' : Memory) (t : Machine
               let y = (gathered_all z h m t o me v u g (subst (In g) same_all i)).1 in
               record {
                 drawn = still g.caller y.drawn;
-                seated = d.seat g.caller ∙ y.seated;
+                seated = d.callers.seat g.caller ∙ y.seated;
                 apart = λ e. y.apart (e ∙ s.caller);
                 outside = others_stay (limit_of z) v.caller g.caller es t y.apart ok ∙ y.outside;
                 quiet = ap (made_by g.caller) (sym seen_is);
               };
-          number = number_told p.number q.number.number;
-          not_own = q.number.not_own;
+          number =
+              hand_view z (h ++ es) m' (moved_by t es) o' me p w refl (λ g. subst (In g) (append-nil (all_gathered p)))
+              (λ g. subst (In g) (sym (append-nil (all_gathered p)))) p.number q.number;
+          not_own = q.not_own;
           whole = λ e n lt ne.
               let before : WasDrawn m.draw o.who o.rank n = drawn_before d n lt in
               let g = u.whole (sym s.whole ∙ e) n before (λ q. ne (q ∙ sym s.caller)) in

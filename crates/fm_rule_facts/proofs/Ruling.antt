@@ -10,8 +10,8 @@ use Rattle.fm_base.specs.Finds.{Find, Gathered, is_number}
 use Rattle.fm_base_machine.specs.Functions.{Closes, Over, Machine}
 use Rattle.fm_base_machine.specs.Steps.{moved_by}
 use Rattle.fm_rule_facts.specs.Views.{all_gathered, brought, View, In, limit_of}
-use Rattle.fm_rule_facts.specs.Facts.{Memory, free, shut, Berth, loose, claimed, mapped, unmapped, IsAt, Pages, HasPage, Owners, Shows, World, HasDraw, HasClose, HasSweep, KeepsSlot, Somewhere, Knows, Rule, KeepsCaller, WantsNumber, IsUsed, wanted, IsLooked, LookedBy, KeepsNumber, WasDrawn, bit_of, IsSpent}
-use Rattle.fm_rule_facts.specs.Moves.{Moved, Same, Part, KeepsCloses, KeepsSweeps, KeepsSlots, KeepsPages, KeepsHolds, told, Gives, MayLend, NumbersOn}
+use Rattle.fm_rule_facts.specs.Facts.{Memory, Work, free, shut, Berth, loose, claimed, mapped, unmapped, IsAt, Pages, HasPage, Owners, Shows, World, HasDraw, HasClose, HasSweep, KeepsSlot, Somewhere, Knows, Rule, KeepsCaller, WantsNumber, IsUsed, wanted, IsLooked, LookedBy, KeepsNumber, WasDrawn, bit_of, IsSpent}
+use Rattle.fm_rule_facts.specs.Moves.{Moved, Same, KeepsHand, KeepsCloses, KeepsSweeps, KeepsSlots, KeepsPages, KeepsHolds, told, Gives, MayLend, NumbersOn}
 use Rattle.std.specs.Int.{bit_at}
 use Rattle.fm_rule_facts.specs.Hands.{number_drawn}
 use Rattle.fm_rule_facts.specs.Holds.{holds_of}
@@ -106,9 +106,9 @@ pub keeps_with : (z : Shape) (ws ws' : List ℕ) (vs : List View) (r : Rule z ws
     → KeepsPages me v p r.owners o'
     → KeepsHolds v p r.machine (moved_by r.machine es) → NumbersOn z me v p r.memory r.owners m' o'
     → Shows z ws' m' → World z m' (moved_by r.machine es)
-    → Part z (r.history ++ es) v m' (moved_by r.machine es) o' me p
+    → Work z m' (moved_by r.machine es) o' me p → KeepsHand z (r.history ++ es) v m' (moved_by r.machine es) o' me p
     → (w : View) × (rule : Rule z ws' (set vs me w)) × Gives v p es fs w × (w.seen ≡ rule.history)
-keeps_with z ws ws' vs r me v p es fs m' o' at l d s nd new looks lends pages kc kw ks kp kh kn shows world q =
+keeps_with z ws ws' vs r me v p es fs m' o' at l d s nd new looks lends pages kc kw ks kp kh kn shows world work q =
     let k = r.each me v at in
     let u = k.owns l in
     let zs : List Entry = k.begins.0 in
@@ -117,12 +117,12 @@ keeps_with z ws ws' vs r me v p es fs m' o' at l d s nd new looks lends pages kc
     let t' : Machine = moved_by r.machine es in
     let on = legal_on (limit_of z) v.caller r.history es r.machine r.legal r.depicts d.allowed in
     let here : (c : Caller) (P : View → Type 0) → (P v → P w) → Somewhere vs (r.owners.seat c) P → Somewhere (set vs me w) (o'.seat c) P =
-    (λ c P f y. subst (λ (i : ℕ). Somewhere (set vs me w) i P) (sym (d.seat c)) (stays_somewhere vs me v w (r.owners.seat c) P at f y)) in
+    (λ c P f y. subst (λ (i : ℕ). Somewhere (set vs me w) i P) (sym (d.callers.seat c)) (stays_somewhere vs me v w (r.owners.seat c) P at f y)) in
     let after : (c : Caller) → WasDrawn r.memory.draw r.owners.who r.owners.rank c → WasDrawn m'.draw o'.who o'.rank c =
     drawn_still d in
     let before : (c : Caller) → WasDrawn m'.draw o'.who o'.rank c → WasDrawn r.memory.draw r.owners.who r.owners.rank c =
     drawn_before d in
-    let more : r.memory.draw ≤ m'.draw = (let b = d.draw in omega arith) in
+    let more : r.memory.draw ≤ m'.draw = (let b = d.callers.draw in omega arith) in
     let wants_on : (before : List Gathered) → ((g : Gathered) → In g before → WasDrawn r.memory.draw r.owners.who r.owners.rank g.caller) → (n : ℕ)
     → Somewhere vs (r.owners.number n) (WantsNumber n) → IsUsed m' o' (set vs me w) before n = (λ before b n y. dite (ℕ_discrete (r.owners.number n) me)
     (λ e.
@@ -131,7 +131,7 @@ keeps_with z ws ws' vs r me v p es fs m' o' at l d s nd new looks lends pages kc
     wanted (record { view = w; there = ap (get_elem? (set vs me w)) (q.1 ∙ e) ∙ set_there vs me v w at; holds = q.0 }))
     (λ ne.
     let loose = wants_loose z ws vs r (r.owners.number n) n y.view y.there y.holds in
-    let q = (d.numbers n loose.bit ne).0 in
+    let q = (d.numbers.others n loose.bit ne).0 in
     wanted (subst (λ (j : ℕ). Somewhere (set vs me w) j (WantsNumber n)) (sym q)
     (record { view = y.view; there = set_else vs me (r.owners.number n) w ne ∙ y.there; holds = y.holds })))) in
     let rule : Rule z ws' (set vs me w) = record {
@@ -149,23 +149,23 @@ keeps_with z ws ws' vs r me v p es fs m' o' at l d s nd new looks lends pages kc
       depicts = on.1;
       shows = shows;
       world = world;
-      few = (let a = r.few in let b = d.draw in omega arith);
-      begun = (let a = r.begun in let b = d.draw in omega arith);
-      first = d.who 0 ∙ r.first;
-      ranks = λ k h. ap o'.rank (d.who k) ∙ (d.rank (r.owners.who k) ∙ r.ranks k (let b = d.draw in omega arith));
+      few = (let a = r.few in let b = d.callers.draw in omega arith);
+      begun = (let a = r.begun in let b = d.callers.draw in omega arith);
+      first = d.callers.who 0 ∙ r.first;
+      ranks = λ k h. ap o'.rank (d.callers.who k) ∙ (d.callers.rank (r.owners.who k) ∙ r.ranks k (let b = d.callers.draw in omega arith));
       later = λ c n.
           let far : c ≢ v.caller = (λ x. n (subst (WasDrawn m'.draw o'.who o'.rank) (sym x) (after v.caller u.drawn))) in
           silent_on (limit_of z) r.history v.caller r.machine es d.allowed c far (r.later c (λ y. n (after c y)));
       terms = λ c y. let x = r.terms c (before c y) in (x.0, (let a = x.1 in let b = kn.terms.terms c.number in omega arith));
       last = kn.terms.last;
-      callers = λ c y. here c (KeepsCaller c) (caller_still v p zs es fs s c (q.number.stays c)) (r.callers c (before c y));
+      callers = λ c y. here c (KeepsCaller c) (caller_still v p zs es fs s c (q.stays c)) (r.callers c (before c y));
       drawers = λ k i h.
-          let y = r.drawers k i (let b = d.draw in omega arith) in
+          let y = r.drawers k i (let b = d.callers.draw in omega arith) in
           let a : Caller = r.owners.who y.0 in
           let b : Caller = r.owners.who k in (
             y.0,
             y.1,
-            subst (λ (x : Caller × Caller). Somewhere (set vs me w) (o'.seat x.0) (HasDraw x.0 x.1)) (λ j. (sym (d.who y.0) j, sym (d.who k) j))
+            subst (λ (x : Caller × Caller). Somewhere (set vs me w) (o'.seat x.0) (HasDraw x.0 x.1)) (λ j. (sym (d.callers.who y.0) j, sym (d.callers.who k) j))
                 (here a (HasDraw a b) (draw_still v p zs es fs s a b) y.2),
           );
       free_numbers = kn.freed;
@@ -226,7 +226,7 @@ keeps_with z ws ws' vs r me v p es fs m' o' at l d s nd new looks lends pages kc
           omega arith;
       each = λ j y at'. ⊎_elim
           (λ (e : (j ≡ me) × (w ≡ y)). subst (λ (x : ℕ × View). Knows z (r.history ++ es) m' t' o' x.0 x.1) (λ i. (sym e.0 i, e.1 i))
-          (own_view z r.history zs me r.memory m' r.machine r.owners o' es fs v p k l d is s q
+          (own_view z r.history zs me r.memory m' r.machine r.owners o' es fs v p k l d is s work q
           (handles_told (limit_of z) r.machine v p r.history zs es fs l d.allowed is u.mine s kh u.handles)))
           (λ (e : (j ≢ me) × (get_elem? vs j ≡ some y)). others_know z r.history me v.caller r.memory r.machine r.owners es m' o' d u.seated u.owner u.drawn
           (λ c a x. (r.world.marked c a x).stands) j y e.0
@@ -246,12 +246,12 @@ keeps_with z ws ws' vs r me v p es fs m' o' at l d s nd new looks lends pages kc
           (at_set vs me j w y at');
       looked = λ j y at'. ⊎_elim
           (λ (e : (j ≡ me) × (w ≡ y)). subst (IsLooked z m' o' (set vs me w)) e.1
-          (looked_on z r.memory r.owners vs m' o' (set vs me w) after (λ q. (let b = d.draw in omega arith)) wants_on w
+          (looked_on z r.memory r.owners vs m' o' (set vs me w) after (λ q. (let b = d.callers.draw in omega arith)) wants_on w
           (looked_told z r.memory r.owners vs v p zs es fs s.finds s.gathered s.met
           (λ f i. looks f (subst (λ (xs : List Entry). In f (fs (length xs))) (ap (λ (xs : List Entry). xs ++ zs) s.seen ∙ sym is) i))
           (r.looked me v at))))
           (λ (e : (j ≢ me) × (get_elem? vs j ≡ some y)).
-          looked_on z r.memory r.owners vs m' o' (set vs me w) after (λ q. (let b = d.draw in omega arith)) wants_on y (r.looked j y e.1))
+          looked_on z r.memory r.owners vs m' o' (set vs me w) after (λ q. (let b = d.callers.draw in omega arith)) wants_on y (r.looked j y e.1))
           (at_set vs me j w y at');
     } in
     let seen : w.seen ≡ r.history ++ es = ap (λ (xs : List Entry). (xs ++ zs) ++ es) s.seen ∙ ap (λ (xs : List Entry). xs ++ es) (sym is) in
@@ -268,7 +268,7 @@ pub keeps : (z : Shape) (ws ws' : List ℕ) (vs : List View) (r : Rule z ws vs) 
     → KeepsPages me v p r.owners o'
     → KeepsHolds v p r.machine (moved_by r.machine es) → NumbersOn z me v p r.memory r.owners m' o'
     → Shows z ws' m' → World z m' (moved_by r.machine es)
-    → Part z (r.history ++ es) v m' (moved_by r.machine es) o' me p
+    → Work z m' (moved_by r.machine es) o' me p → KeepsHand z (r.history ++ es) v m' (moved_by r.machine es) o' me p
     → (w : View) × (rule : Rule z ws' (set vs me w)) × Gives v p es fs w × (w.seen ≡ rule.history)
 keeps z ws ws' vs r me v p es fs m' o' at l d s nd =
     keeps_with z ws ws' vs r me v p es fs m' o' at l d s (λ n f i. let y = nd n f i in (y.0, y.1))

@@ -102,7 +102,7 @@ module _ (z : Shape) (ws : List ℕ) (vs : List View) (r : Rule z ws vs) where
       mine = (r.each me v at).owns live
 
       its : IsSweeping z r.memory r.machine r.owners me c
-      its = mine.sweeps c i
+      its = mine.work.sweeps c i
 
       go : (b : Berth) → r.owners.berth l.block ≡ b → LentAt b l → c.passed ≤ l.part
       go loose e q = absurd q
@@ -121,12 +121,12 @@ module _ (z : Shape) (ws : List ℕ) (vs : List View) (r : Rule z ws vs) where
           let has : (y.view.live ≡ true) × ((w : ℕ) × (y.view.swept ≡ wiping a p l.block w)) = subst (λ (b : Berth). HasPage l.block b y.view) e y.holds in
           let its' = (r.each j y.view y.there).owns has.0 in
           let s : IsWiped z r.memory.maps r.memory.cells r.owners.berth j y.view.sweeps a p l.block has.1.0 =
-          subst (HasSwept z r.memory.maps r.memory.cells r.owners.berth j y.view.sweeps) has.1.1 its'.pages.sweep in
+          subst (HasSwept z r.memory.maps r.memory.cells r.owners.berth j y.view.sweeps) has.1.1 its'.work.pages.sweep in
           let arenas : s.next.sweep.arena ≡ c.arena = s.next.arena ∙ (sym q.0 ∙ same) in
-          let seats : j ≡ me = sym (its'.sweeps s.next.sweep s.next.there).owner ∙ (ap r.owners.closer arenas ∙ its.owner) in
+          let seats : j ≡ me = sym (its'.work.sweeps s.next.sweep s.next.there).owner ∙ (ap r.owners.closer arenas ∙ its.owner) in
           let views : y.view ≡ v = some-injective y.view v (sym y.there ∙ (ap (get_elem? vs) seats ∙ at)) in
           let there : In s.next.sweep v.sweeps = subst (λ (u : View). In s.next.sweep u.sweeps) views s.next.there in
-          let one : c ≡ s.next.sweep = one_sweep v.sweeps mine.swept_once c s.next.sweep i there (sym arenas) in
+          let one : c ≡ s.next.sweep = one_sweep v.sweeps mine.work.swept_once c s.next.sweep i there (sym arenas) in
           let n : c.passed ≡ l.part = ap (λ (x : Sweep). x.passed) one ∙ (s.next.passed ∙ sym q.1) in omega arith
 
 -- ---- a pass
@@ -149,12 +149,12 @@ sound_of z ws vs r me v at l lone q =
       legal = subst (λ (x : Shape × List Entry). IsLegal (limit_of x.0) [] x.1) (λ i. (sym e i, sym q i)) r.legal;
       lent = subst (λ (x : Shape × List Entry). IsRightlyLent x.0.page_words (limit_of x.0) x.1) (λ i. (sym e i, sym q i)) r.rightly;
       number = (let a = (r.terms v.caller u.drawn).0 in let c : v.shape.passes ≡ z.passes = ap (λ (x : Shape). x.passes) e in omega arith);
-      inside = λ a i. subst (λ (x : State). IsUnderWay x v.caller a) (sym st) (r.depicts.listed v.caller a (u.inside ∙ i));
-      outside = λ a w. sym u.inside ∙ r.depicts.under v.caller a (subst (λ (x : State). IsUnderWay x v.caller a) st w);
+      inside = λ a i. subst (λ (x : State). IsUnderWay x v.caller a) (sym st) (r.depicts.listed v.caller a (u.work.inside ∙ i));
+      outside = λ a w. sym u.work.inside ∙ r.depicts.under v.caller a (subst (λ (x : State). IsUnderWay x v.caller a) st w);
       fits = λ a h. subst (λ (x : Shape). Fits x a) (sym e) (r.world.sessions.fits a (known a h));
-      hand = λ s i. subst (λ (y : Shape). s < y.slots) (sym e) (slot_below z r.memory.bits r.memory.sessions r.owners.holder me s v.hand u.hand i);
+      hand = λ s i. subst (λ (y : Shape). s < y.slots) (sym e) (slot_below z r.memory.bits r.memory.sessions r.owners.holder me s v.hand u.work.hand i);
       swept = λ c i.
-          let y = u.sweeps c i in
+          let y = u.work.sweeps c i in
           record {
             known = ap (λ (x : State). has_arena x c.arena) st ∙ not_fresh (has_arena s c.arena) (arena_of s c.arena).life (λ f.
                 let g : Over ≡ Fresh = sym y.life ∙ (r.depicts.life c.arena ∙ f) in absurd (cc));
@@ -172,11 +172,11 @@ sound_of z ws vs r me v at l lone q =
           (subst (λ (x : State). 8 * w < (arena_of x a).given) st g) in
           subst (λ (x : Shape × List Entry). HasPart (loans_of x.1) a (w / x.0.page_words)) (λ i. (sym e i, sym q i)) y;
       reads = λ a m i j. subst (λ (es : List Entry). Contains (loans_of es) (loan_of m.page a m.part)) (sym q)
-          (mapped_part z ws vs r v.caller a m.part m.page (u.inside ∙ i) (u.pages.read a i m j));
-      own_pages = λ p i. subst (λ (s : Shape). p < s.pages) (sym e) (r.pages.claimed_is p me (u.pages.claims p i)).0;
+          (mapped_part z ws vs r v.caller a m.part m.page (u.work.inside ∙ i) (u.work.pages.read a i m j));
+      own_pages = λ p i. subst (λ (s : Shape). p < s.pages) (sym e) (r.pages.claimed_is p me (u.work.pages.claims p i)).0;
       swept_page = λ a i p w h. subst (λ (s : Shape). p < s.pages) (sym e)
           (let y : IsWiped z r.memory.maps r.memory.cells r.owners.berth me v.sweeps a i p w =
-          subst (HasSwept z r.memory.maps r.memory.cells r.owners.berth me v.sweeps) h u.pages.sweep in
+          subst (HasSwept z r.memory.maps r.memory.cells r.owners.berth me v.sweeps) h u.work.pages.sweep in
           (r.pages.unmapped_is p me i a y.owner).page);
       few_left = λ f i p h.
           let y : FewLeft z r.history f = ⊎_elim

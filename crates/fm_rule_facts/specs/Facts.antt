@@ -227,13 +227,8 @@ HasNumberInHand z h m t o j v (number_joined c) = IsJoined z m o j v c
 abbrev pub HasGathered : Caller → View → Type 0
 HasGathered c v = (g : Gathered) × In g (all_gathered v) × (g.caller ≡ c)
 
-pub record Owns (z : Shape) (h : List Entry) (m : Memory) (t : Machine) (o : Owners) (j : ℕ) (v : View) : Type 0 where
-  pub drawn : WasDrawn m.draw o.who o.rank v.caller
-  pub term : v.caller.term ≡ m.terms v.caller.number
-  pub seated : o.seat v.caller ≡ j
-  pub owner : o.number v.caller.number ≡ j
-  pub bit : bit_of m.numbers v.caller.number ≡ 0
-  pub mine : made_by v.caller h ≡ made_by v.caller v.seen
+-- what the pass of a view has under way: where it is, what it closes and sweeps, the slot in its hand, and pages
+pub record Work (z : Shape) (m : Memory) (t : Machine) (o : Owners) (j : ℕ) (v : View) : Type 0 where
   pub inside : t.inside v.caller ≡ v.inside
   pub mark : m.marks v.caller.number ≡ v.mark
   pub closes : (c : Close) → In c v.closes → IsClosing t o j c
@@ -243,6 +238,15 @@ pub record Owns (z : Shape) (h : List Entry) (m : Memory) (t : Machine) (o : Own
   pub hand : HasInHand z m.bits m.sessions o.holder j v.hand
   pub took : IsTaker o.taker v.caller v.hand
   pub pages : HasPages z m.maps m.cells o.berth j v.inside v.reads v.pages v.sweeps v.swept
+
+pub record Owns (z : Shape) (h : List Entry) (m : Memory) (t : Machine) (o : Owners) (j : ℕ) (v : View) : Type 0 where
+  pub drawn : WasDrawn m.draw o.who o.rank v.caller
+  pub term : v.caller.term ≡ m.terms v.caller.number
+  pub seated : o.seat v.caller ≡ j
+  pub owner : o.number v.caller.number ≡ j
+  pub bit : bit_of m.numbers v.caller.number ≡ 0
+  pub mine : made_by v.caller h ≡ made_by v.caller v.seen
+  pub work : Work z m t o j v
   pub handles : HasOwnHandles v
   pub gathered : (g : Gathered) → In g v.gathered → IsGathered h m t o j v v.seen g
   pub coming : (x : Met) → In x v.met → (g : Gathered) → In g x.gathered → IsGathered h m t o j v x.seen g

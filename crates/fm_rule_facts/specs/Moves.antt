@@ -63,17 +63,20 @@ pub record PagesMoved (me : ℕ) (m : Memory) (t : Machine) (o : Owners) (m' : M
   -- a page of an arena that stands
   pub stay : (b : ArenaId) (i p : ℕ) → IsStanding (t.life b) → m.maps b.slot i ≡ Some p → m'.maps b.slot i ≡ Some p
 
--- the caller's own number stays its own
-pub record KeepsOwn (me n : ℕ) (m : Memory) (o : Owners) (m' : Memory) (o' : Owners) : Type 0 where
+-- nobody was drawn, and each caller stays at its seat
+pub record CallersStay (m : Memory) (o : Owners) (m' : Memory) (o' : Owners) : Type 0 where
+  pub draw : m'.draw ≡ m.draw
+  pub who : (k : ℕ) → o'.who k ≡ o.who k
+  pub rank : (k : Caller) → o'.rank k ≡ o.rank k
+  pub seat : (k : Caller) → o'.seat k ≡ o.seat k
+
+-- the caller's own number n stays its own, and a number at another seat stays there
+pub record NumbersMoved (me n : ℕ) (m : Memory) (o : Owners) (m' : Memory) (o' : Owners) : Type 0 where
   pub owner : o'.number n ≡ o.number n
   pub bit : bit_of m'.numbers n ≡ bit_of m.numbers n
   pub term : m'.terms n ≡ m.terms n
-
--- where all numbers and their terms are as they were
-pub record NumbersStay (m : Memory) (o : Owners) (m' : Memory) (o' : Owners) : Type 0 where
-  pub numbers : (g : ℕ) → m'.numbers g ≡ m.numbers g
-  pub terms : (n : ℕ) → m'.terms n ≡ m.terms n
-  pub owner : (n : ℕ) → o'.number n ≡ o.number n
+  pub others : (k : ℕ) → bit_of m.numbers k ≡ 0 → o.number k ≢ me
+      → (o'.number k ≡ o.number k) × (bit_of m'.numbers k ≡ 0) × (m'.terms k ≡ m.terms k)
 
 -- where each number whose bit is 0 is after the step
 abbrev pub KeepsNumbers : (z : Shape) (me : ℕ) (v p : View) (m : Memory) (o : Owners) (m' : Memory) (o' : Owners) → Type 0
@@ -103,15 +106,8 @@ pub record NumbersOn (z : Shape) (me : ℕ) (v p : View) (m : Memory) (o : Owner
 pub record Moved (me : ℕ) (z : Shape) (c : Caller) (m : Memory) (t : Machine) (o : Owners) (es : List Entry) (m' : Memory) (o' : Owners) : Type 0 where
   pub allowed : MayMake (limit_of z) t c es
   pub marks : (k : ℕ) → k ≢ c.number → m'.marks k ≡ m.marks k
-  pub draw : m'.draw ≡ m.draw
-  -- nobody was drawn, and each stays where it is
-  pub who : (k : ℕ) → o'.who k ≡ o.who k
-  pub rank : (k : Caller) → o'.rank k ≡ o.rank k
-  pub seat : (k : Caller) → o'.seat k ≡ o.seat k
-  pub own : KeepsOwn me c.number m o m' o'
-  -- a number at another seat stays there
-  pub numbers : (n : ℕ) → bit_of m.numbers n ≡ 0 → o.number n ≢ me
-      → (o'.number n ≡ o.number n) × (bit_of m'.numbers n ≡ 0) × (m'.terms n ≡ m.terms n)
+  pub callers : CallersStay m o m' o'
+  pub numbers : NumbersMoved me c.number m o m' o'
   pub closers : (b : ArenaId) → t.life b ≡ Closes → o.closer b ≢ me → (o'.closer b ≡ o.closer b) × NoEnd es b
   pub sweepers : (b : ArenaId) → t.life b ≡ Over → m.sessions b.slot ≡ shut b → o.closer b ≢ me → (o'.closer b ≡ o.closer b) × StaysEnded m m' b
   pub holders : (s g : ℕ) → m.sessions s ≡ free g → bit_at m.bits s ≡ 0 → o.holder s ≢ me
@@ -139,19 +135,6 @@ pub record KeepsHand (z : Shape) (h : List Entry) (v : View) (m : Memory) (t : M
   pub not_own : (n : ℕ) → HasNumberIn n p.number → n ≢ p.caller.number
   -- a caller that isn't split off stays in the hand
   pub stays : (c : Caller) → v.number ≡ number_drawn c → p.number ≡ number_drawn c
-
--- what the caller's own view says after the step, but for what it has seen
-pub record Part (z : Shape) (h : List Entry) (v : View) (m : Memory) (t : Machine) (o : Owners) (j : ℕ) (p : View) : Type 0 where
-  pub inside : t.inside p.caller ≡ p.inside
-  pub mark : m.marks p.caller.number ≡ p.mark
-  pub closes : (c : Close) → In c p.closes → IsClosing t o j c
-  pub once : IsOnce (λ (c : Close). c.arena) p.closes
-  pub sweeps : (c : Sweep) → In c p.sweeps → IsSweeping z m t o j c
-  pub swept_once : IsOnce (λ (c : Sweep). c.arena) p.sweeps
-  pub hand : HasInHand z m.bits m.sessions o.holder j p.hand
-  pub took : IsTaker o.taker p.caller p.hand
-  pub pages : HasPages z m.maps m.cells o.berth j p.inside p.reads p.pages p.sweeps p.swept
-  pub number : KeepsHand z h v m t o j p
 
 -- where the close of each arena is after the step
 abbrev pub KeepsCloses : (me : ℕ) (v p : View) (t : Machine) (o : Owners) (t' : Machine) (o' : Owners) → Type 0

@@ -61,8 +61,8 @@ module _ (z : Shape) (me : ℕ) (v : View) (l : v.live ≡ true) where
           paged = refl;
           swept = refl;
           shows = shows_mark z r.valid ws r.memory r.shows n (Some a) (low z ws vs r me v at l);
-          world = world_mark z r.memory r.machine r.world v.caller (Some a) k.term (k.inside ∙ out);
-          inside = k.inside;
+          world = world_mark z r.memory r.machine r.world v.caller (Some a) k.term (k.work.inside ∙ out);
+          inside = k.work.inside;
           mark = put_here r.memory.marks n (Some a);
         }) in
         (g.0, g.1, record { gives = g.2; learns = tt });
@@ -88,7 +88,7 @@ module _ (z : Shape) (me : ℕ) (v : View) (l : v.live ≡ true) where
           (entry_of v.caller (Enter a) (enter_found o) ∷ []) none_noted
       go ws vs r at None s =
           let k = own z ws vs r me v at l in
-          let quiet = k.inside ∙ out in
+          let quiet = k.work.inside ∙ out in
           plain z ws vs r me v at l (place_at z (session a.slot)) (found ws) (record v { inside = None; reads = [] })
           (entry_of v.caller (Enter a) Closed ∷ []) none_noted no_draw r.memory (record {
             may = (refl, (known_now z ws vs r me v at l a known, use_it, quiet), enter_says r.machine a None s, tt);
@@ -119,11 +119,11 @@ module _ (z : Shape) (me : ℕ) (v : View) (l : v.live ≡ true) where
             shows = shows_same z r.valid ws r.memory r.shows (place_at z (session a.slot));
             world = r.world;
             inside = quiet;
-            mark = k.mark;
+            mark = k.work.mark;
           })
       go ws vs r at (Some n) s =
           let k = own z ws vs r me v at l in
-          let quiet = k.inside ∙ out in
+          let quiet = k.work.inside ∙ out in
           plain z ws vs r me v at l (place_at z (session a.slot)) (found ws) (record v { inside = Some a; reads = [] })
           (entry_of v.caller (Enter a) Fine ∷ []) none_noted no_draw r.memory (record {
             may = (refl, (known_now z ws vs r me v at l a known, use_it, quiet), enter_says r.machine a (Some n) s, tt);
@@ -152,9 +152,9 @@ module _ (z : Shape) (me : ℕ) (v : View) (l : v.live ≡ true) where
             paged = refl;
             swept = refl;
             shows = shows_same z r.valid ws r.memory r.shows (place_at z (session a.slot));
-            world = world_enter z r.memory r.machine r.world v.caller a (low z ws vs r me v at l) k.term (k.mark ∙ marked) s.0;
+            world = world_enter z r.memory r.machine r.world v.caller a (low z ws vs r me v at l) k.term (k.work.mark ∙ marked) s.0;
             inside = by_here r.machine.inside v.caller (Some a);
-            mark = k.mark;
+            mark = k.work.mark;
           })
 
   -- the mark goes down, and a caller that was inside leaves
@@ -195,8 +195,8 @@ module _ (z : Shape) (me : ℕ) (v : View) (l : v.live ≡ true) where
             paged = refl;
             swept = refl;
             shows = shows_mark z r.valid ws r.memory r.shows n None (low z ws vs r me v at l);
-            world = world_mark z r.memory r.machine r.world v.caller None k.term (k.inside ∙ e);
-            inside = k.inside ∙ e;
+            world = world_mark z r.memory r.machine r.world v.caller None k.term (k.work.inside ∙ e);
+            inside = k.work.inside ∙ e;
             mark = put_here r.memory.marks n None;
           })
       go ws vs r at (Some a) e =
@@ -204,7 +204,7 @@ module _ (z : Shape) (me : ℕ) (v : View) (l : v.live ≡ true) where
           let n : ℕ = v.caller.number in
           plain z ws vs r me v at l (place_at z (mark n)) 0 (record v { inside = None; mark = None }) (entry_of v.caller (Leave a) Fine ∷ []) none_noted no_draw
           (record r.memory { marks = put r.memory.marks n None }) (record {
-            may = (refl, k.inside ∙ e, refl, tt);
+            may = (refl, k.work.inside ∙ e, refl, tt);
             ends = λ b. ((λ h. h), tt);
             marks = put_else r.memory.marks n None;
             numbers = λ k. refl;

@@ -29,10 +29,10 @@ use Rattle.fm_rule_facts.proofs.Shown.{shows_same, shows_given}
 use Rattle.fm_rule_steps.proofs.Reading.{eqb_true}
 use Rattle.fm_rule_steps.proofs.Quiet.{looks_on}
 use Rattle.fm_rule_steps.proofs.Knowing.{own}
-use Rattle.fm_rule_steps.proofs.Staying.{stays_ended}
 use Rattle.fm_rule_steps.proofs.Plain.{Made}
 use Rattle.fm_base.proofs.Growing.{le-rounded_up, power_pos}
 use Rattle.fm_rule_steps.proofs.Reaching.{here, stands, fit, apart, act}
+use Rattle.fm_rule_facts.proofs.Leaving.{stays_ended}
 
 module _ (z : Shape) (me : ℕ) (v : View) (l : v.live ≡ true) (a : ArenaId) (ins : v.inside ≡ Some a) where
   -- every part that has a byte below the new count was read or mapped by the pass
@@ -55,7 +55,7 @@ module _ (z : Shape) (me : ℕ) (v : View) (l : v.live ≡ true) (a : ArenaId) (
         | inl given ↦ r.pages.covered a w (stands z me v l a ins ws vs r at) (let q = is_given in omega arith) none
         | inr new ↦ (
             let y = read fits w new low in
-            let h = (own z ws vs r me v at l).pages.read a ins (mapping_of (w / z.page_words) y.0) y.1 in
+            let h = (own z ws vs r me v at l).work.pages.read a ins (mapping_of (w / z.page_words) y.0) y.1 in
             let q : None ≡ Some y.0 = sym none ∙ h in absurd (cc))
       ]
 
@@ -89,7 +89,7 @@ module _ (z : Shape) (me : ℕ) (v : View) (l : v.live ≡ true) (a : ArenaId) (
           act z me v l a ins ws vs r at place count (Allocate a size align) (NoRoom count) r.memory.cells r.memory.given
           r.machine.word r.machine.given refl (here z me v l a ins ws vs r at, power) (answer false fits) (λ b n. n) tt refl
           (subst (λ (x : ℕ). Shows z (set ws place x) r.memory) e (shows_same z r.valid ws r.memory r.shows place)) r.world r.pages
-          (λ q j b n. refl) (λ b o f. stays_ended r.memory b f)
+          (λ q j b n. refl) (λ b o f. stays_ended b f)
         where
           answer : (b : Bool) → nat_le (round + size) (limit_of z) ≡ b
               → (if b then Given round else NoRoom count) ≡ allocate_reply (limit_of z) (r.machine.given a) size align
@@ -120,7 +120,7 @@ module _ (z : Shape) (me : ℕ) (v : View) (l : v.live ≡ true) (a : ArenaId) (
         let shape' : g.0.shape ≡ z = ap (λ (u : View). u.shape) g.2.is ∙ sh in
         let word : ℕ = either (x == count) (given_next (limit_of z) count size align) x in
         let its = own z (set ws place word) (set vs me g.0) rule me g.0 there live' in
-        let st : IsStanding (rule.machine.life a) = (rule.world.marked g.0.caller a (its.inside ∙ inside')).stands in
+        let st : IsStanding (rule.machine.life a) = (rule.world.marked g.0.caller a (its.work.inside ∙ inside')).stands in
         let is_x : word ≡ x = ap (λ (c : Bool). either c (given_next (limit_of z) count size align) x) (ne_eqb x count n) in
         let now : get_or (set ws place word) place 0 ≡ x =
         (λ j. get_or (set ws place (is_x j)) place 0) ∙ ap (λ (xs : List ℕ). get_or xs place 0) (set-get_or ws place 0) in

@@ -91,7 +91,7 @@ module _ (z : Shape) (me : ℕ) (v : View) (l : v.live ≡ true) (ws : List ℕ)
           pages = r.pages;
           keep = λ q j b. inr (refl, page_like q (r.owners.berth q) v v refl refl refl);
           shows = shows_same z r.valid ws r.memory r.shows bits_at;
-          has = mine.pages;
+          has = mine.work.pages;
         })
 
     claims_it : r.memory.page_bits g ≡ e → bit_at e bit ≡ 1 → Made z ws vs me v bits_at next (record v { pages = p ∷ v.pages; reads = v.reads }) [] fs
@@ -122,7 +122,7 @@ module _ (z : Shape) (me : ℕ) (v : View) (l : v.live ≡ true) (ws : List ℕ)
               (λ n b. inr (refl, page_by q (r.owners.berth q) v (record v { pages = p ∷ v.pages; reads = v.reads }) refl (λ i. inr i) refl));
           shows = shows_page_bits z r.valid ws r.memory r.shows g next (group_of_page z g bit low);
           has = record {
-            read = mine.pages.read;
+            read = mine.work.pages.read;
             claims = λ q. ⊎_elim
                 (λ (n : q ≡ p). ap (put r.owners.berth p (claimed me)) n ∙ put_here r.owners.berth p (claimed me))
                 (λ (i : In q v.pages). absurd (subst (In q) none i));
@@ -158,7 +158,7 @@ module _ (z : Shape) (me : ℕ) (v : View) (l : v.live ≡ true) (ws : List ℕ)
     bits' = put r.memory.page_bits (p / 64) word
 
     at_hand : r.owners.berth p ≡ claimed me
-    at_hand = mine.pages.claims p (subst (In p) (sym has) (inl refl))
+    at_hand = mine.work.pages.claims p (subst (In p) (sym has) (inl refl))
 
     low : p / 64 < page_groups z
     low = page_group z p (r.pages.claimed_is p me at_hand).0
@@ -191,7 +191,7 @@ module _ (z : Shape) (me : ℕ) (v : View) (l : v.live ≡ true) (ws : List ℕ)
               (λ n b. inr (refl, page_by q (r.owners.berth q) v p' refl (λ w. absurd (n (⊎_elim (λ e. e) (λ e. absurd e) (subst (In q) has w)))) refl));
           shows = shows_page_bits z r.valid ws r.memory r.shows (p / 64) word low;
           has = record {
-            read = mine.pages.read;
+            read = mine.work.pages.read;
             claims = λ q w. absurd w;
             lone = inl refl;
             sweep = swept_still z me v l ws vs r at r.memory.maps (put r.owners.berth p loose) (λ b o f k. refl)

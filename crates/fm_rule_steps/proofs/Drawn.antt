@@ -14,9 +14,10 @@ use Rattle.fm_base.specs.declared.caller.Caller.{Caller}
 use Rattle.fm_rule_facts.specs.Hands.{Number, no_number, number_taken, number_learnt, number_drawn, number_left, number_joined, HasNumberIn, most_draws}
 use Rattle.fm_rule_facts.proofs.Handing.{hand_view}
 use Rattle.fm_rule_facts.specs.Moves.{told}
-use Rattle.fm_rule_facts.proofs.Keeping.{gathered_all, seated_all, closing_as, sweeping_as}
+use Rattle.fm_rule_facts.proofs.Keeping.{gathered_all, seated_all, work_as}
 use Rattle.fm_rule_facts.proofs.Handles.{handles_still}
 use Rattle.fm_rule_steps.proofs.Knowing.{own}
+use Rattle.fm_rule_facts.proofs.Seating.{knows_as, owns_seats}
 
 module _ (z : Shape) (me : ℕ) (v : View) (l : v.live ≡ true) (lone : v.met ≡ []) (ws : List ℕ) (vs : List View) (r : Rule z ws vs)
     (at : get_elem? vs me ≡ some v) where
@@ -77,15 +78,7 @@ module _ (z : Shape) (me : ℕ) (v : View) (l : v.live ≡ true) (lone : v.met �
               owner = u.owner;
               bit = u.bit;
               mine = ap (made_by v.caller) (sym seen_is);
-              inside = u.inside;
-              mark = u.mark;
-              closes = λ c j. closing_as (u.closes c j);
-              once = u.once;
-              sweeps = λ c j. sweeping_as (u.sweeps c j);
-              swept_once = u.swept_once;
-              hand = u.hand;
-              took = u.took;
-              pages = u.pages;
+              work = work_as u.work;
               gathered = λ g j.
                   let y = (gathered_all z r.history r.memory r.machine r.owners me v u g j).1 in
                   record {
@@ -138,46 +131,10 @@ module _ (z : Shape) (me : ℕ) (v : View) (l : v.live ≡ true) (lone : v.met �
       }
 
       pub other_knows : Knows z r.history r.memory r.machine r.owners j u → Knows z r.history m' r.machine o' j u
-      other_knows k = record {
-        shape = k.shape;
-        begins = k.begins;
-        met = k.met;
-        owns = λ q.
-            let x = k.owns q in
-            let still : (xs : List Entry) (g : Gathered) → IsGathered r.history r.memory r.machine r.owners j u xs g
-            → IsGathered r.history m' r.machine o' j u xs g = (λ xs g y. record {
-              drawn = on g.caller y.drawn;
-              seated = same g.caller y.drawn ∙ y.seated;
-              apart = y.apart;
-              outside = y.outside;
-              quiet = y.quiet;
-            }) in
-            let alone : u.whole ≡ true → ⊥ = (λ e.
-            let g = x.whole e v.caller mine.drawn (λ p. ne (sym x.seated ∙ (ap r.owners.seat (sym p) ∙ mine.seated))) in
-            ne (sym (seated_all z r.history r.memory r.machine r.owners j u x g.0 g.1) ∙ (ap r.owners.seat g.2 ∙ mine.seated))) in
-            record {
-              drawn = on u.caller x.drawn;
-              term = x.term;
-              seated = same u.caller x.drawn ∙ x.seated;
-              owner = x.owner;
-              bit = x.bit;
-              mine = x.mine;
-              inside = x.inside;
-              mark = x.mark;
-              closes = λ c i. closing_as (x.closes c i);
-              once = x.once;
-              sweeps = λ c i. sweeping_as (x.sweeps c i);
-              swept_once = x.swept_once;
-              hand = x.hand;
-              took = x.took;
-              pages = x.pages;
-              gathered = λ g i. still u.seen g (x.gathered g i);
-              coming = λ y n g i. still y.seen g (x.coming y n g i);
-              one_each = x.one_each;
-              number = hand_on u.number x.number;
-              not_own = x.not_own;
-              whole = λ e. absurd (alone e);
-              handles = x.handles;
-              seen_all = λ e. absurd (alone e);
-            };
-      }
+      other_knows = knows_as (λ x. owns_seats on (λ c b e. same c b ∙ e) (λ n e. e) x (λ e. absurd (alone x e)) (hand_on u.number x.number))
+        where
+          -- the view isn't whole, as this pass's caller is at another seat
+          alone : Owns z r.history r.memory r.machine r.owners j u → u.whole ≡ true → ⊥
+          alone x e =
+              let g = x.whole e v.caller mine.drawn (λ p. ne (sym x.seated ∙ (ap r.owners.seat (sym p) ∙ mine.seated))) in
+              ne (sym (seated_all z r.history r.memory r.machine r.owners j u x g.0 g.1) ∙ (ap r.owners.seat g.2 ∙ mine.seated))

@@ -30,6 +30,7 @@ use Rattle.fm_rule_facts.proofs.Gone.{founded_bare}
 use Rattle.fm_rule_facts.proofs.Founds.{counted_bare}
 use Rattle.fm_rule_facts.proofs.Sounding.{sound_of}
 use Rattle.fm_rule_facts.proofs.Gripping.{none_held, none_counted}
+use Rattle.fm_rule_facts.proofs.Seating.{no_work}
 
 -- ---- the words
 
@@ -144,15 +145,7 @@ first_knows z pages f valid bits = record {
     owner = refl;
     bit = bits.taken;
     mine = refl;
-    inside = refl;
-    mark = refl;
-    closes = λ c i. absurd i;
-    once = tt;
-    sweeps = λ c i. absurd i;
-    swept_once = tt;
-    hand = tt;
-    took = tt;
-    pages = record { read = λ a e x i. absurd i; claims = λ q i. absurd i; lone = inl refl; sweep = tt };
+    work = no_work refl refl;
     handles = λ a k. refl;
     gathered = λ g i. absurd i;
     coming = λ x i. absurd i;

@@ -13,7 +13,6 @@ use Rattle.fm_base.specs.declared.caller.Caller.{Caller}
 use Rattle.fm_rule_facts.specs.Hands.{HasSlot, Number, no_number, number_joined, number_of_joined, HasNumberIn, last_term}
 use Rattle.fm_rule_facts.specs.Facts.{WantsNumber, IsLooked}
 use Rattle.fm_rule_facts.proofs.Looking.{looked_bare, looked_gather, wants_in}
-use Rattle.fm_rule_facts.proofs.Handing.{hand_owners, hand_owner}
 use Rattle.fm_rule_steps.proofs.Reading.{eqb_true, eqb_false}
 use Rattle.fm_rule_facts.specs.Holds.{holds_of}
 use Rattle.fm_rule_facts.specs.Splits.{gather, as_gathered, nothing_seen, IsAtRest}
@@ -22,12 +21,13 @@ use Rattle.fm_rule_facts.specs.Gone.{IsFounded}
 use Rattle.fm_rule_facts.proofs.Ruling.{page_like}
 use Rattle.fm_rule_facts.proofs.Gone.{founded_bare, founded_gather}
 use Rattle.fm_rule_facts.proofs.Founds.{counted_bare, counted_gather}
-use Rattle.fm_rule_facts.proofs.Keeping.{set_there, stays_somewhere, gathered_all, closing_as, sweeping_as}
+use Rattle.fm_rule_facts.proofs.Keeping.{set_there, stays_somewhere, gathered_all, work_as}
 use Rattle.fm_rule_facts.proofs.Counting.{between}
 use Rattle.fm_rule_facts.proofs.Summing.{total-set}
 use Rattle.fm_rule_facts.proofs.Gripping.{none_held}
 use Rattle.fm_rule_steps.proofs.Joining.{all_w, comes_both, caller_on, caller_comes, number_on, draw_on, draw_comes, no_page}
 use Rattle.fm_rule_steps.proofs.Splitting.{with_owners, views_set, there_before}
+use Rattle.fm_rule_facts.proofs.Seating.{knows_seats}
 
 module _ (z : Shape) (ws : List ℕ) (vs : List View) (r : Rule z ws vs) (id : ℕ) (v : View) (other : ℕ) (w : View) (at : get_elem? vs id ≡ some v)
     (ne : ¬ (other ≡ id)) (at' : get_elem? (set vs id (gather v w)) other ≡ some w) (l : v.live ≡ true) (free : v.number ≡ no_number)
@@ -127,7 +127,7 @@ module _ (z : Shape) (ws : List ℕ) (vs : List View) (r : Rule z ws vs) (id : �
       low = (r.terms c kw.drawn).0;
       owner = to_here (r.owners.number c.number) kw.owner;
       bit = kw.bit;
-      mark = kw.mark ∙ rests.mark;
+      mark = kw.work.mark ∙ rests.mark;
     };
     term = kw.term;
     left = (let x = (r.terms c kw.drawn).1 in let y = r.last c.number in let n = eqb_false c.term last_term e in omega arith);
@@ -148,7 +148,7 @@ module _ (z : Shape) (ws : List ℕ) (vs : List View) (r : Rule z ws vs) (id : �
       let same : c ≡ record { number = n; term = r.memory.terms n } =
       λ i. record { number = sym q i; term = (kw.term ∙ ap r.memory.terms (sym q)) i } in
       inr (record {
-        mark = ap r.memory.marks q ∙ (kw.mark ∙ rests.mark);
+        mark = ap r.memory.marks q ∙ (kw.work.mark ∙ rests.mark);
         last = last;
         drawn = subst (WasDrawn r.memory.draw r.owners.who r.owners.rank) same kw.drawn;
       })
@@ -195,7 +195,7 @@ module _ (z : Shape) (ws : List ℕ) (vs : List View) (r : Rule z ws vs) (id : �
     drawn = kw.drawn;
     seated = to_here (r.owners.seat w.caller) kw.seated;
     apart = unlike v.caller w.caller kv.seated kw.seated;
-    outside = kw.inside ∙ rests.inside;
+    outside = kw.work.inside ∙ rests.inside;
     quiet = kw.mine;
   })
   came g (inr i) =
@@ -233,15 +233,7 @@ module _ (z : Shape) (ws : List ℕ) (vs : List View) (r : Rule z ws vs) (id : �
           owner = far id (r.owners.number v.caller.number) id_far kv.owner;
           bit = kv.bit;
           mine = kv.mine;
-          inside = kv.inside;
-          mark = kv.mark;
-          closes = λ c i. closing_as (kv.closes c i);
-          once = kv.once;
-          sweeps = λ c i. sweeping_as (kv.sweeps c i);
-          swept_once = kv.swept_once;
-          hand = kv.hand;
-          took = kv.took;
-          pages = kv.pages;
+          work = work_as kv.work;
           gathered = λ g i. at_both v.seen g (kv.gathered g i);
           coming = λ x. ⊎_elim
               (λ (p : x ≡ record { seen = w.seen; gathered = comes }) g i.
@@ -259,53 +251,7 @@ module _ (z : Shape) (ws : List ℕ) (vs : List View) (r : Rule z ws vs) (id : �
 
   -- another view
   other_knows : (j : ℕ) (u : View) → j ≢ other → Knows z r.history r.memory r.machine r.owners j u → Knows z r.history r.memory r.machine o' j u
-  other_knows j u m k = record {
-    shape = k.shape;
-    begins = k.begins;
-    met = k.met;
-    owns = λ q.
-        let x = k.owns q in
-        let still : (xs : List Entry) (g : Gathered) → IsGathered r.history r.memory r.machine r.owners j u xs g
-        → IsGathered r.history r.memory r.machine o' j u xs g = (λ xs g y. record {
-          drawn = y.drawn;
-          seated = far j (r.owners.seat g.caller) m y.seated;
-          apart = y.apart;
-          outside = y.outside;
-          quiet = y.quiet;
-        }) in
-        record {
-          drawn = x.drawn;
-          term = x.term;
-          seated = far j (r.owners.seat u.caller) m x.seated;
-          owner = far j (r.owners.number u.caller.number) m x.owner;
-          bit = x.bit;
-          mine = x.mine;
-          inside = x.inside;
-          mark = x.mark;
-          closes = λ c i. closing_as (x.closes c i);
-          once = x.once;
-          sweeps = λ c i. sweeping_as (x.sweeps c i);
-          swept_once = x.swept_once;
-          hand = x.hand;
-          took = x.took;
-          pages = x.pages;
-          gathered = λ g i. still u.seen g (x.gathered g i);
-          coming = λ y n g i. still y.seen g (x.coming y n g i);
-          one_each = x.one_each;
-          number = hand_owners z r.history r.memory r.machine r.owners j u f g' u.number
-              (λ n i.
-              let e = (hand_owner z r.history r.memory r.machine r.owners j u u.number n i x.number).owner in
-              to_else (r.owners.number n) (λ q. m (sym e ∙ q)))
-              (λ d e.
-              let y = (subst (HasNumberInHand z r.history r.memory r.machine r.owners j u) e x.number).seated in
-              to_else (r.owners.seat d) (λ q. m (sym y ∙ q)))
-              x.number;
-          not_own = x.not_own;
-          whole = x.whole;
-          handles = x.handles;
-          seen_all = x.seen_all;
-        };
-  }
+  other_knows j u m = knows_seats (λ c. far j (r.owners.seat c) m) (λ n. far j (r.owners.number n) m)
 
   abbrev Founded : ℕ → View → Type 0
   Founded j u = IsFounded z r.history r.memory r.owners.taker r.machine.life u

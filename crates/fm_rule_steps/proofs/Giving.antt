@@ -8,7 +8,7 @@ use Rattle.std.specs.Int.{bit_at}
 use Rattle.std.proofs.lemmas.Nat.Bits.{bit_at-lt, bit_at_or, bit_at-pow_same, bit_at-pow_other}
 use Rattle.fm_words.specs.declared.shape.Shape.{Shape}
 use Rattle.fm_words.specs.Places.{at as place_at, slot_bits as bits_place}
-use Rattle.fm_rule_facts.proofs.Keeping.{sweeping_as}
+use Rattle.fm_rule_facts.proofs.Keeping.{work_with}
 use Rattle.fm_rule_facts.specs.declared.step.Step.TheVariants.{GivesSlot}
 use Rattle.fm_rule_facts.specs.Hands.{nothing, retired, HasSlot, IsTaker}
 use Rattle.fm_rule_facts.specs.Views.{View}
@@ -22,6 +22,7 @@ use Rattle.fm_rule_facts.proofs.Ruling.{page_like, keeps}
 use Rattle.fm_rule_steps.proofs.Knowing.{own}
 use Rattle.fm_rule_steps.proofs.Staying.{same_but, sweeps_still, numbers_stay, number_stays}
 use Rattle.fm_rule_steps.proofs.Plain.{Made}
+use Rattle.fm_rule_facts.proofs.Leaving.{bits_moved}
 
 module _ (z : Shape) (me : ℕ) (v : View) (l : v.live ≡ true) (s : ℕ) (hand : v.hand ≡ retired s) (ws : List ℕ) (vs : List View) (r : Rule z ws vs)
     (at : get_elem? vs me ≡ some v) where
@@ -35,11 +36,11 @@ module _ (z : Shape) (me : ℕ) (v : View) (l : v.live ≡ true) (s : ℕ) (hand
   word = bit_or (get_or ws i 0) (2 ^ s)
 
   in_its : HasInHand z r.memory.bits r.memory.sessions r.owners.holder me (retired s)
-  in_its = subst (HasInHand z r.memory.bits r.memory.sessions r.owners.holder me) hand owned.hand
+  in_its = subst (HasInHand z r.memory.bits r.memory.sessions r.owners.holder me) hand owned.work.hand
 
   -- it isn't for an arena that is opened next
   untaken : r.owners.taker s ≡ None
-  untaken = subst (IsTaker r.owners.taker v.caller) hand owned.took
+  untaken = subst (IsTaker r.owners.taker v.caller) hand owned.work.took
 
   is_found : get_or ws i 0 ≡ r.memory.bits
   is_found = r.shows.slot_bits
@@ -61,23 +62,12 @@ module _ (z : Shape) (me : ℕ) (v : View) (l : v.live ≡ true) (s : ℕ) (hand
 
   gives_back : Made z ws vs me v i word given_part [] none_noted
   gives_back =
-      let d : Moved me z v.caller r.memory r.machine r.owners [] bits_now r.owners = record {
-        allowed = tt;
-        marks = λ k h. refl;
-        draw = refl;
-        who = λ k. refl;
-        rank = λ k. refl;
-        seat = λ k. refl;
-        own = record { owner = refl; bit = refl; term = refl };
-        numbers = λ n b f. (refl, b, refl);
-        closers = λ b q h. (refl, tt);
-        sweepers = λ b q h n. (refl, record { session = h; maps = λ i. refl; given = refl });
-        holders = λ k g q b h. (refl, q, others k (λ e. h (ap r.owners.holder e ∙ in_its.1.owner)) ∙ b, refl);
-        taken = λ k c x. dite (ℕ_discrete k s)
-            (λ e. absurd (let q : None ≡ Some c = sym untaken ∙ (ap r.owners.taker (sym e) ∙ x.taker) in cc))
-            (λ n. inl (record { taker = x.taker; generation = x.generation; session = x.session; left = x.left; bit = others k n ∙ x.bit }));
-        pages = record { others = λ q j b h. (refl, λ w. refl); stay = λ b i q st e. e };
-      } in
+      let d : Moved me z v.caller r.memory r.machine r.owners [] bits_now r.owners =
+      bits_moved
+      (λ k g q b h. (refl, q, others k (λ e. h (ap r.owners.holder e ∙ in_its.1.owner)) ∙ b, refl))
+      (λ k c x. dite (ℕ_discrete k s)
+      (λ e. absurd (let q : None ≡ Some c = sym untaken ∙ (ap r.owners.taker (sym e) ∙ x.taker) in cc))
+      (λ n. inl (record { taker = x.taker; generation = x.generation; session = x.session; left = x.left; bit = others k n ∙ x.bit }))) in
       let same : Same v given_part = same_but in
       keeps z ws (set ws i word) vs r me v given_part [] none_noted bits_now r.owners at l d same no_draw tt r.pages
       (λ b h. inr (h, refl, (λ y. y)))
@@ -90,18 +80,8 @@ module _ (z : Shape) (me : ℕ) (v : View) (l : v.live ≡ true) (s : ℕ) (hand
       (numbers_stay z ws vs r me v at l [] bits_now r.owners given_part d same refl (λ k. refl) (λ k. refl) (λ k. refl))
       (shows_bits z r.valid ws r.memory r.shows word)
       (world_give z r.memory r.machine r.world word s (in_its.0 + 1) in_its.1.slot in_its.1.session in_its.1.left others)
-      (record {
-        inside = owned.inside;
-        mark = owned.mark;
-        closes = owned.closes;
-        once = owned.once;
-        sweeps = λ c j. sweeping_as (owned.sweeps c j);
-        swept_once = owned.swept_once;
-        hand = tt;
-        took = tt;
-        pages = owned.pages;
-        number = number_stays z ws vs r me v at l [] bits_now r.owners given_part d same refl (λ k. refl) (λ k. refl) (λ k. refl);
-      })
+      (work_with owned.work tt tt)
+      (number_stays z ws vs r me v at l [] bits_now r.owners given_part d same refl (λ k. refl) (λ k. refl) (λ k. refl))
 
 pub give_steps : (z : Shape) (me : ℕ) (v : View) (s : ℕ) → v.live ≡ true → v.hand ≡ retired s
     → MayStep z (GivesSlot s) me v (place_at z bits_place) (λ n. bit_or n (2 ^ s))

@@ -20,15 +20,15 @@ use Rattle.fm_rule_facts.specs.Facts.{Owners, HasDraw, HasClose, HasSweep, Keeps
 use Rattle.fm_rule_facts.specs.Hands.{number_taken, number_learnt, number_drawn, HasNumberIn}
 use Rattle.fm_rule_facts.proofs.Looking.{looked_bare}
 use Rattle.fm_rule_facts.proofs.Callers.{same_caller}
-use Rattle.fm_rule_facts.proofs.Handing.{hand_owners, hand_owner}
 use Rattle.fm_rule_facts.specs.Gone.{IsFounded}
 use Rattle.fm_rule_facts.proofs.Ruling.{page_like}
 use Rattle.fm_rule_facts.proofs.Gone.{founded_bare}
 use Rattle.fm_rule_facts.proofs.Founds.{counted_bare}
-use Rattle.fm_rule_facts.proofs.Keeping.{stays_somewhere, gathered_all, in_left, in_right, closing_as, sweeping_as}
+use Rattle.fm_rule_facts.proofs.Keeping.{stays_somewhere, gathered_all, in_left, in_right, work_as}
 use Rattle.fm_rule_facts.proofs.Summing.{total-set, total-snoc}
 use Rattle.fm_rule_facts.proofs.Gripping.{none_held}
 use Rattle.fm_rule_steps.proofs.Splitting.{with_owners, views_set, views_on, on_longer}
+use Rattle.fm_rule_facts.proofs.Seating.{knows_seats, no_work}
 
 at_last : {A : Type 0} (l : List A) (a : A) → get_elem? (l ++ a ∷ []) (length l) ≡ some a
 at_last [] a = refl
@@ -136,15 +136,7 @@ module _ (z : Shape) (ws : List ℕ) (vs : List View) (r : Rule z ws vs) (id : �
           owner = put_else r.owners.number d.number last v.caller.number (λ e. not_own (sym e)) ∙ u.owner;
           bit = u.bit;
           mine = u.mine;
-          inside = u.inside;
-          mark = u.mark;
-          closes = λ c i. closing_as (u.closes c i);
-          once = u.once;
-          sweeps = λ c i. sweeping_as (u.sweeps c i);
-          swept_once = u.swept_once;
-          hand = u.hand;
-          took = u.took;
-          pages = u.pages;
+          work = work_as u.work;
           gathered = λ k i. at_left v.seen k (still id v its.ungathered v.seen k (in_left k v.gathered (brought v.met) i) (u.gathered k i));
           coming = λ x j k i.
               at_left x.seen k (still id v its.ungathered x.seen k (in_right k v.gathered (brought v.met) (brought_in k x v.met j i)) (u.coming x j k i));
@@ -175,15 +167,7 @@ module _ (z : Shape) (ws : List ℕ) (vs : List View) (r : Rule z ws vs) (id : �
       owner = ap (λ (c : Caller). g c.number) caller_is ∙ put_here r.owners.number d.number last;
       bit = ap (λ (c : Caller). bit_of r.memory.numbers c.number) caller_is ∙ its.loose.bit;
       mine = ap (λ (c : Caller). made_by c r.history) caller_is ∙ (its.silent.calls ∙ sym right_silent);
-      inside = ap r.machine.inside caller_is ∙ its.silent.outside;
-      mark = ap (λ (c : Caller). r.memory.marks c.number) caller_is ∙ its.loose.mark;
-      closes = λ c i. absurd i;
-      once = tt;
-      sweeps = λ c i. absurd i;
-      swept_once = tt;
-      hand = tt;
-      took = tt;
-      pages = record { read = λ a e x i. absurd i; claims = λ q i. absurd i; lone = inl refl; sweep = tt };
+      work = no_work (ap r.machine.inside caller_is ∙ its.silent.outside) (ap (λ (c : Caller). r.memory.marks c.number) caller_is ∙ its.loose.mark);
       gathered = λ k i. absurd i;
       coming = λ x i. absurd i;
       one_each = tt;
@@ -197,45 +181,8 @@ module _ (z : Shape) (ws : List ℕ) (vs : List View) (r : Rule z ws vs) (id : �
 
   -- another view
   other_knows : (j : ℕ) (u : View) → j ≢ id → Knows z r.history r.memory r.machine r.owners j u → Knows z r.history r.memory r.machine o' j u
-  other_knows j u far k = record {
-    shape = k.shape;
-    begins = k.begins;
-    met = k.met;
-    owns = λ q.
-        let x = k.owns q in
-        let away : (c : Gathered) → In c (all_gathered u) → c.caller ≢ d = (λ c i.
-        elsewhere j c.caller far (gathered_all z r.history r.memory r.machine r.owners j u x c i).1.seated) in
-        record {
-          drawn = x.drawn;
-          term = x.term;
-          seated = by_else r.owners.seat d last u.caller (elsewhere j u.caller far x.seated) ∙ x.seated;
-          owner = put_else r.owners.number d.number last u.caller.number (apart_from j u.caller.number far x.owner) ∙ x.owner;
-          bit = x.bit;
-          mine = x.mine;
-          inside = x.inside;
-          mark = x.mark;
-          closes = λ c i. closing_as (x.closes c i);
-          once = x.once;
-          sweeps = λ c i. sweeping_as (x.sweeps c i);
-          swept_once = x.swept_once;
-          hand = x.hand;
-          took = x.took;
-          pages = x.pages;
-          gathered = λ c i. still j u away u.seen c (in_left c u.gathered (brought u.met) i) (x.gathered c i);
-          coming = λ y n c i. still j u away y.seen c (in_right c u.gathered (brought u.met) (brought_in c y u.met n i)) (x.coming y n c i);
-          one_each = x.one_each;
-          number = hand_owners z r.history r.memory r.machine r.owners j u f g u.number
-              (λ n i. put_else r.owners.number d.number last n
-              (apart_from j n far (hand_owner z r.history r.memory r.machine r.owners j u u.number n i x.number).owner))
-              (λ c e. by_else r.owners.seat d last c (elsewhere j c far
-              (subst (HasNumberInHand z r.history r.memory r.machine r.owners j u) e x.number).seated))
-              x.number;
-          not_own = x.not_own;
-          whole = x.whole;
-          handles = x.handles;
-          seen_all = x.seen_all;
-        };
-  }
+  other_knows j u away = knows_seats
+      (λ c e. by_else r.owners.seat d last c (elsewhere j c away e) ∙ e) (λ n e. put_else r.owners.number d.number last n (apart_from j n away e) ∙ e)
 
   unwanted : (n : ℕ) → ¬ (WantsNumber n v)
   unwanted n h = ⊎_elim (λ (e : v.number ≡ number_taken n). let q : number_taken n ≡ number_drawn d = sym e ∙ drawn in absurd (cc))

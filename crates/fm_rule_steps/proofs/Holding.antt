@@ -130,8 +130,8 @@ module _ (z : Shape) (me : ℕ) (v : View) (l : v.live ≡ true) (a : ArenaId) w
             swept = refl;
             shows = shown (found + 1) (h + 1) al (ap (λ (x : ℕ). x + 1) (is_word al) ∙ more_word a h);
             world = world_count z r.memory r.machine r.world a (h + 1) al below;
-            inside = mine.inside;
-            mark = mine.mark;
+            inside = mine.work.inside;
+            mark = mine.work.mark;
           })
 
       -- the expected word was found
@@ -214,8 +214,8 @@ module _ (z : Shape) (me : ℕ) (v : View) (l : v.live ≡ true) (a : ArenaId) w
           swept = refl;
           shows = shown x (h - 1) al (ap (λ (y : ℕ). (y + (2 ^ 64 - 1)) % 2 ^ 64) (is_word al) ∙ less_word a h low owner held few);
           world = world_count z r.memory r.machine r.world a (h - 1) al (omega arith);
-          inside = mine.inside;
-          mark = mine.mark;
+          inside = mine.work.inside;
+          mark = mine.work.mark;
         })
 
   -- an arena that the pass holds is alive

@@ -65,5 +65,5 @@ module _ (v w : View) (rests : IsAtRest w) where
     no_page q (mapped k i) h = h
     no_page q (unmapped s a i) h =
         let y : IsWiped z m.maps m.cells o.berth j w.sweeps a i q h.1.0 =
-        subst (HasSwept z m.maps m.cells o.berth j w.sweeps) h.1.1 k.pages.sweep in
+        subst (HasSwept z m.maps m.cells o.berth j w.sweeps) h.1.1 k.work.pages.sweep in
         subst (In y.next.sweep) rests.sweeps y.next.there

@@ -53,7 +53,7 @@ module _ (z : Shape) (me : ℕ) (v : View) (l : v.live ≡ true) (ws : List ℕ)
 
   module _ (a : ArenaId) (ins : v.inside ≡ Some a) where
     here : r.machine.inside v.caller ≡ Some a
-    here = mine.inside ∙ ins
+    here = mine.work.inside ∙ ins
 
     stands : IsStanding (r.machine.life a)
     stands = (r.world.marked v.caller a here).stands
@@ -89,7 +89,7 @@ module _ (z : Shape) (me : ℕ) (v : View) (l : v.live ≡ true) (ws : List ℕ)
           let same : a ≡ b = (let w : Some a ≡ Some b = sym ins ∙ h in cc) in
           (λ j. maps (sym same j).slot (q j).part) ∙ (e ∙ ap (λ (y : Mapping). Some y.page) (sym q))
       knows ps maps berth p e stay b h x (inr j) = stay b x.part x.page
-          (subst (λ (c : ArenaId). IsStanding (r.machine.life c)) (let w : Some a ≡ Some b = sym ins ∙ h in cc) stands) (mine.pages.read b h x j)
+          (subst (λ (c : ArenaId). IsStanding (r.machine.life c)) (let w : Some a ≡ Some b = sym ins ∙ h in cc) stands) (mine.work.pages.read b h x j)
 
       -- another one was there
       map_loses : (fs : ℕ → List Find) → NoDraw fs → seen ≢ 0
@@ -112,9 +112,9 @@ module _ (z : Shape) (me : ℕ) (v : View) (l : v.live ≡ true) (ws : List ℕ)
             shows = shows_same z r.valid ws r.memory r.shows map_at;
             has = record {
               read = knows v.pages r.memory.maps r.owners.berth (seen - 1) (says_some n) (λ b k q st f. f);
-              claims = mine.pages.claims;
-              lone = mine.pages.lone;
-              sweep = mine.pages.sweep;
+              claims = mine.work.pages.claims;
+              lone = mine.work.pages.lone;
+              sweep = mine.work.pages.sweep;
             };
           })
 
@@ -124,7 +124,7 @@ module _ (z : Shape) (me : ℕ) (v : View) (l : v.live ≡ true) (ws : List ℕ)
           → Made z ws vs me v map_at (map_word p) (record v { pages = []; reads = mapping_of i p ∷ v.reads }) (entry_of v.caller (Lend p a i) Fine ∷ []) fs
       map_wins p fs nd has zero_word =
           let none = says_none zero_word in
-          let at_hand : r.owners.berth p ≡ claimed me = mine.pages.claims p (subst (In p) (sym has) (inl refl)) in
+          let at_hand : r.owners.berth p ≡ claimed me = mine.work.pages.claims p (subst (In p) (sym has) (inl refl)) in
           let maps' : ℕ → ℕ → Option ℕ = put r.memory.maps a.slot (put (r.memory.maps a.slot) i (Some p)) in
           let berth' : ℕ → Berth = put r.owners.berth p (mapped a.slot i) in
           let p' : View = record v { pages = []; reads = mapping_of i p ∷ v.reads } in
@@ -195,7 +195,7 @@ module _ (z : Shape) (me : ℕ) (v : View) (l : v.live ≡ true) (ws : List ℕ)
             pages = r.pages;
             keep = λ q j b. inr (refl, page_like q (r.owners.berth q) v v refl refl refl);
             shows = shows_same z r.valid ws r.memory r.shows map_at;
-            has = mine.pages;
+            has = mine.work.pages;
           })
 
       no_draws : (p : ℕ) → NoDraw (note_of (Mapped a i p) seen v)
@@ -233,7 +233,7 @@ module _ (z : Shape) (me : ℕ) (v : View) (l : v.live ≡ true) (ws : List ℕ)
             let live' : g.0.live ≡ true = ap (λ (u : View). u.live) g.2.is ∙ l in
             let inside' : g.0.inside ≡ Some a = ap (λ (u : View). u.inside) g.2.is ∙ ins in
             let its = own z (set ws map_at seen) (set vs me g.0) rule me g.0 there live' in
-            let st = (rule.world.marked g.0.caller a (its.inside ∙ inside')).stands in
+            let st = (rule.world.marked g.0.caller a (its.work.inside ∙ inside')).stands in
             let word : get_or (set ws map_at seen) map_at 0 ≡ own_map (rule.memory.maps a.slot i) =
             rule.shows.maps a.slot i (rule.world.sessions.fits a (standing_known (rule.machine.life a) st)).slot low in
             let same : get_or (set ws map_at seen) map_at 0 ≡ 0 = ap (λ (xs : List ℕ). get_or xs map_at 0) (set-get_or ws map_at 0) ∙ e in

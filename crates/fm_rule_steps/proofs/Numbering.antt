@@ -17,18 +17,19 @@ use Rattle.fm_rule_facts.specs.Hands.{Number, no_number, number_taken, number_le
 use Rattle.fm_rule_facts.specs.Views.{View}
 use Rattle.fm_rule_facts.specs.Steps.{part, entries, noted, none_noted, number_at}
 use Rattle.fm_rule_facts.specs.Facts.{Memory, Owners, WasDrawn, bit_of, next_of, IsUndrawn, IsMarked, IsJoined, KeepsNumber, HasNumberInHand, Shows, World, Owns, Rule}
-use Rattle.fm_rule_facts.specs.Moves.{Moved, Same, KeepsOwn, NumbersOn, KeepsHand, MayStep, MayStore}
+use Rattle.fm_rule_facts.specs.Moves.{Moved, Same, NumbersOn, KeepsHand, MayStep, MayStore, NumbersMoved}
 use Rattle.fm_rule_facts.proofs.Groups.{bit_here, bit_else, or_here, or_else}
 use Rattle.fm_rule_facts.proofs.Looking.{wants_in}
 use Rattle.fm_rule_facts.proofs.Gone.{NoSlots, none_founded}
 use Rattle.fm_rule_facts.proofs.Founds.{NoneDrawn}
-use Rattle.fm_rule_facts.proofs.Keeping.{gathered_all, closing_as, sweeping_as}
+use Rattle.fm_rule_facts.proofs.Keeping.{gathered_all, work_as}
 use Rattle.fm_rule_facts.proofs.Sessions.{caller_is}
 use Rattle.fm_rule_facts.proofs.Shown.{shows_same, shows_numbers, shows_term}
 use Rattle.fm_rule_facts.proofs.Ruling.{AreLooked, page_like, keeps_with}
 use Rattle.fm_rule_steps.proofs.Knowing.{own}
 use Rattle.fm_rule_steps.proofs.Staying.{slots_still, sweeps_still}
 use Rattle.fm_rule_steps.proofs.Plain.{Made}
+use Rattle.fm_rule_facts.proofs.Leaving.{callers_stay, numbers_left, pages_left}
 
 module _ (z : Shape) (me : ℕ) (v : View) (l : v.live ≡ true) (ws : List ℕ) (vs : List View) (r : Rule z ws vs) (at : get_elem? vs me ≡ some v) where
   abbrev mine : Owns z r.history r.memory r.machine r.owners me v
@@ -51,27 +52,21 @@ module _ (z : Shape) (me : ℕ) (v : View) (l : v.live ≡ true) (ws : List ℕ)
 
     -- the rule after a step that changes numbers, terms and which number is in the hand
     pub turns : (i y : ℕ) (fs : ℕ → List Find) → NoneDrawn fs → NoSlots fs
-        → AreLooked r v fs → KeepsOwn me v.caller.number r.memory r.owners m' o'
-        → ((n : ℕ) → bit_of r.memory.numbers n ≡ 0 → r.owners.number n ≢ me
-        → (number' n ≡ r.owners.number n) × (bit_of numbers' n ≡ 0) × (terms' n ≡ r.memory.terms n))
+        → AreLooked r v fs → NumbersMoved me v.caller.number r.memory r.owners m' o'
         → NumbersOn z me v p r.memory r.owners m' o' → KeepsHand z (r.history ++ []) v m' r.machine o' me p
         → ((c : Caller) (a : ArenaId) → r.machine.inside c ≡ Some a → IsMarked z r.memory.marks terms' r.machine.life c a) → Shows z (set ws i y) m'
         → Made z ws vs me v i y p [] fs
-    turns i y fs nd slots looks own_on frame on hand marked shows =
+    turns i y fs nd slots looks moved on hand marked shows =
         let d : Moved me z v.caller r.memory r.machine r.owners [] m' o' = record {
           allowed = tt;
           marks = λ k h. refl;
-          draw = refl;
-          who = λ k. refl;
-          rank = λ k. refl;
-          seat = λ k. refl;
-          own = own_on;
-          numbers = frame;
+          callers = callers_stay;
+          numbers = moved;
           closers = λ b q h. (refl, tt);
           sweepers = λ b q h n. (refl, record { session = h; maps = λ i. refl; given = refl });
           holders = λ s g q b h. (refl, q, b, refl);
           taken = λ s k y. inl y;
-          pages = record { others = λ q j b h. (refl, λ w. refl); stay = λ b k q st e. e };
+          pages = pages_left;
         } in
         let world : World z m' r.machine = record {
           marked = marked;
@@ -87,18 +82,8 @@ module _ (z : Shape) (me : ℕ) (v : View) (l : v.live ≡ true) (ws : List ℕ)
         (slots_still z me v p r.memory r.owners m' o' same refl (λ s. refl) (λ s g f. f) refl)
         (λ q j b. inr (refl, page_like q (r.owners.berth q) v p refl refl refl))
         (λ b. refl) on shows world
-        (record {
-          inside = mine.inside;
-          mark = mine.mark;
-          closes = λ c j. closing_as (mine.closes c j);
-          once = mine.once;
-          sweeps = λ c j. sweeping_as (mine.sweeps c j);
-          swept_once = mine.swept_once;
-          hand = mine.hand;
-          took = mine.took;
-          pages = mine.pages;
-          number = hand;
-        })
+        (work_as mine.work)
+        hand
 
   drawn_none : NoneDrawn none_noted
   drawn_none k f i = absurd i
@@ -118,8 +103,7 @@ module _ (z : Shape) (me : ℕ) (v : View) (l : v.live ≡ true) (ws : List ℕ)
       let x : ℕ = get_or ws i 0 in
       let word : x ≡ r.memory.terms n = ap (λ (j : ℕ). get_or ws j 0) is ∙ r.shows.terms n h.loose.low in
       turns r.memory.numbers r.memory.terms r.owners.number (number_learnt n x) i x none_noted drawn_none slots_none looks_none
-      (record { owner = refl; bit = refl; term = refl })
-      (λ k b f. (refl, b, refl))
+      numbers_left
       (record {
         kept = λ k low b. inr (inl (
           b,
@@ -162,8 +146,12 @@ module _ (z : Shape) (me : ℕ) (v : View) (l : v.live ≡ true) (ws : List ℕ)
       let outside : r.machine.inside c ≡ None = subst (λ (x : Caller). r.machine.inside x ≡ None) h.gathered.2
       (gathered_all z r.history r.memory r.machine r.owners me v mine h.gathered.0 h.gathered.1).1.outside in
       turns r.memory.numbers terms' r.owners.number (number_left n) (place_at z (term n)) (c.term + 1) none_noted drawn_none slots_none looks_none
-      (record { owner = refl; bit = refl; term = on v.caller.number (λ e. mine_far (sym e)) })
-      (λ k b f. (refl, b, on k (λ e. f (ap r.owners.number e ∙ h.loose.owner))))
+      (record {
+        owner = refl;
+        bit = refl;
+        term = on v.caller.number (λ e. mine_far (sym e));
+        others = λ k b f. (refl, b, on k (λ e. f (ap r.owners.number e ∙ h.loose.owner)));
+      })
       (record {
         kept = λ k low b. dite (ℕ_discrete k n)
             (λ e. inl (ap r.owners.number e ∙ h.loose.owner, (l, inr e)))
@@ -232,8 +220,12 @@ module _ (z : Shape) (me : ℕ) (v : View) (l : v.live ≡ true) (ws : List ℕ)
       let now : bit_of numbers' n ≡ 1 = bit_here r.memory.numbers g bit word few ∙ is_one in
       let mine_far : n ≢ v.caller.number = mine.not_own n (subst (HasNumberIn n) (sym in_hand) refl) in
       turns numbers' r.memory.terms r.owners.number no_number i word none_noted drawn_none slots_none looks_none
-      (record { owner = refl; bit = bit_on v.caller.number (λ e. mine_far (sym e)); term = refl })
-      (λ k b f. (refl, bit_on k (λ e. f (ap r.owners.number e ∙ h.loose.owner)) ∙ b, refl))
+      (record {
+        owner = refl;
+        bit = bit_on v.caller.number (λ e. mine_far (sym e));
+        term = refl;
+        others = λ k b f. (refl, bit_on k (λ e. f (ap r.owners.number e ∙ h.loose.owner)) ∙ b, refl);
+      })
       (record {
         kept = λ k q b.
             let ne : k ≢ n = (λ e. let y : bit_of numbers' k ≡ 1 = ap (bit_of numbers') e ∙ now in omega arith) in

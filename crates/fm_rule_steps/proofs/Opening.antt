@@ -35,6 +35,7 @@ use Rattle.fm_rule_facts.proofs.Gripping.{opened_handles}
 use Rattle.fm_rule_steps.proofs.Knowing.{own, low}
 use Rattle.fm_rule_steps.proofs.Staying.{same_but, numbers_stay, number_stays}
 use Rattle.fm_rule_steps.proofs.Plain.{Made}
+use Rattle.fm_rule_facts.proofs.Leaving.{callers_stay, numbers_left, pages_left}
 
 module _ (z : Shape) (me : ℕ) (v : View) (l : v.live ≡ true) (a : ArenaId) (hand : v.hand ≡ learnt a.slot a.generation) (owner : owner_of a ≡ v.caller)
     (ws : List ℕ) (vs : List View) (r : Rule z ws vs) (at : get_elem? vs me ≡ some v) where
@@ -42,7 +43,7 @@ module _ (z : Shape) (me : ℕ) (v : View) (l : v.live ≡ true) (a : ArenaId) (
   mine = own z ws vs r me v at l
 
   held : IsHeld z r.memory.bits r.memory.sessions r.owners.holder me a.slot a.generation
-  held = subst (HasInHand z r.memory.bits r.memory.sessions r.owners.holder me) hand mine.hand
+  held = subst (HasInHand z r.memory.bits r.memory.sessions r.owners.holder me) hand mine.work.hand
 
   free_now : r.memory.sessions a.slot ≡ free a.generation
   free_now = held.session
@@ -87,7 +88,7 @@ module _ (z : Shape) (me : ℕ) (v : View) (l : v.live ≡ true) (a : ArenaId) (
   its_open : (s : ℕ) (k : Caller) → s ≡ a.slot → IsTakenBy z r.memory.bits r.memory.sessions r.owners.taker s k
       → OpenedBy (put_at r.machine.life a Lives) s k
   its_open s k e x =
-      let t : r.owners.taker a.slot ≡ Some v.caller = subst (IsTaker r.owners.taker v.caller) hand mine.took in
+      let t : r.owners.taker a.slot ≡ Some v.caller = subst (IsTaker r.owners.taker v.caller) hand mine.work.took in
       let q : Some v.caller ≡ Some k = sym t ∙ (ap r.owners.taker (sym e) ∙ x.taker) in
       record { arena = a; in_slot = sym e; opened = opened_now; owner = owner ∙ (cc) }
 
@@ -95,12 +96,8 @@ module _ (z : Shape) (me : ℕ) (v : View) (l : v.live ≡ true) (a : ArenaId) (
   moved_on = record {
     allowed = ok;
     marks = λ k h. refl;
-    draw = refl;
-    who = λ k. refl;
-    rank = λ k. refl;
-    seat = λ k. refl;
-    own = record { owner = refl; bit = refl; term = refl };
-    numbers = λ n b f. (refl, b, refl);
+    callers = callers_stay;
+    numbers = numbers_left;
     closers = λ b f h. (refl, ((λ h. h), tt));
     sweepers = λ b f h n. (refl, ended_on b h);
     holders = λ s g f b h. (refl, put_else r.memory.sessions a.slot (live a) s (λ e. h (ap r.owners.holder e ∙ held.owner)) ∙ f, b, refl);
@@ -111,7 +108,7 @@ module _ (z : Shape) (me : ℕ) (v : View) (l : v.live ≡ true) (a : ArenaId) (
       left = x.left;
       bit = x.bit;
     }));
-    pages = record { others = λ q j b h. (refl, λ w. refl); stay = λ b i q st e. e };
+    pages = pages_left;
   }
 
   -- each sweep is where it was
@@ -161,22 +158,22 @@ module _ (z : Shape) (me : ℕ) (v : View) (l : v.live ≡ true) (a : ArenaId) (
       (shows_session z r.valid ws r.memory r.shows a.slot (live a) 0 fit.slot)
       (world_open z r.memory r.machine r.world a free_now bit_now fit)
       (record {
-        inside = mine.inside;
-        mark = mine.mark;
+        inside = mine.work.inside;
+        mark = mine.work.mark;
         closes =
-            λ c i. closing_on (limit_of z) r.history v.caller r.machine es ok me r.owners r.owners c (mine.closes c i) refl
+            λ c i. closing_on (limit_of z) r.history v.caller r.machine es ok me r.owners r.owners c (mine.work.closes c i) refl
             ((λ h. h), tt);
-        once = mine.once;
+        once = mine.work.once;
         sweeps = λ c i.
-            let y = mine.sweeps c i in
+            let y = mine.work.sweeps c i in
             sweeping_on (limit_of z) v.caller r.memory r.machine es m' ok (λ k b i. (r.world.marked k b i).stands) z me r.owners r.owners c y refl
             (ended_on c.arena y.session);
-        swept_once = mine.swept_once;
+        swept_once = mine.work.swept_once;
         hand = tt;
         took = tt;
-        pages = mine.pages;
-        number = number_stays z ws vs r me v at l es m' r.owners p moved_on same refl (λ k. refl) (λ k. refl) (λ k. refl);
+        pages = mine.work.pages;
       })
+      (number_stays z ws vs r me v at l es m' r.owners p moved_on same refl (λ k. refl) (λ k. refl) (λ k. refl))
 
 pub open_steps : (z : Shape) (me : ℕ) (v : View) (a : ArenaId) → v.live ≡ true → v.hand ≡ learnt a.slot a.generation → owner_of a ≡ v.caller
     → MayStore z (Opens a) me v (place_at z (session a.slot)) (alive_word a 0)

@@ -21,6 +21,7 @@ use Rattle.fm_rule_facts.proofs.Keeping.{closing_on, sweeping_on}
 use Rattle.fm_rule_steps.proofs.Knowing.{own}
 use Rattle.fm_rule_steps.proofs.Staying.{same_but, numbers_stay, number_stays}
 use Rattle.fm_rule_steps.proofs.Plain.{Made}
+use Rattle.fm_rule_facts.proofs.Leaving.{callers_stay, numbers_left}
 
 module _ (z : Shape) (me : ℕ) (v : View) (l : v.live ≡ true) (ws : List ℕ) (vs : List View) (r : Rule z ws vs) (at : get_elem? vs me ≡ some v) where
   abbrev mine : Owns z r.history r.memory r.machine r.owners me v
@@ -54,12 +55,8 @@ module _ (z : Shape) (me : ℕ) (v : View) (l : v.live ≡ true) (ws : List ℕ)
       let d : Moved me z v.caller r.memory r.machine r.owners es m' o' = record {
         allowed = q.may;
         marks = λ k h. refl;
-        draw = refl;
-        who = λ k. refl;
-        rank = λ k. refl;
-        seat = λ k. refl;
-        own = record { owner = refl; bit = refl; term = refl };
-        numbers = λ n b f. (refl, b, refl);
+        callers = callers_stay;
+        numbers = numbers_left;
         closers = λ b f h. (refl, q.ends b);
         sweepers = λ b f h n. (refl, stays_ended b f h);
         holders = λ s g f b h. (refl, f, b, refl);
@@ -82,30 +79,30 @@ module _ (z : Shape) (me : ℕ) (v : View) (l : v.live ≡ true) (ws : List ℕ)
         givens = r.world.givens;
       }))
       (record {
-        inside = ap (λ (t : Machine). t.inside v.caller) q.stays ∙ mine.inside;
-        mark = mine.mark;
+        inside = ap (λ (t : Machine). t.inside v.caller) q.stays ∙ mine.work.inside;
+        mark = mine.work.mark;
         closes = λ c j.
-            closing_on (limit_of z) r.history v.caller r.machine es q.may me r.owners o' c (mine.closes c j) refl (q.ends c.arena);
-        once = mine.once;
+            closing_on (limit_of z) r.history v.caller r.machine es q.may me r.owners o' c (mine.work.closes c j) refl (q.ends c.arena);
+        once = mine.work.once;
         sweeps = λ c j.
-            let y = mine.sweeps c j in
+            let y = mine.work.sweeps c j in
             sweeping_on (limit_of z) v.caller r.memory r.machine es m' q.may (λ k b i. (r.world.marked k b i).stands) z me r.owners o' c y refl
             (stays_ended c.arena y.life y.session);
-        swept_once = mine.swept_once;
-        hand = mine.hand;
-        took = mine.took;
+        swept_once = mine.work.swept_once;
+        hand = mine.work.hand;
+        took = mine.work.took;
         pages = q.has;
-        number = number_stays z ws vs r me v at l es m' o' p d same refl (λ k. refl) (λ k. refl) (λ k. refl);
       })
+      (number_stays z ws vs r me v at l es m' o' p d same refl (λ k. refl) (λ k. refl) (λ k. refl))
 
   -- what a sweep has is there still, where its map words and pages are
   pub swept_still : (maps : ℕ → ℕ → Option ℕ) (berth : ℕ → Berth)
       → ((b : ArenaId) → r.machine.life b ≡ Over → r.memory.sessions b.slot ≡ shut b → (k : ℕ) → maps b.slot k ≡ r.memory.maps b.slot k)
       → ((q j i : ℕ) (a : ArenaId) → r.owners.berth q ≡ unmapped j a i → berth q ≡ r.owners.berth q) → HasSwept z maps r.memory.cells berth me v.sweeps v.swept
-  swept_still maps berth ended other = go v.swept mine.pages.sweep
+  swept_still maps berth ended other = go v.swept mine.work.pages.sweep
     where
       still : (a : ArenaId) (i : ℕ) → IsNext v.sweeps a i → maps a.slot i ≡ r.memory.maps a.slot i
-      still a i n = let y = mine.sweeps n.sweep n.there in
+      still a i n = let y = mine.work.sweeps n.sweep n.there in
           subst (λ (b : ArenaId). maps b.slot i ≡ r.memory.maps b.slot i) n.arena (ended n.sweep.arena y.life y.session i)
 
       go : (s : Swept) → HasSwept z r.memory.maps r.memory.cells r.owners.berth me v.sweeps s → HasSwept z maps r.memory.cells berth me v.sweeps s

@@ -12,8 +12,8 @@ use Rattle.fm_base_machine.specs.Steps.{moved_by}
 use Rattle.std.specs.Int.{bit_at}
 use Rattle.fm_rule_facts.specs.Hands.{Hand, IsTaker}
 use Rattle.fm_rule_facts.specs.Views.{View, In, limit_of}
-use Rattle.fm_rule_facts.specs.Facts.{Memory, free, shut, Shows, World, IsOnce, Owners, HasInHand, HasClose, Owns, Rule, IsAt, IsLone, HasSwept, HasPages}
-use Rattle.fm_rule_facts.specs.Moves.{MayMake, NoEnd, StaysEnded, Moved, Same, Part, KeepsCloses, KeepsSlots, KeepsHolds, Gives, MayLend, PagesMoved, KeepsHand}
+use Rattle.fm_rule_facts.specs.Facts.{Memory, free, shut, Shows, World, IsOnce, Owners, HasInHand, HasClose, Owns, Rule, IsAt, IsLone, HasSwept, HasPages, Work}
+use Rattle.fm_rule_facts.specs.Moves.{MayMake, NoEnd, StaysEnded, Moved, Same, KeepsCloses, KeepsSlots, KeepsHolds, Gives, MayLend, PagesMoved, KeepsHand}
 use Rattle.fm_rule_facts.proofs.Keeping.{closing_on, sweeping_on}
 use Rattle.fm_rule_facts.proofs.Frame.{was_over}
 use Rattle.fm_rule_facts.proofs.Founds.{NoneDrawn, NoDraw}
@@ -40,16 +40,13 @@ module _ (z : Shape) (ws : List ℕ) (vs : List View) (r : Rule z ws vs) (me : �
     plain_moved ok ends marks numbers terms draw still bits ended pages = record {
       allowed = ok;
       marks = marks;
-      draw = draw;
-      who = λ k. refl;
-      rank = λ k. refl;
-      seat = λ k. refl;
-      own = record {
+      callers = record { draw = draw; who = λ k. refl; rank = λ k. refl; seat = λ k. refl };
+      numbers = record {
         owner = refl;
         bit = ap (λ (w : ℕ). bit_at w (v.caller.number % 64)) (numbers (v.caller.number / 64));
         term = terms v.caller.number;
+        others = λ n b f. (refl, ap (λ (w : ℕ). bit_at w (n % 64)) (numbers (n / 64)) ∙ b, terms n);
       };
-      numbers = λ n b f. (refl, ap (λ (w : ℕ). bit_at w (n % 64)) (numbers (n / 64)) ∙ b, terms n);
       closers = λ b f h. (refl, ends b);
       sweepers = λ b f h n. (refl, ended b f h);
       holders = λ s g f b h. (refl, still s g f, ap (λ (n : ℕ). bit_at n s) bits ∙ b, refl);
@@ -69,24 +66,22 @@ module _ (z : Shape) (ws : List ℕ) (vs : List View) (r : Rule z ws vs) (me : �
         → ((b : ArenaId) → r.machine.life b ≡ Over → r.memory.sessions b.slot ≡ shut b → StaysEnded r.memory m' b)
         → (moved_by r.machine es).inside p.caller ≡ p.inside → m'.marks p.caller.number ≡ p.mark
         → HasPages z m'.maps m'.cells r.owners.berth me p.inside p.reads p.pages p.sweeps p.swept
-        → KeepsHand z (r.history ++ es) v m' (moved_by r.machine es) r.owners me p
-        → Part z (r.history ++ es) v m' (moved_by r.machine es) r.owners me p
-    plain_part ok ends s cl sw hd still bits ended inside mark pages number = record {
+        → Work z m' (moved_by r.machine es) r.owners me p
+    plain_part ok ends s cl sw hd still bits ended inside mark pages = record {
       pages = pages;
       inside = inside;
       mark = mark;
       closes =
-          λ c i. closing_on (limit_of z) r.history v.caller r.machine es ok me r.owners r.owners c (mine.closes c (subst (In c) cl i)) refl
+          λ c i. closing_on (limit_of z) r.history v.caller r.machine es ok me r.owners r.owners c (mine.work.closes c (subst (In c) cl i)) refl
           (ends c.arena);
-      once = subst (IsOnce (λ (c : Close). c.arena)) (sym cl) mine.once;
+      once = subst (IsOnce (λ (c : Close). c.arena)) (sym cl) mine.work.once;
       sweeps = λ c i.
-          let y = mine.sweeps c (subst (In c) sw i) in
+          let y = mine.work.sweeps c (subst (In c) sw i) in
           sweeping_on (limit_of z) v.caller r.memory r.machine es m' ok (λ k b i. (r.world.marked k b i).stands) z me r.owners r.owners c y refl
           (ended c.arena y.life y.session);
-      swept_once = subst (IsOnce (λ (c : Sweep). c.arena)) (sym sw) mine.swept_once;
-      hand = subst (HasInHand z m'.bits m'.sessions r.owners.holder me) (sym hd) (hand_still z r.memory m' r.owners.holder me still bits v.hand mine.hand);
-      number = number;
-      took = subst (λ (x : Caller × Hand). IsTaker r.owners.taker x.0 x.1) (λ j. (sym s.caller j, sym hd j)) mine.took;
+      swept_once = subst (IsOnce (λ (c : Sweep). c.arena)) (sym sw) mine.work.swept_once;
+      hand = subst (HasInHand z m'.bits m'.sessions r.owners.holder me) (sym hd) (hand_still z r.memory m' r.owners.holder me still bits v.hand mine.work.hand);
+      took = subst (λ (x : Caller × Hand). IsTaker r.owners.taker x.0 x.1) (λ j. (sym s.caller j, sym hd j)) mine.work.took;
     }
 
     -- each free slot is where it was
@@ -178,8 +173,8 @@ plain_with z ws vs r me v at l i x p es fs nd new looks m' q =
     (numbers_stay z ws vs r me v at l es m' r.owners p d q.same q.number q.numbers q.terms (λ n. refl))
     q.shows q.world
     (plain_part z ws vs r me v at l es m' p q.may q.ends q.same q.closes q.sweeps q.hand q.still q.bits q.ended q.inside q.mark
-    (plain_pages z r.memory m' r.owners me v p (own z ws vs r me v at l).pages q.maps q.cells q.reads q.paged q.sweeps q.swept)
-    (number_stays z ws vs r me v at l es m' r.owners p d q.same q.number q.numbers q.terms (λ n. refl)))
+    (plain_pages z r.memory m' r.owners me v p (own z ws vs r me v at l).work.pages q.maps q.cells q.reads q.paged q.sweeps q.swept))
+    (number_stays z ws vs r me v at l es m' r.owners p d q.same q.number q.numbers q.terms (λ n. refl))
 
 -- where no slot was looked for
 pub plain : (z : Shape) (ws : List ℕ) (vs : List View) (r : Rule z ws vs) (me : ℕ) (v : View) → get_elem? vs me ≡ some v → v.live ≡ true

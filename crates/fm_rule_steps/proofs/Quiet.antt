@@ -20,8 +20,9 @@ use Rattle.fm_rule_facts.proofs.Gone.{none_founded}
 use Rattle.fm_rule_facts.proofs.Ruling.{AreLooked, unlooked}
 use Rattle.fm_rule_facts.proofs.Shown.{shows_same}
 use Rattle.fm_rule_steps.proofs.Knowing.{own}
-use Rattle.fm_rule_steps.proofs.Staying.{same_but, stays_ended}
+use Rattle.fm_rule_steps.proofs.Staying.{same_but}
 use Rattle.fm_rule_steps.proofs.Plain.{Made, plain_with}
+use Rattle.fm_rule_facts.proofs.Leaving.{stays_ended}
 
 module _ (z : Shape) (ws : List ℕ) (vs : List View) (r : Rule z ws vs) (me : ℕ) (v : View) (at : get_elem? vs me ≡ some v) (l : v.live ≡ true) (i : ℕ) where
   -- entries that move nothing and lend nothing
@@ -47,7 +48,7 @@ module _ (z : Shape) (ws : List ℕ) (vs : List View) (r : Rule z ws vs) (me : �
         closes = refl;
         hand = refl;
         sweeps = refl;
-        ended = λ b o f. stays_ended r.memory b f;
+        ended = λ b o f. stays_ended b f;
         shown = λ b f. f;
         was = λ b h. ap (λ (t : Machine). t.life b) (sym stays) ∙ h;
         holds = λ b. ap (λ (t : Machine). holds_of b v + all_holds b t) (sym stays);
@@ -62,8 +63,8 @@ module _ (z : Shape) (ws : List ℕ) (vs : List View) (r : Rule z ws vs) (me : �
         swept = refl;
         shows = shows_same z r.valid ws r.memory r.shows i;
         world = subst (World z r.memory) (sym stays) r.world;
-        inside = ap (λ (t : Machine). t.inside v.caller) stays ∙ mine.inside;
-        mark = mine.mark;
+        inside = ap (λ (t : Machine). t.inside v.caller) stays ∙ mine.work.inside;
+        mark = mine.work.mark;
       })
 
   -- where no slot and no page was looked for

@@ -27,8 +27,9 @@ use Rattle.fm_rule_facts.proofs.Worlds.{world_word}
 use Rattle.fm_rule_facts.proofs.Shown.{shows_same, shows_cell}
 use Rattle.fm_rule_facts.proofs.Founds.{no_draw}
 use Rattle.fm_rule_steps.proofs.Knowing.{own, given_now}
-use Rattle.fm_rule_steps.proofs.Staying.{same_but, stays_ended}
+use Rattle.fm_rule_steps.proofs.Staying.{same_but}
 use Rattle.fm_rule_steps.proofs.Plain.{Made, plain}
+use Rattle.fm_rule_facts.proofs.Leaving.{stays_ended}
 
 -- an arena has the words of its slot
 span_within : (z : Shape) (w : ℕ) → w < span z → w < words_within (limit_of z)
@@ -45,7 +46,7 @@ module _ (z : Shape) (me : ℕ) (v : View) (l : v.live ≡ true) (a : ArenaId) (
   module _ (ws : List ℕ) (vs : List View) (r : Rule z ws vs) (at : get_elem? vs me ≡ some v) where
     -- the caller is under way in the arena
     pub here : r.machine.inside v.caller ≡ Some a
-    here = (own z ws vs r me v at l).inside ∙ ins
+    here = (own z ws vs r me v at l).work.inside ∙ ins
 
     -- so it stands
     pub stands : IsStanding (r.machine.life a)
@@ -102,8 +103,8 @@ module _ (z : Shape) (me : ℕ) (v : View) (l : v.live ≡ true) (a : ArenaId) (
           swept = refl;
           shows = shows;
           world = subst (World z m) (sym is) world;
-          inside = ap (λ (t : Machine). t.inside v.caller) is ∙ k.inside;
-          mark = k.mark;
+          inside = ap (λ (t : Machine). t.inside v.caller) is ∙ k.work.inside;
+          mark = k.work.mark;
         })
 
   -- where the word has a given byte, and the pass has read which page has the word
@@ -123,7 +124,7 @@ module _ (z : Shape) (me : ℕ) (v : View) (l : v.live ≡ true) (a : ArenaId) (
 
       -- what was read stands
       named : r.memory.maps a.slot part_of ≡ Some p
-      named = (own z ws vs r me v at l).pages.read a ins (mapping_of part_of p) read
+      named = (own z ws vs r me v at l).work.pages.read a ins (mapping_of part_of p) read
 
       at_it : r.owners.berth p ≡ mapped a.slot part_of
       at_it = r.pages.map_is a.slot part_of p named
@@ -155,7 +156,7 @@ module _ (z : Shape) (me : ℕ) (v : View) (l : v.live ≡ true) (a : ArenaId) (
           → loans_by (loans_of r.history) call ≡ loans_of r.history → Made z ws vs me v i (found ws) v (entry_of v.caller call reply ∷ []) none_noted
       looks call reply is may answer ends lends same =
           act ws vs r at i (found ws) call reply r.memory.cells r.memory.given r.machine.word r.machine.given is may answer ends lends same
-          (shows_same z r.valid ws r.memory r.shows i) r.world r.pages (λ q j b n. refl) (λ b o f. stays_ended r.memory b f)
+          (shows_same z r.valid ws r.memory r.shows i) r.world r.pages (λ q j b n. refl) (λ b o f. stays_ended b f)
 
       -- the word becomes y
       puts : (y : ℕ) (call : Call) (reply : Reply)

@@ -63,8 +63,8 @@ module _ (z : Shape) (me : ℕ) (v : View) (l : v.live ≡ true) (a : ArenaId) (
         keep = λ q j b. inr (refl, page_like q (r.owners.berth q) v (record v { sweeps = advanced a v.sweeps; swept = v.swept }) refl refl refl);
         shows = shows_given z r.valid ws r.memory r.shows a.slot 0 slot_low;
         world = world_reset z r.memory r.machine r.world a is_shut is_over;
-        sweeps = λ c j. let w = in_advanced a c v.sweeps mine.swept_once j in onward c w.before (mine.sweeps w.before w.there) w.there w.how;
-        once = once_advanced a v.sweeps mine.swept_once;
+        sweeps = λ c j. let w = in_advanced a c v.sweeps mine.work.swept_once j in onward c w.before (mine.work.sweeps w.before w.there) w.there w.how;
+        once = once_advanced a v.sweeps mine.work.swept_once;
         of_page = subst (HasSwept z r.memory.maps r.memory.cells r.owners.berth me (advanced a v.sweeps)) (sym idle) tt;
       })
     where

@@ -34,6 +34,7 @@ use Rattle.fm_rule_steps.proofs.Sweeping.{its, its_sweep, ended_now, shut_now, m
 use Rattle.fm_rule_steps.proofs.Knowing.{own}
 use Rattle.fm_rule_steps.proofs.Staying.{same_but, pages_there, numbers_stay, number_stays}
 use Rattle.fm_rule_steps.proofs.Plain.{Made}
+use Rattle.fm_rule_facts.proofs.Leaving.{callers_stay, numbers_left, pages_left}
 
 module _ (z : Shape) (me : ℕ) (v : View) (l : v.live ≡ true) (sh : v.shape ≡ z) (none : v.hand ≡ nothing) (idle : v.swept ≡ unread) (a : ArenaId)
     (has : passed_of v.sweeps a ≡ Some (z.reach + 1)) (ws : List ℕ) (vs : List View) (r : Rule z ws vs) (at : get_elem? vs me ≡ some v) where
@@ -98,12 +99,8 @@ module _ (z : Shape) (me : ℕ) (v : View) (l : v.live ≡ true) (sh : v.shape �
   moved_on = record {
     allowed = ok;
     marks = λ k h. refl;
-    draw = refl;
-    who = λ k. refl;
-    rank = λ k. refl;
-    seat = λ k. refl;
-    own = record { owner = refl; bit = refl; term = refl };
-    numbers = λ n b f. (refl, b, refl);
+    callers = callers_stay;
+    numbers = numbers_left;
     closers = λ b f h. (refl, tt);
     sweepers = λ b f h n. (refl, ended_on b h (λ e. n (ap r.owners.closer e ∙ mine_now z me v l a (z.reach + 1) has ws vs r at)));
     holders = λ s g f b h. (
@@ -121,7 +118,7 @@ module _ (z : Shape) (me : ℕ) (v : View) (l : v.live ≡ true) (sh : v.shape �
           left = x.left;
           bit = x.bit;
         });
-    pages = record { others = λ q j b h. (refl, λ w. refl); stay = λ b i q st e. e };
+    pages = pages_left;
   }
 
   sweeps_on : (last : Bool) → KeepsSweeps me v (part_by last) r.memory r.machine r.owners m' r.machine o'
@@ -207,28 +204,28 @@ module _ (z : Shape) (me : ℕ) (v : View) (l : v.live ≡ true) (sh : v.shape �
         (world_retire z r.memory r.machine r.world a shown over
         (ap (λ (x : ArenaId). r.memory.given x.slot) (sym t.arena) ∙ mine_sweep.reset (omega arith)))
         (record {
-          inside = mine.inside;
-          mark = mine.mark;
+          inside = mine.work.inside;
+          mark = mine.work.mark;
           closes =
-              λ c i. closing_on (limit_of z) r.history v.caller r.machine es ok me r.owners o' c (mine.closes c i) refl
+              λ c i. closing_on (limit_of z) r.history v.caller r.machine es ok me r.owners o' c (mine.work.closes c i) refl
               tt;
-          once = mine.once;
+          once = mine.work.once;
           sweeps = λ c i.
-              let w = in_dropped a c v.sweeps mine.swept_once i in
-              let y = mine.sweeps c w.0 in
+              let w = in_dropped a c v.sweeps mine.work.swept_once i in
+              let y = mine.work.sweeps c w.0 in
               sweeping_on (limit_of z) v.caller r.memory r.machine es m' ok (λ k b i. (r.world.marked k b i).stands) z me r.owners o' c y refl
               (ended_on c.arena y.session w.1);
-          swept_once = once_dropped a v.sweeps mine.swept_once;
+          swept_once = once_dropped a v.sweeps mine.work.swept_once;
           hand = in_hand last is;
           took = took_by last;
           pages = record {
-            read = mine.pages.read;
-            claims = mine.pages.claims;
-            lone = mine.pages.lone;
+            read = mine.work.pages.read;
+            claims = mine.work.pages.claims;
+            lone = mine.work.pages.lone;
             sweep = subst (HasSwept z r.memory.maps r.memory.cells r.owners.berth me (dropped a v.sweeps)) (sym idle) tt;
           };
-          number = number_stays z ws vs r me v at l es m' o' (part_by last) moved_on (same_part last) refl (λ k. refl) (λ k. refl) (λ k. refl);
         })
+        (number_stays z ws vs r me v at l es m' o' (part_by last) moved_on (same_part last) refl (λ k. refl) (λ k. refl) (λ k. refl))
 
 pub retire_steps : (z : Shape) (me : ℕ) (v : View) (a : ArenaId) → v.live ≡ true → v.shape ≡ z → v.hand ≡ nothing → v.swept ≡ unread
     → passed_of v.sweeps a ≡ Some (z.reach + 1)

@@ -118,7 +118,7 @@ module _ (z : Shape) (me : ℕ) (v : View) (l : v.live ≡ true) (ws : List ℕ)
               (λ i.
                   let o = y.ones s.view.caller.number i in
                   let same : o.view ≡ s.view = some-injective o.view s.view (sym o.there ∙ there) in
-                  let q : first + n ≡ o.page = lone_page s.view.pages its.pages.lone (first + n) o.page has.1 (subst (λ (u : View). In o.page u.pages) same o.has) in
+                  let q : first + n ≡ o.page = lone_page s.view.pages its.work.pages.lone (first + n) o.page has.1 (subst (λ (u : View). In o.page u.pages) same o.has) in
                   let a = o.low in absurd (omega arith)),
               y.distinct,
             );

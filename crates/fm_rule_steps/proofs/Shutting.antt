@@ -35,6 +35,7 @@ use Rattle.fm_rule_steps.proofs.Knowing.{own, known_now}
 use Rattle.fm_rule_steps.proofs.Staying.{same_but, hand_still, sweeps_still, slots_still, numbers_stay, number_stays}
 use Rattle.fm_rule_steps.proofs.Plain.{Made}
 use Rattle.fm_rule_facts.proofs.Founds.{no_draw}
+use Rattle.fm_rule_facts.proofs.Leaving.{callers_stay, numbers_left, pages_left}
 
 module _ (z : Shape) (me : ℕ) (v : View) (l : v.live ≡ true) (a : ArenaId) (known : IsKnown v a) (use_it : MayUse a v.caller) (not_global : a.kind ≢ Global)
     (ws : List ℕ) (vs : List View) (r : Rule z ws vs) (at : get_elem? vs me ≡ some v) where
@@ -90,20 +91,16 @@ module _ (z : Shape) (me : ℕ) (v : View) (l : v.live ≡ true) (a : ArenaId) (
       let d : Moved me z v.caller r.memory r.machine r.owners es m' o' = record {
         allowed = ok;
         marks = λ k h. refl;
-        draw = refl;
-        who = λ k. refl;
-        rank = λ k. refl;
-        seat = λ k. refl;
-        own = record { owner = refl; bit = refl; term = refl };
-        numbers = λ n b f. (refl, b, refl);
+        callers = callers_stay;
+        numbers = numbers_left;
         closers = λ b f h. (at_other r.owners.closer a me b (other b f), ((λ h. h), tt));
         sweepers = λ b f h n. (at_other r.owners.closer a me b (ended b f), stays b f h);
         holders = λ s g f b h. (refl, still s g f, b, refl);
         taken = λ s k x. inl (record { taker = x.taker; generation = x.generation; session = still s x.generation x.session; left = x.left; bit = x.bit });
-        pages = record { others = λ q j b h. (refl, λ w. refl); stay = λ b i q st e. e };
+        pages = pages_left;
       } in
       let on : (c : Close) → In c v.closes → IsClosing (moved_by r.machine es) o' me c = (λ c j.
-      let y = k.closes c j in
+      let y = k.work.closes c j in
       closing_on (limit_of z) r.history v.caller r.machine es ok me r.owners o' c y
       (at_other r.owners.closer a me c.arena (other c.arena y.life)) ((λ h. h), tt)) in
       keeps z ws (set ws i (closing_word a)) vs r me v p es none_noted m' o' at l d same no_draw
@@ -122,24 +119,24 @@ module _ (z : Shape) (me : ℕ) (v : View) (l : v.live ≡ true) (a : ArenaId) (
       (shows_session z r.valid ws r.memory r.shows a.slot (shut a) 0 fit.slot)
       (world_shut z r.memory r.machine r.world a al none)
       (record {
-        inside = k.inside;
-        mark = k.mark;
+        inside = k.work.inside;
+        mark = k.work.mark;
         closes = λ c. ⊎_elim
             (λ (e : c ≡ walk_of a 0). subst (IsClosing (moved_by r.machine es) o' me) (sym e)
             (record { owner = at_here r.owners.closer a me; life = at_here r.machine.life a Closes; passed = λ j h. absurd (omega arith) }))
             (on c);
-        once = ((λ c j. other c.arena (k.closes c j).life), k.once);
+        once = ((λ c j. other c.arena (k.work.closes c j).life), k.work.once);
         sweeps = λ c j.
-            let y = k.sweeps c j in
+            let y = k.work.sweeps c j in
             sweeping_on (limit_of z) v.caller r.memory r.machine es m' ok (λ k b i. (r.world.marked k b i).stands) z me r.owners o' c y
             (at_other r.owners.closer a me c.arena (ended c.arena y.life))
             (stays c.arena y.life y.session);
-        swept_once = k.swept_once;
-        hand = hand_still z r.memory m' r.owners.holder me still refl v.hand k.hand;
-        took = k.took;
-        pages = k.pages;
-        number = number_stays z ws vs r me v at l es m' o' p d same refl (λ k. refl) (λ k. refl) (λ k. refl);
+        swept_once = k.work.swept_once;
+        hand = hand_still z r.memory m' r.owners.holder me still refl v.hand k.work.hand;
+        took = k.work.took;
+        pages = k.work.pages;
       })
+      (number_stays z ws vs r me v at l es m' o' p d same refl (λ k. refl) (λ k. refl) (λ k. refl))
 
   -- the word is exchanged where it shows the arena alive with no holds
   go : (not_auto : a.kind ≢ Automatic) (o : Option ℕ) → alive_holds a found ≡ o → Says r.machine a o

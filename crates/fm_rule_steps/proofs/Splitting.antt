@@ -18,7 +18,7 @@ use Rattle.fm_rule_facts.proofs.Looking.{looked_on, looked_bare}
 use Rattle.fm_rule_facts.proofs.Founds.{counted_bare}
 use Rattle.fm_rule_facts.specs.Gone.{IsFounded}
 use Rattle.fm_rule_facts.proofs.Gone.{founded_bare}
-use Rattle.fm_rule_facts.proofs.Keeping.{stays_somewhere}
+use Rattle.fm_rule_facts.proofs.Keeping.{stays_somewhere, work_as}
 use Rattle.fm_rule_facts.proofs.Summing.{total-set, total-snoc}
 
 at_end : {A : Type 0} (l : List A) (a b : A) (j : ℕ) → get_elem? (l ++ a ∷ []) j ≡ some b → (get_elem? l j ≡ some b) ⊎ ((j ≡ length l) × (a ≡ b))
@@ -220,15 +220,7 @@ meet_joins z ws vs r id v other w at n at' bare =
         owner = x.owner;
         bit = x.bit;
         mine = x.mine;
-        inside = x.inside;
-        mark = x.mark;
-        closes = x.closes;
-        once = x.once;
-        sweeps = x.sweeps;
-        swept_once = x.swept_once;
-        hand = x.hand;
-        took = x.took;
-        pages = x.pages;
+        work = work_as x.work;
         gathered =
             λ g i. let y =
             x.gathered g i in record { drawn = y.drawn; seated = y.seated; apart = y.apart; outside = y.outside; quiet = y.quiet };

@@ -62,16 +62,8 @@ sweeps_still me v p m t o m' t' o' s sw same was a f h =
     let y = was a f h in
     inr (y.0, y.1, same a y.1, (λ (x : HasSweep a v). (s.live ∙ x.0, (x.1.0, subst (In x.1.0) (sym sw) x.1.1, x.1.2))))
 
--- where map words, words of pages and their places stay
-pub pages_still : {me : ℕ} {m : Memory} {t : Machine} {o : Owners} → PagesMoved me m t o m o
-pages_still = record { others = λ p j b h. (refl, λ w. refl); stay = λ b i p st e. e }
-
 pub pages_there : (me : ℕ) (o : Owners) (v p : View) → Same v p → p.pages ≡ v.pages → p.swept ≡ v.swept → KeepsPages me v p o o
 pages_there me o v p s paged swept q j b = inr (refl, page_like q (o.berth q) v p s.live paged swept)
-
--- what a memory that didn't change leaves of ended arenas
-pub stays_ended : (m : Memory) (b : ArenaId) → m.sessions b.slot ≡ shut b → StaysEnded m m b
-stays_ended m b f = record { session = f; maps = λ i. refl; given = refl }
 
 -- and each free slot whose bit is 0 is where it was
 pub slots_still : (z : Shape) (me : ℕ) (v p : View) (m : Memory) (o : Owners) (m' : Memory) (o' : Owners) → Same v p → p.hand ≡ v.hand
@@ -157,14 +149,14 @@ module _ (z : Shape) (ws : List ℕ) (vs : List View) (r : Rule z ws vs) (me : �
       term = y.term ∙ sym (terms c.number);
       drawn = still c y.drawn;
       later = y.later;
-      seated = d.seat c ∙ y.seated;
+      seated = d.callers.seat c ∙ y.seated;
       apart = λ e. y.apart (e ∙ s.caller);
       ungathered = λ g i. y.ungathered g (subst (In g) same_all i);
       silent = silent_on (limit_of z) r.history v.caller r.machine es d.allowed c y.apart y.silent;
     }
     hand_stays (number_left n) ne y = (
       next_stays n (ne n refl) y.0,
-      ⊎_elim (λ (e : r.memory.draw ≡ most_draws). inl (d.draw ∙ e)) (λ (q : (g : Gathered) × In g (all_gathered v) × (g.caller.number ≡ n)).
+      ⊎_elim (λ (e : r.memory.draw ≡ most_draws). inl (d.callers.draw ∙ e)) (λ (q : (g : Gathered) × In g (all_gathered v) × (g.caller.number ≡ n)).
           inr (q.0, subst (In q.0) (sym same_all) q.1, q.2)) y.1,
     )
     hand_stays (number_joined c) ne y = record {

@@ -27,6 +27,7 @@ use Rattle.fm_rule_steps.proofs.Closes.{Found, passed_of-found, count_of, in_adv
 use Rattle.fm_rule_steps.proofs.Knowing.{own}
 use Rattle.fm_rule_steps.proofs.Staying.{same_but, numbers_stay, number_stays}
 use Rattle.fm_rule_steps.proofs.Plain.{Made}
+use Rattle.fm_rule_facts.proofs.Leaving.{callers_stay, numbers_left}
 
 -- where the sweep of the arena has come so far
 module _ (z : Shape) (me : ℕ) (v : View) (l : v.live ≡ true) (a : ArenaId) (k : ℕ) (has : passed_of v.sweeps a ≡ Some k)
@@ -40,7 +41,7 @@ module _ (z : Shape) (me : ℕ) (v : View) (l : v.live ≡ true) (a : ArenaId) (
 
   -- what is known of it
   pub its_sweep : IsSweeping z r.memory r.machine r.owners me its.walk
-  its_sweep = mine.sweeps its.walk its.there
+  its_sweep = mine.work.sweeps its.walk its.there
 
   -- its arena has ended
   pub ended_now : r.machine.life a ≡ Over
@@ -67,7 +68,7 @@ module _ (z : Shape) (me : ℕ) (v : View) (l : v.live ≡ true) (a : ArenaId) (
 
   -- each sweep of the arena is this one
   pub its_count : (b : Sweep) → In b v.sweeps → b.arena ≡ a → b.passed ≡ k
-  its_count b j e = count_of v.sweeps a k b j e has mine.swept_once
+  its_count b j e = count_of v.sweeps a k b j e has mine.work.swept_once
 
   -- the part is its next one
   pub next_here : IsNext v.sweeps a k
@@ -108,12 +109,8 @@ module _ (z : Shape) (me : ℕ) (v : View) (l : v.live ≡ true) (a : ArenaId) (
       let d : Moved me z v.caller r.memory r.machine r.owners es m' o' = record {
         allowed = q.may;
         marks = λ k h. refl;
-        draw = refl;
-        who = λ k. refl;
-        rank = λ k. refl;
-        seat = λ k. refl;
-        own = record { owner = refl; bit = refl; term = refl };
-        numbers = λ n b f. (refl, b, refl);
+        callers = callers_stay;
+        numbers = numbers_left;
         closers = λ b f h. (refl, q.ends b);
         sweepers = λ b f h n.
             let far = apart b h (not_mine b n) in (refl, record { session = h; maps = q.same_maps b.slot far; given = q.same_given b.slot far });
@@ -140,23 +137,23 @@ module _ (z : Shape) (me : ℕ) (v : View) (l : v.live ≡ true) (a : ArenaId) (
       q.shows
       (subst (World z m') (sym q.stays) q.world)
       (record {
-        inside = ap (λ (t : Machine). t.inside v.caller) q.stays ∙ mine.inside;
-        mark = mine.mark;
+        inside = ap (λ (t : Machine). t.inside v.caller) q.stays ∙ mine.work.inside;
+        mark = mine.work.mark;
         closes = λ c j.
-            closing_on (limit_of z) r.history v.caller r.machine es q.may me r.owners o' c (mine.closes c j) refl (q.ends c.arena);
-        once = mine.once;
+            closing_on (limit_of z) r.history v.caller r.machine es q.may me r.owners o' c (mine.work.closes c j) refl (q.ends c.arena);
+        once = mine.work.once;
         sweeps = λ c j. subst (λ (t : Machine). IsSweeping z m' t o' me c) (sym q.stays) (q.sweeps c j);
         swept_once = q.once;
-        hand = mine.hand;
-        took = mine.took;
+        hand = mine.work.hand;
+        took = mine.work.took;
         pages = record {
-          read = λ b e y j. q.same_maps b.slot (inside_apart b (mine.inside ∙ e)) y.part ∙ mine.pages.read b e y j;
-          claims = λ n j. q.claims n (mine.pages.claims n j);
-          lone = mine.pages.lone;
+          read = λ b e y j. q.same_maps b.slot (inside_apart b (mine.work.inside ∙ e)) y.part ∙ mine.work.pages.read b e y j;
+          claims = λ n j. q.claims n (mine.work.pages.claims n j);
+          lone = mine.work.pages.lone;
           sweep = q.of_page;
         };
-        number = number_stays z ws vs r me v at l es m' o' p d same_but refl (λ k. refl) (λ k. refl) (λ k. refl);
       })
+      (number_stays z ws vs r me v at l es m' o' p d same_but refl (λ k. refl) (λ k. refl) (λ k. refl))
     where
       inside_apart : (b : ArenaId) → r.machine.inside v.caller ≡ Some b → b.slot ≢ a.slot
       inside_apart b e = ended_apart z r.memory.sessions r.machine.life r.world.sessions a b shut_now ended_now (r.world.marked v.caller b e).stands
@@ -166,7 +163,7 @@ module _ (z : Shape) (me : ℕ) (v : View) (l : v.live ≡ true) (a : ArenaId) (
       → ((b n : ℕ) → r.memory.maps b n ≡ None → maps b n ≡ None) → (c : Sweep) → In c v.sweeps
       → IsSweeping z (memory_of bits maps cells r.memory.given) r.machine (record r.owners { berth = berth }) me c
   sweeps_kept bits maps cells berth none c j =
-      let y = mine.sweeps c j in
+      let y = mine.work.sweeps c j in
       record {
         owner = y.owner;
         life = y.life;
@@ -180,14 +177,14 @@ module _ (z : Shape) (me : ℕ) (v : View) (l : v.live ≡ true) (a : ArenaId) (
   pub sweeps_more : (bits : ℕ → ℕ) (maps : ℕ → ℕ → Option ℕ) (cells : ℕ → ℕ → ℕ) (berth : ℕ → Berth)
       → ((b n : ℕ) → r.memory.maps b n ≡ None → maps b n ≡ None) → maps a.slot k ≡ None → k < z.reach → (c : Sweep) → In c (advanced a v.sweeps)
       → IsSweeping z (memory_of bits maps cells r.memory.given) r.machine (record r.owners { berth = berth }) me c
-  sweeps_more bits maps cells berth none here low c j = let w = in_advanced a c v.sweeps mine.swept_once j in onward w.before w.there w.how
+  sweeps_more bits maps cells berth none here low c j = let w = in_advanced a c v.sweeps mine.work.swept_once j in onward w.before w.there w.how
     where
       onward : (b : Sweep) → In b v.sweeps → ((b.arena ≡ a) × (c ≡ one_more b)) ⊎ ((c ≡ b) × (c.arena ≢ a))
           → IsSweeping z (memory_of bits maps cells r.memory.given) r.machine (record r.owners { berth = berth }) me c
       onward b i (inr e) = subst (IsSweeping z (memory_of bits maps cells r.memory.given) r.machine (record r.owners { berth = berth }) me) (sym e.0)
           (sweeps_kept bits maps cells berth none b i)
       onward b i (inl q) =
-          let y = mine.sweeps b i in
+          let y = mine.work.sweeps b i in
           let g = its_count b i q.0 in
           subst (IsSweeping z (memory_of bits maps cells r.memory.given) r.machine (record r.owners { berth = berth }) me) (sym q.1) (record {
             owner = y.owner;

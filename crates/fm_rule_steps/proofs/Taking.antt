@@ -14,7 +14,7 @@ use Rattle.fm_words.specs.Sessions.{session_word}
 use Rattle.fm_base.specs.Finds.{is_page, Find, TakesSlot as Taking}
 use Rattle.fm_base_machine.specs.Functions.{put}
 use Rattle.fm_base_machine.proofs.Putting.{put_here, put_else}
-use Rattle.fm_rule_facts.proofs.Keeping.{closing_as, sweeping_as}
+use Rattle.fm_rule_facts.proofs.Keeping.{work_with}
 use Rattle.fm_rule_facts.specs.declared.step.Step.TheVariants.{TakesSlot, LearnsGeneration}
 use Rattle.fm_rule_facts.specs.Hands.{nothing, taken, learnt, HasSlot, IsTaker, hand_taken}
 use Rattle.fm_rule_facts.specs.Gone.{FoundBy}
@@ -31,8 +31,9 @@ use Rattle.fm_rule_steps.proofs.Reading.{eqb_true, eqb_false}
 use Rattle.fm_rule_steps.proofs.Telling.{some_bit, idle, busy, none_left}
 use Rattle.fm_rule_steps.proofs.Quiet.{quiet}
 use Rattle.fm_rule_steps.proofs.Knowing.{own}
-use Rattle.fm_rule_steps.proofs.Staying.{same_but, stays_ended, pages_still, sweeps_still, numbers_stay, number_stays}
+use Rattle.fm_rule_steps.proofs.Staying.{same_but, sweeps_still, numbers_stay, number_stays}
 use Rattle.fm_rule_steps.proofs.Plain.{Made}
+use Rattle.fm_rule_facts.proofs.Leaving.{calls_moved, bits_moved}
 
 module _ (z : Shape) (me : ℕ) (v : View) (l : v.live ≡ true) (ws : List ℕ) (vs : List View) (r : Rule z ws vs) (at : get_elem? vs me ≡ some v) where
   abbrev mine : Owns z r.history r.memory r.machine r.owners me v
@@ -80,32 +81,21 @@ module _ (z : Shape) (me : ℕ) (v : View) (l : v.live ≡ true) (ws : List ℕ)
         let bit_on : (s : ℕ) → s ≢ bit → bit_at next s ≡ bit_at r.memory.bits s = (λ s n. without.others s n ∙ ap (λ (w : ℕ). bit_at w s) (sym is)) in
         let f = r.world.slots.bit_is bit (ap (λ (w : ℕ). bit_at w bit) is ∙ one) in
         let same : Same v p = same_but in
-        let d : Moved me z v.caller r.memory r.machine r.owners [] m' o' = record {
-          allowed = tt;
-          marks = λ k h. refl;
-          draw = refl;
-          who = λ k. refl;
-          rank = λ k. refl;
-          seat = λ k. refl;
-          own = record { owner = refl; bit = refl; term = refl };
-          numbers = λ n b f. (refl, b, refl);
-          closers = λ b q h. (refl, tt);
-          sweepers = λ b q h n. (refl, record { session = h; maps = λ i. refl; given = refl });
-          holders = λ s g q b h. (
-            put_else r.owners.holder bit me s (far s b),
-            q,
-            bit_on s (far s b) ∙ b,
-            put_else r.owners.taker bit (Some v.caller) s (far s b),
-          );
-          taken = λ s k x. inl (record {
-            taker = put_else r.owners.taker bit (Some v.caller) s (far s x.bit) ∙ x.taker;
-            generation = x.generation;
-            session = x.session;
-            left = x.left;
-            bit = bit_on s (far s x.bit) ∙ x.bit;
-          });
-          pages = record { others = λ q j b h. (refl, λ w. refl); stay = λ b i q st e. e };
-        } in
+        let d : Moved me z v.caller r.memory r.machine r.owners [] m' o' =
+        bits_moved
+        (λ s g q b h. (
+          put_else r.owners.holder bit me s (far s b),
+          q,
+          bit_on s (far s b) ∙ b,
+          put_else r.owners.taker bit (Some v.caller) s (far s b),
+        ))
+        (λ s k x. inl (record {
+          taker = put_else r.owners.taker bit (Some v.caller) s (far s x.bit) ∙ x.taker;
+          generation = x.generation;
+          session = x.session;
+          left = x.left;
+          bit = bit_on s (far s x.bit) ∙ x.bit;
+        })) in
         let slots : KeepsSlots z me v p r.memory r.owners m' o' = (λ s g h q left b. dite (ℕ_discrete s bit)
         (λ c. inl (ap (put r.owners.holder bit me) c ∙ put_here r.owners.holder bit me, (l, c)))
         (λ n. inr (
@@ -125,18 +115,10 @@ module _ (z : Shape) (me : ℕ) (v : View) (l : v.live ≡ true) (ws : List ℕ)
         (world_bits z r.memory r.machine r.world next (λ s b. dite (ℕ_discrete s bit)
         (λ c. absurd (let y = without.zero in let q : bit_at next bit ≡ 1 = ap (bit_at next) (sym c) ∙ b in omega arith))
         (λ n. sym (bit_on s n) ∙ b)))
-        (record {
-          inside = mine.inside;
-          mark = mine.mark;
-          closes = λ c j. closing_as (mine.closes c j);
-          once = mine.once;
-          sweeps = λ c j. sweeping_as (mine.sweeps c j);
-          swept_once = mine.swept_once;
-          hand = (f.0, record { owner = put_here r.owners.holder bit me; slot = low; bit = without.zero; session = f.1; left = f.2 });
-          took = put_here r.owners.taker bit (Some v.caller);
-          pages = mine.pages;
-          number = number_stays z ws vs r me v at l [] m' o' p d same refl (λ k. refl) (λ k. refl) (λ k. refl);
-        })
+        (work_with mine.work
+        (f.0, record { owner = put_here r.owners.holder bit me; slot = low; bit = without.zero; session = f.1; left = f.2 })
+        (put_here r.owners.taker bit (Some v.caller)))
+        (number_stays z ws vs r me v at l [] m' o' p d same refl (λ k. refl) (λ k. refl) (λ k. refl))
 
     taking : (b c : Bool) → (found == e) ≡ b → (bit_at e bit == 1) ≡ c
         → Made z ws vs me v i (either b next found) (record v { hand = hand_taken (if b then c else false) bit v.hand }) [] fs
@@ -168,27 +150,13 @@ module _ (z : Shape) (me : ℕ) (v : View) (l : v.live ≡ true) (ws : List ℕ)
       → Made z ws vs me v i (get_or ws i 0) (record v { hand = learnt s (get_or ws i 0 / 2 ^ 32) }) [] none_noted
   learning s in_hand i is =
       let h : HasInHand z r.memory.bits r.memory.sessions r.owners.holder me (taken s) =
-      subst (HasInHand z r.memory.bits r.memory.sessions r.owners.holder me) in_hand mine.hand in
+      subst (HasInHand z r.memory.bits r.memory.sessions r.owners.holder me) in_hand mine.work.hand in
       let x : ℕ = get_or ws i 0 in
       let word : x ≡ session_code z.generations (free h.0) (r.memory.counts s) =
       ap (λ (j : ℕ). get_or ws j 0) is ∙ (r.shows.sessions s h.1.slot ∙ ap (λ (y : Session). session_code z.generations y (r.memory.counts s)) h.1.session) in
       let gen : h.0 ≡ x / 2 ^ 32 = sym (ap (λ (n : ℕ). n / 2 ^ 32) word ∙ generation_of h.0 (r.memory.counts s) h.1.left) in
       let p : View = record v { hand = learnt s (x / 2 ^ 32) } in
-      let d : Moved me z v.caller r.memory r.machine r.owners [] r.memory r.owners = record {
-        allowed = tt;
-        marks = λ k h. refl;
-        draw = refl;
-        who = λ k. refl;
-        rank = λ k. refl;
-        seat = λ k. refl;
-        own = record { owner = refl; bit = refl; term = refl };
-        numbers = λ n b f. (refl, b, refl);
-        closers = λ b q h. (refl, tt);
-        sweepers = λ b q h n. (refl, stays_ended r.memory b h);
-        holders = λ s g q b h. (refl, q, b, refl);
-        taken = λ s k x. inl x;
-        pages = pages_still;
-      } in
+      let d : Moved me z v.caller r.memory r.machine r.owners [] r.memory r.owners = calls_moved tt (λ b q h. tt) in
       keeps z ws (set ws i x) vs r me v p [] none_noted r.memory r.owners at l d (same_but) no_draw tt r.pages
       (λ b h. inr (h, refl, (λ y. y)))
       (λ b q h. inr (q, h, refl, (λ y. y)))
@@ -197,24 +165,16 @@ module _ (z : Shape) (me : ℕ) (v : View) (l : v.live ≡ true) (ws : List ℕ)
       (λ b. refl)
       (numbers_stay z ws vs r me v at l [] r.memory r.owners p d same_but refl (λ k. refl) (λ k. refl) (λ k. refl))
       (shows_same z r.valid ws r.memory r.shows i) r.world
+      (work_with mine.work
       (record {
-        inside = mine.inside;
-        mark = mine.mark;
-        closes = mine.closes;
-        once = mine.once;
-        sweeps = mine.sweeps;
-        swept_once = mine.swept_once;
-        hand = record {
-          owner = h.1.owner;
-          slot = h.1.slot;
-          bit = h.1.bit;
-          session = h.1.session ∙ ap free gen;
-          left = subst (λ (n : ℕ). n < z.generations) gen h.1.left;
-        };
-        took = subst (IsTaker r.owners.taker v.caller) in_hand mine.took;
-        pages = mine.pages;
-        number = number_stays z ws vs r me v at l [] r.memory r.owners p d same_but refl (λ k. refl) (λ k. refl) (λ k. refl);
+        owner = h.1.owner;
+        slot = h.1.slot;
+        bit = h.1.bit;
+        session = h.1.session ∙ ap free gen;
+        left = subst (λ (n : ℕ). n < z.generations) gen h.1.left;
       })
+      (subst (IsTaker r.owners.taker v.caller) in_hand mine.work.took))
+      (number_stays z ws vs r me v at l [] r.memory r.owners p d same_but refl (λ k. refl) (λ k. refl) (λ k. refl))
 
 pub take_steps : (z : Shape) (me : ℕ) (v : View) (e bit next : ℕ) → v.live ≡ true → v.shape ≡ z → v.hand ≡ nothing → bit < z.slots → IsWithout e bit next
     → MayStep z (TakesSlot e bit) me v (place_at z bits_place) (λ n. either (n == e) next n)

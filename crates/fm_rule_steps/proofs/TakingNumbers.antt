@@ -145,8 +145,12 @@ module _ (z : Shape) (me : ℕ) (v : View) (l : v.live ≡ true) (ws : List ℕ)
         let mine_far : v.caller.number ≢ n = far v.caller.number mine.bit in
         let free = r.free_numbers n was in
         turns z me v l ws vs r at numbers' r.memory.terms number' (number_taken n) i next fs none_drawn no_slots looks
-        (record { owner = put_else r.owners.number n me v.caller.number mine_far; bit = bit_on v.caller.number mine_far; term = refl })
-        (λ k b h. (put_else r.owners.number n me k (far k b), bit_on k (far k b) ∙ b, refl))
+        (record {
+          owner = put_else r.owners.number n me v.caller.number mine_far;
+          bit = bit_on v.caller.number mine_far;
+          term = refl;
+          others = λ k b h. (put_else r.owners.number n me k (far k b), bit_on k (far k b) ∙ b, refl);
+        })
         (record {
           kept = λ k h b. dite (ℕ_discrete k n)
               (λ q. inl (ap number' q ∙ put_here r.owners.number n me, (l, inr q)))

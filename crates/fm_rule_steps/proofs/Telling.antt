@@ -151,7 +151,7 @@ module _ (z : Shape) (me : ℕ) (v : View) (l : v.live ≡ true) (ws : List ℕ)
       let seat : r.owners.holder s ≡ me = sym x.seated ∙ (ap r.owners.seat e ∙ mine.seated) in
       let same : y.view ≡ v = some-injective y.view v (sym y.there ∙ (ap (get_elem? vs) seat ∙ at)) in
       subst (HasSlot s) (ap (λ (u : View). u.hand) same ∙ none) y.holds.1) in
-      let t = takes y.view.hand y.holds.1 x.hand x.took in
+      let t = takes y.view.hand y.holds.1 x.work.hand x.work.took in
       (y.view.caller, record { taker = t; generation = 0; session = f; left = left; bit = b }, other)
     where
       takes : (hand : Hand) → HasSlot s hand → HasInHand z r.memory.bits r.memory.sessions r.owners.holder (r.owners.holder s) hand → {c : Caller}

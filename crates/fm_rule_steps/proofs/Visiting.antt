@@ -28,7 +28,7 @@ use Rattle.fm_rule_facts.specs.Parts.{Swept, unread, named, wiping}
 use Rattle.fm_rule_facts.proofs.Living.{pages_end}
 use Rattle.fm_rule_steps.proofs.Quiet.{looks_with}
 use Rattle.fm_rule_steps.proofs.Knowing.{own}
-use Rattle.fm_rule_steps.proofs.Staying.{pages_still, pages_there, same_but, stays_ended, sweeps_still, slots_still, numbers_stay, number_stays}
+use Rattle.fm_rule_steps.proofs.Staying.{pages_there, same_but, sweeps_still, slots_still, numbers_stay, number_stays}
 use Rattle.fm_rule_steps.proofs.Plain.{Made}
 use Rattle.fm_rule_facts.proofs.Shown.{shows_same}
 use Rattle.fm_rule_facts.proofs.Ruling.{keeps}
@@ -36,6 +36,7 @@ use Rattle.fm_rule_facts.specs.Holds.{one_alive}
 use Rattle.fm_rule_facts.proofs.Gripping.{same_handles}
 use Rattle.fm_rule_steps.proofs.Reading.{eqb_true, eqb_false}
 use Rattle.fm_rule_steps.proofs.Closes.{Found, passed_of-found, count_of, in_advanced, advanced_in, once_advanced, in_dropped, dropped_in, once_dropped}
+use Rattle.fm_rule_facts.proofs.Leaving.{calls_moved, stays_ended}
 
 -- a sweep is there still where another one begins
 more_swept : (z : Shape) (maps : ℕ → ℕ → Option ℕ) (cells : ℕ → ℕ → ℕ) (berth : ℕ → Berth) (j : ℕ) (c : Sweep) (cs : List Sweep) (s : Swept)
@@ -75,7 +76,7 @@ module _ (z : Shape) (me : ℕ) (v : View) (l : v.live ≡ true) (sh : v.shape �
   its = passed_of-found v.closes a k has
 
   its_closing : IsClosing r.machine r.owners me its.walk
-  its_closing = mine.closes its.walk its.there
+  its_closing = mine.work.closes its.walk its.there
 
   closes_now : r.machine.life a ≡ Closes
   closes_now = ap r.machine.life (sym its.arena) ∙ its_closing.life
@@ -96,21 +97,7 @@ module _ (z : Shape) (me : ℕ) (v : View) (l : v.live ≡ true) (sh : v.shape �
   walks n =
       let p : View = record v { closes = advanced a v.closes } in
       let same : Same v p = same_but in
-      let d : Moved me z v.caller r.memory r.machine r.owners [] r.memory r.owners = record {
-        allowed = tt;
-        marks = λ k h. refl;
-        draw = refl;
-        who = λ k. refl;
-        rank = λ k. refl;
-        seat = λ k. refl;
-        own = record { owner = refl; bit = refl; term = refl };
-        numbers = λ n b f. (refl, b, refl);
-        closers = λ b f h. (refl, tt);
-        sweepers = λ b f h n. (refl, stays_ended r.memory b h);
-        holders = λ s g f b h. (refl, f, b, refl);
-        taken = λ s k x. inl x;
-        pages = pages_still;
-      } in
+      let d : Moved me z v.caller r.memory r.machine r.owners [] r.memory r.owners = calls_moved tt (λ b f h. tt) in
       keeps z ws (set ws i found) vs r me v p [] fs r.memory r.owners at l d same no_draws
       tt r.pages
       (λ b h. inr (h, refl, (λ (y : HasClose b v). let w = advanced_in a y.1.0 v.closes y.1.1 in (y.0, (w.0, w.1, w.2 ∙ y.1.2)))))
@@ -121,21 +108,21 @@ module _ (z : Shape) (me : ℕ) (v : View) (l : v.live ≡ true) (sh : v.shape �
       (numbers_stay z ws vs r me v at l [] r.memory r.owners p d same refl (λ k. refl) (λ k. refl) (λ k. refl))
       (shows_same z r.valid ws r.memory r.shows i) r.world
       (record {
-        inside = mine.inside;
-        mark = mine.mark;
-        closes = λ c j. let w = in_advanced a c v.closes mine.once j in onward c w.before (mine.closes w.before w.there) w.there w.how;
-        once = once_advanced a v.closes mine.once;
-        sweeps = mine.sweeps;
-        swept_once = mine.swept_once;
-        hand = mine.hand;
-        took = mine.took;
-        pages = mine.pages;
-        number = number_stays z ws vs r me v at l [] r.memory r.owners p d same refl (λ k. refl) (λ k. refl) (λ k. refl);
+        inside = mine.work.inside;
+        mark = mine.work.mark;
+        closes = λ c j. let w = in_advanced a c v.closes mine.work.once j in onward c w.before (mine.work.closes w.before w.there) w.there w.how;
+        once = once_advanced a v.closes mine.work.once;
+        sweeps = mine.work.sweeps;
+        swept_once = mine.work.swept_once;
+        hand = mine.work.hand;
+        took = mine.work.took;
+        pages = mine.work.pages;
       })
+      (number_stays z ws vs r me v at l [] r.memory r.owners p d same refl (λ k. refl) (λ k. refl) (λ k. refl))
     where
       -- the close of an arena is the one that was found
       its_count : (b : Close) → In b v.closes → b.arena ≡ a → b.passed ≡ k
-      its_count b j e = count_of v.closes a k b j e has mine.once
+      its_count b j e = count_of v.closes a k b j e has mine.work.once
 
       onward : (c b : Close) → IsClosing r.machine r.owners me b → In b v.closes → ((b.arena ≡ a) × (c ≡ one_more b)) ⊎ ((c ≡ b) × (c.arena ≢ a))
           → IsClosing r.machine r.owners me c
@@ -161,21 +148,8 @@ module _ (z : Shape) (me : ℕ) (v : View) (l : v.live ≡ true) (sh : v.shape �
       let p : View = record v { closes = dropped a v.closes; sweeps = walk_of a 0 ∷ v.sweeps } in
       let ok : MayMake (limit_of z) r.machine v.caller es = (refl, (closes_now, nobody), refl, tt) in
       let same : Same v p = same_but in
-      let d : Moved me z v.caller r.memory r.machine r.owners es r.memory r.owners = record {
-        allowed = ok;
-        marks = λ k h. refl;
-        draw = refl;
-        who = λ k. refl;
-        rank = λ k. refl;
-        seat = λ k. refl;
-        own = record { owner = refl; bit = refl; term = refl };
-        numbers = λ n b f. (refl, b, refl);
-        closers = λ b f h. (refl, ((λ e. h (ap r.owners.closer (sym e ∙ sym its.arena) ∙ its_closing.owner)), tt));
-        sweepers = λ b f h n. (refl, stays_ended r.memory b h);
-        holders = λ s g f b h. (refl, f, b, refl);
-        taken = λ s k x. inl x;
-        pages = pages_still;
-      } in
+      let d : Moved me z v.caller r.memory r.machine r.owners es r.memory r.owners =
+      calls_moved ok (λ b f h. ((λ e. h (ap r.owners.closer (sym e ∙ sym its.arena) ∙ its_closing.owner)), tt)) in
       let other : (b : ArenaId) → put_at r.machine.life a Over b ≡ Closes → b ≢ a =
       (λ b. at_cases r.machine.life a Over b (λ x. x ≡ Closes → b ≢ a) (λ e q. absurd (cc)) (λ ne q. ne)) in
       keeps z ws (set ws i found) vs r me v p es fs r.memory r.owners at l d same no_draws
@@ -199,13 +173,13 @@ module _ (z : Shape) (me : ℕ) (v : View) (l : v.live ≡ true) (sh : v.shape �
       (numbers_stay z ws vs r me v at l es r.memory r.owners p d same refl (λ k. refl) (λ k. refl) (λ k. refl))
       (shows_same z r.valid ws r.memory r.shows i) (world_end z r.memory r.machine r.world a closes_now nobody)
       (record {
-        inside = mine.inside;
-        mark = mine.mark;
+        inside = mine.work.inside;
+        mark = mine.work.mark;
         closes = λ c j.
-            let y = in_dropped a c v.closes mine.once j in
-            closing_on (limit_of z) r.history v.caller r.machine es ok me r.owners r.owners c (mine.closes c y.0) refl
+            let y = in_dropped a c v.closes mine.work.once j in
+            closing_on (limit_of z) r.history v.caller r.machine es ok me r.owners r.owners c (mine.work.closes c y.0) refl
             ((λ e. y.1 (sym e)), tt);
-        once = once_dropped a v.closes mine.once;
+        once = once_dropped a v.closes mine.work.once;
         sweeps = λ c. ⊎_elim
             (λ (e : c ≡ walk_of a 0). subst (IsSweeping z r.memory (moved_by r.machine es) r.owners me) (sym e) (record {
               owner = closer_me;
@@ -216,25 +190,25 @@ module _ (z : Shape) (me : ℕ) (v : View) (l : v.live ≡ true) (sh : v.shape �
               reset = λ h. absurd (omega arith);
             }))
             (λ (j : In c v.sweeps).
-            let y = mine.sweeps c j in
+            let y = mine.work.sweeps c j in
             sweeping_on (limit_of z) v.caller r.memory r.machine es r.memory ok
-            (λ k b i. (r.world.marked k b i).stands) z me r.owners r.owners c y refl (stays_ended r.memory c.arena y.session));
+            (λ k b i. (r.world.marked k b i).stands) z me r.owners r.owners c y refl (stays_ended c.arena y.session));
         swept_once = (
           (λ c j e.
-              let y : r.machine.life a ≡ Over = ap r.machine.life (sym e) ∙ (mine.sweeps c j).life in
+              let y : r.machine.life a ≡ Over = ap r.machine.life (sym e) ∙ (mine.work.sweeps c j).life in
               let q : Closes ≡ Over = sym closes_now ∙ y in absurd (cc)),
-          mine.swept_once,
+          mine.work.swept_once,
         );
-        hand = mine.hand;
-        took = mine.took;
+        hand = mine.work.hand;
+        took = mine.work.took;
         pages = record {
-          read = mine.pages.read;
-          claims = mine.pages.claims;
-          lone = mine.pages.lone;
-          sweep = more_swept z r.memory.maps r.memory.cells r.owners.berth me (walk_of a 0) v.sweeps v.swept mine.pages.sweep;
+          read = mine.work.pages.read;
+          claims = mine.work.pages.claims;
+          lone = mine.work.pages.lone;
+          sweep = more_swept z r.memory.maps r.memory.cells r.owners.berth me (walk_of a 0) v.sweeps v.swept mine.work.pages.sweep;
         };
-        number = number_stays z ws vs r me v at l es r.memory r.owners p d same refl (λ k. refl) (λ k. refl) (λ k. refl);
       })
+      (number_stays z ws vs r me v at l es r.memory r.owners p d same refl (λ k. refl) (λ k. refl) (λ k. refl))
 
   visits : (b c : Bool) → (found == mark_of a) ≡ b → (k + 1 == v.shape.passes) ≡ c
       → Made z ws vs me v i found (record v {
@@ -252,5 +226,5 @@ visit_steps z me v a k l sh has low = record {
   may = λ ws vs r at.
       let x : ℕ = get_or ws (place_at z (mark k)) 0 in
       let g = visits z me v l sh a k has low ws vs r at (x == mark_of a) (k + 1 == v.shape.passes) refl refl in
-      (g.0, g.1, record { gives = g.2; learns = λ e. r.shows.marks k low ∙ ap own_word (ap r.memory.marks e ∙ ((r.each me v at).owns l).mark) });
+      (g.0, g.1, record { gives = g.2; learns = λ e. r.shows.marks k low ∙ ap own_word (ap r.memory.marks e ∙ ((r.each me v at).owns l).work.mark) });
 }

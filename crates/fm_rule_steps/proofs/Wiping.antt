@@ -96,7 +96,7 @@ module _ (z : Shape) (me : ℕ) (v : View) (l : v.live ≡ true) (a : ArenaId) (
             world = r.world;
             sweeps = sweeps_more z me v l a k has ws vs r at r.memory.page_bits r.memory.maps r.memory.cells r.owners.berth (λ b n h. h)
                 (none_read (r.memory.maps a.slot k) (sym is_map ∙ eqb_true seen 0 e)) low;
-            once = once_advanced a v.sweeps mine.swept_once;
+            once = once_advanced a v.sweeps mine.work.swept_once;
             of_page = tt;
           })
       looks false e = sweep_on z me v l a k has ws vs r at map_at seen r.memory.page_bits r.memory.maps r.memory.cells r.memory.given r.owners.berth
@@ -114,8 +114,8 @@ module _ (z : Shape) (me : ℕ) (v : View) (l : v.live ≡ true) (a : ArenaId) (
             keep = λ q j b. inr (refl, nothing_held q (r.owners.berth q) (record v { sweeps = v.sweeps; swept = named a k (seen - 1) }) refl refl);
             shows = shows_same z r.valid ws r.memory r.shows map_at;
             world = r.world;
-            sweeps = mine.sweeps;
-            once = mine.swept_once;
+            sweeps = mine.work.sweeps;
+            once = mine.work.swept_once;
             of_page = (next_here z me v l a k has ws vs r at, page_read (r.memory.maps a.slot k) seen is_map (eqb_false seen 0 e));
           })
 
@@ -124,7 +124,7 @@ module _ (z : Shape) (me : ℕ) (v : View) (l : v.live ≡ true) (a : ArenaId) (
     unmaps : (p : ℕ) → v.swept ≡ named a k p → Made z ws vs me v map_at 0 (record v { sweeps = v.sweeps; swept = wiping a k p 0 }) [] none_noted
     unmaps p is =
         let h : IsNext v.sweeps a k × (r.memory.maps a.slot k ≡ Some p) =
-        subst (HasSwept z r.memory.maps r.memory.cells r.owners.berth me v.sweeps) is mine.pages.sweep in
+        subst (HasSwept z r.memory.maps r.memory.cells r.owners.berth me v.sweeps) is mine.work.pages.sweep in
         let maps' : ℕ → ℕ → Option ℕ = put r.memory.maps a.slot (put (r.memory.maps a.slot) k None) in
         let berth' : ℕ → Berth = put r.owners.berth p (unmapped me a k) in
         let here : r.owners.berth p ≡ mapped a.slot k = r.pages.map_is a.slot k p h.1 in
@@ -151,7 +151,7 @@ module _ (z : Shape) (me : ℕ) (v : View) (l : v.live ≡ true) (a : ArenaId) (
           shows = shows_map z r.valid ws r.memory r.shows a.slot k None slot_low low;
           world = world_pages z r.memory r.machine r.world r.memory.page_bits maps' r.memory.cells;
           sweeps = sweeps_kept z me v l a k has ws vs r at r.memory.page_bits maps' r.memory.cells berth' (none_stays r.memory.maps a.slot k);
-          once = mine.swept_once;
+          once = mine.work.swept_once;
           of_page = record {
             next = next_here z me v l a k has ws vs r at;
             owner = put_here r.owners.berth p (unmapped me a k);
@@ -164,7 +164,7 @@ module _ (z : Shape) (me : ℕ) (v : View) (l : v.live ≡ true) (a : ArenaId) (
 
     module _ (p w : ℕ) (is : v.swept ≡ wiping a k p w) where
       abbrev held : IsWiped z r.memory.maps r.memory.cells r.owners.berth me v.sweeps a k p w
-      held = subst (HasSwept z r.memory.maps r.memory.cells r.owners.berth me v.sweeps) is mine.pages.sweep
+      held = subst (HasSwept z r.memory.maps r.memory.cells r.owners.berth me v.sweeps) is mine.work.pages.sweep
 
       page_low : p < z.pages
       page_low = (r.pages.unmapped_is p me k a held.owner).page
@@ -196,7 +196,7 @@ module _ (z : Shape) (me : ℕ) (v : View) (l : v.live ≡ true) (a : ArenaId) (
             shows = shows_cell z r.valid ws r.memory r.shows p w 0 page_low fits;
             world = world_pages z r.memory r.machine r.world r.memory.page_bits r.memory.maps cells';
             sweeps = sweeps_kept z me v l a k has ws vs r at r.memory.page_bits r.memory.maps cells' r.owners.berth (λ b n h. h);
-            once = mine.swept_once;
+            once = mine.work.swept_once;
             of_page = record {
               next = next_here z me v l a k has ws vs r at;
               owner = held.owner;
@@ -270,7 +270,7 @@ module _ (z : Shape) (me : ℕ) (v : View) (l : v.live ≡ true) (a : ArenaId) (
             shows = shows_page_bits z r.valid ws r.memory r.shows (p / 64) word group;
             world = world_pages z r.memory r.machine r.world bits' r.memory.maps r.memory.cells;
             sweeps = sweeps_more z me v l a k has ws vs r at bits' r.memory.maps r.memory.cells berth' (λ b n h. h) held.empty low;
-            once = once_advanced a v.sweeps mine.swept_once;
+            once = once_advanced a v.sweeps mine.work.swept_once;
             of_page = tt;
           })
         where
