@@ -29,10 +29,9 @@ use Rattle.fm_rule_facts.proofs.Shown.{shows_same, shows_given}
 use Rattle.fm_rule_steps.proofs.Reading.{eqb_true}
 use Rattle.fm_rule_steps.proofs.Quiet.{looks_on}
 use Rattle.fm_rule_steps.proofs.Knowing.{own}
-use Rattle.fm_rule_steps.proofs.Plain.{Made}
+use Rattle.fm_rule_steps.proofs.Plain.{Made, words_left}
 use Rattle.fm_base.proofs.Growing.{le-rounded_up, power_pos}
 use Rattle.fm_rule_steps.proofs.Reaching.{here, stands, fit, apart, act}
-use Rattle.fm_rule_facts.proofs.Leaving.{stays_ended}
 
 module _ (z : Shape) (me : ℕ) (v : View) (l : v.live ≡ true) (a : ArenaId) (ins : v.inside ≡ Some a) where
   -- every part that has a byte below the new count was read or mapped by the pass
@@ -62,39 +61,31 @@ module _ (z : Shape) (me : ℕ) (v : View) (l : v.live ≡ true) (a : ArenaId) (
       more : get_or ws place 0 ≡ count → r.machine.given a ≤ round + size
       more e = let up = le-rounded_up count align (power_pos align power) in let q = is_given in omega arith
 
+      -- it answers as the functions do
+      answer : get_or ws place 0 ≡ count → (b : Bool) → nat_le (round + size) (limit_of z) ≡ b
+          → (if b then Given round else NoRoom count) ≡ allocate_reply (limit_of z) (r.machine.given a) size align
+      answer e b q = ap (λ (c : Bool). if c then Given round else NoRoom count) (sym q)
+          ∙ ap (λ (n : ℕ). allocate_reply (limit_of z) n size align) (sym e ∙ is_given)
+
       -- where the count was the expected one, the range fits or it doesn't
       gives : get_or ws place 0 ≡ count → (b : Bool) → nat_le (round + size) (limit_of z) ≡ b
           → Made z ws vs me v place (if b then round + size else count) v
           (entry_of v.caller (Allocate a size align) (if b then Given round else NoRoom count) ∷ []) none_noted
       gives e true fits =
           act z me v l a ins ws vs r at place (round + size) (Allocate a size align) (Given round) r.memory.cells (put r.memory.given a.slot (round + size))
-          r.machine.word (put_at r.machine.given a (round + size)) refl (here z me v l a ins ws vs r at, power) (answer true fits) (λ b n. n) tt refl
+          r.machine.word (put_at r.machine.given a (round + size)) refl (here z me v l a ins ws vs r at, power) (answer e true fits) (λ b n. n) tt refl
           (shows_given z r.valid ws r.memory r.shows a.slot (round + size) (fit z me v l a ins ws vs r at).slot)
           (world_given z r.memory r.machine r.world a (round + size) (stands z me v l a ins ws vs r at))
           (pages_given z (loans_of r.history) r.memory.page_bits r.memory.maps r.memory.cells r.owners.berth r.memory.sessions r.machine.life r.machine.word
           r.machine.given r.world.sessions r.pages a (round + size) (stands z me v l a ins ws vs r at) (more e) (covered e fits))
-          (λ q j b n. refl)
-          (λ b o f. record {
-            session = f;
-            maps = λ i. refl;
-            given = put_else r.memory.given a.slot (round + size) b.slot
-                (apart z me v l a ins ws vs r at b f o);
+          (record {
+            given = λ b o f. put_else r.memory.given a.slot (round + size) b.slot (apart z me v l a ins ws vs r at b f o);
+            cells = λ q j b n. refl;
           })
-        where
-          answer : (b : Bool) → nat_le (round + size) (limit_of z) ≡ b
-              → (if b then Given round else NoRoom count) ≡ allocate_reply (limit_of z) (r.machine.given a) size align
-          answer b q = ap (λ (c : Bool). if c then Given round else NoRoom count) (sym q)
-              ∙ ap (λ (n : ℕ). allocate_reply (limit_of z) n size align) (sym e ∙ is_given)
       gives e false fits =
           act z me v l a ins ws vs r at place count (Allocate a size align) (NoRoom count) r.memory.cells r.memory.given
-          r.machine.word r.machine.given refl (here z me v l a ins ws vs r at, power) (answer false fits) (λ b n. n) tt refl
-          (subst (λ (x : ℕ). Shows z (set ws place x) r.memory) e (shows_same z r.valid ws r.memory r.shows place)) r.world r.pages
-          (λ q j b n. refl) (λ b o f. stays_ended b f)
-        where
-          answer : (b : Bool) → nat_le (round + size) (limit_of z) ≡ b
-              → (if b then Given round else NoRoom count) ≡ allocate_reply (limit_of z) (r.machine.given a) size align
-          answer b q = ap (λ (c : Bool). if c then Given round else NoRoom count) (sym q)
-              ∙ ap (λ (n : ℕ). allocate_reply (limit_of z) n size align) (sym e ∙ is_given)
+          r.machine.word r.machine.given refl (here z me v l a ins ws vs r at, power) (answer e false fits) (λ b n. n) tt refl
+          (subst (λ (x : ℕ). Shows z (set ws place x) r.memory) e (shows_same z r.valid ws r.memory r.shows place)) r.world r.pages words_left
 
       -- another count was found
       misses : Made z ws vs me v place (get_or ws place 0) v [] none_noted

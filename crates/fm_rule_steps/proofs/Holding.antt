@@ -9,16 +9,16 @@ use Rattle.fm_words.specs.Sessions.{session_word}
 use Rattle.fm_base.specs.declared.arena_id.ArenaId.{ArenaId}
 use Rattle.fm_base.specs.declared.kind.Kind.TheVariants.{Automatic}
 use Rattle.fm_base.specs.Arenas.{MayUse}
-use Rattle.fm_base.specs.Calls.{Hold, Unhold, Reply, Fine, Closed, TooManyHolds, Entry, entry_of}
+use Rattle.fm_base.specs.Calls.{Call, Hold, Unhold, Reply, Fine, Closed, TooManyHolds, Entry, entry_of}
 use Rattle.fm_base.specs.Machine.{most_holds}
-use Rattle.fm_base_machine.specs.Functions.{Stage, Fresh, Lives, Closes, Over, Machine, put, moved, hold_stage}
+use Rattle.fm_base_machine.specs.Functions.{Stage, Fresh, Lives, Closes, Over, Machine, put, moved, hold_stage, put_at, MayBy, reply_by}
 use Rattle.fm_rule_facts.specs.declared.step.Step.TheVariants.{Holds, Unholds}
-use Rattle.fm_rule_facts.specs.Views.{View, Fits, In, IsKnown}
+use Rattle.fm_rule_facts.specs.Views.{View, Fits, In, IsKnown, limit_of}
 use Rattle.fm_rule_facts.specs.Words.{alive_word, alive_holds, hold_found, held_by, held_word}
-use Rattle.fm_rule_facts.specs.Holds.{grips, with_grips, holds_after, released, holds_of}
+use Rattle.fm_rule_facts.specs.Holds.{grips, with_grips, holds_after, released, holds_of, how_many}
 use Rattle.fm_rule_facts.specs.Steps.{part, entries, noted, none_noted, where_found}
 use Rattle.fm_rule_facts.specs.Facts.{session_code, Shows, Owns, Rule}
-use Rattle.fm_rule_facts.specs.Moves.{MayStep}
+use Rattle.fm_rule_facts.specs.Moves.{MayStep, Ends, LendsBy}
 use Rattle.fm_rule_facts.proofs.Worlds.{world_count}
 use Rattle.fm_rule_facts.proofs.Shown.{shows_count}
 use Rattle.fm_rule_facts.proofs.Summing.{total-has, one_more_hold, some_hold, one_hold_less}
@@ -27,8 +27,8 @@ use Rattle.fm_rule_steps.proofs.Reading.{kind_below, Says, says, hold_says, eqb_
 use Rattle.fm_rule_facts.proofs.Founds.{no_draw}
 use Rattle.fm_rule_steps.proofs.Quiet.{answers_on, looks_on}
 use Rattle.fm_rule_steps.proofs.Knowing.{own, known_now}
-use Rattle.fm_rule_steps.proofs.Staying.{same_but}
-use Rattle.fm_rule_steps.proofs.Plain.{Made, plain}
+use Rattle.fm_rule_steps.proofs.Plain.{Made, plain, memory_left, view_left, words_left}
+use Rattle.fm_rule_facts.specs.Loans.{loans_by, loans_of}
 
 -- one hold more in a session word
 more_word : (a : ArenaId) (n : ℕ) → alive_word a n + 1 ≡ alive_word a (n + 1)
@@ -84,6 +84,30 @@ module _ (z : Shape) (me : ℕ) (v : View) (l : v.live ≡ true) (a : ArenaId) w
     same_grips : (x : ℕ) (es : List Entry) → Made z ws vs me v i x v es none_noted → Made z ws vs me v i x (held_as gs) es none_noted
     same_grips x es m = subst (λ (p : View). Made z ws vs me v i x p es none_noted) (sym (with_same a v)) m
 
+    -- the call makes the count of holds n, of which the pass has these
+    counts_to : (x n : ℕ) (hs : List ArenaId) (call : Call) → MayBy (limit_of z) r.machine v.caller call → Fine ≡ reply_by (limit_of z) r.machine call
+        → ((b : ArenaId) → ¬ (Ends call b)) → LendsBy z.page_words r.machine (loans_of r.history) call
+        → loans_by (loans_of r.history) call ≡ loans_of r.history
+        → moved r.machine v.caller call Fine ≡ record r.machine { holds = put_at r.machine.holds a n } → r.machine.life a ≡ Lives → n ≤ 65535
+        → x ≡ alive_word a n → ((b : ArenaId) → how_many b hs + r.machine.holds b ≡ how_many b gs + put_at r.machine.holds a n b)
+        → Made z ws vs me v i x (held_as hs) (entry_of v.caller call Fine ∷ []) none_noted
+    counts_to x n hs call may answer ends lends loans moves al few word sum =
+        plain z ws vs r me v at l i x (held_as hs) (entry_of v.caller call Fine ∷ []) none_noted no_draw
+        (record r.memory { counts = put r.memory.counts a.slot n }) (record r.machine { holds = put_at r.machine.holds a n }) (record {
+          calls = record { may = (refl, may, answer, tt); ends = λ b. (ends b, tt); lends = (lends, tt); loans = loans; moves = moves; life = refl };
+          memory = memory_left;
+          view = view_left;
+          words = words_left;
+          pages = r.pages;
+          marks = λ k h. refl;
+          reads = λ a e x i. (e, i);
+          holds = keeps_grips v l r.machine a hs n sum;
+          shows = shown x n al word;
+          world = world_count z r.memory r.machine r.world a n al few;
+          inside = mine.work.inside;
+          mark = mine.work.mark;
+        })
+
     -- ---- a hold is taken
 
     module _ (use_it : MayUse a v.caller) where
@@ -96,43 +120,12 @@ module _ (z : Shape) (me : ℕ) (v : View) (l : v.live ≡ true) (a : ArenaId) w
           → Made z ws vs me v i (found + 1) (held_as (a ∷ gs)) (entry_of v.caller (Hold a) Fine ∷ []) none_noted
       takes n al is few =
           let h : ℕ = r.machine.holds a in
-          let p : View = held_as (a ∷ gs) in
-          let e : Entry = entry_of v.caller (Hold a) Fine in
           let not_all : (h == most_holds) ≡ false = ne_eqb h most_holds (λ q. few (is ∙ q)) in
           let answer : Fine ≡ hold_stage (r.machine.life a) h =
           sym (ap (λ (b : Bool). if b then TooManyHolds else Fine) not_all) ∙ ap (λ (x : Stage). hold_stage x h) (sym al) in
           let below : h + 1 ≤ 65535 = (let f = r.world.counts.few a in let q : h ≢ 65535 = (λ q. few (is ∙ q)) in omega arith) in
-          plain z ws vs r me v at l i (found + 1) p (e ∷ []) none_noted no_draw (record r.memory { counts = put r.memory.counts a.slot (h + 1) }) (record {
-            may = (refl, (known, use_it), answer, tt);
-            ends = λ b. ((λ h. h), tt);
-            marks = λ k h. refl;
-            numbers = λ k. refl;
-            number = refl;
-            terms = λ k. refl;
-            draw = refl;
-            still = λ s g f. f;
-            back = λ s g f. f;
-            bits = refl;
-            same = same_but;
-            closes = refl;
-            hand = refl;
-            sweeps = refl;
-            ended = λ b o f. record { session = f; maps = λ i. refl; given = refl };
-            shown = λ b f. f;
-            was = λ b h. h;
-            holds = keeps_grips v l r.machine a (a ∷ gs) (h + 1) (λ b. one_more_hold a b gs r.machine.holds);
-            lends = (tt, tt);
-            pages = r.pages;
-            maps = refl;
-            cells = λ p j b w. refl;
-            reads = λ a e x i. (e, i);
-            paged = refl;
-            swept = refl;
-            shows = shown (found + 1) (h + 1) al (ap (λ (x : ℕ). x + 1) (is_word al) ∙ more_word a h);
-            world = world_count z r.memory r.machine r.world a (h + 1) al below;
-            inside = mine.work.inside;
-            mark = mine.work.mark;
-          })
+          counts_to (found + 1) (h + 1) (a ∷ gs) (Hold a) (known, use_it) answer (λ b q. q) tt refl refl al below
+          (ap (λ (x : ℕ). x + 1) (is_word al) ∙ more_word a h) (λ b. one_more_hold a b gs r.machine.holds)
 
       -- the expected word was found
       answers : (o : Option ℕ) → Says r.machine a o
@@ -180,43 +173,13 @@ module _ (z : Shape) (me : ℕ) (v : View) (l : v.live ≡ true) (a : ArenaId) w
     drops has held =
         let h : ℕ = r.machine.holds a in
         let x : ℕ = (found + (2 ^ 64 - 1)) % 2 ^ 64 in
-        let p : View = held_as (released a gs) in
         let al = lives held in
         let few = r.world.counts.few a in
         let low : a.generation < 2 ^ 32 = (let g = fit.generation in let y = r.valid.generations.1 in omega arith) in
         let owner : a.owner < 4096 = (let g = fit.owner in let y = r.valid.passes.1 in omega arith) in
-        plain z ws vs r me v at l i x p (entry_of v.caller (Unhold a) Fine ∷ []) none_noted no_draw
-        (record r.memory { counts = put r.memory.counts a.slot (h - 1) }) (record {
-          may = (refl, (al, held), refl, tt);
-          ends = λ b. ((λ h. h), tt);
-          marks = λ k h. refl;
-          numbers = λ k. refl;
-          number = refl;
-          terms = λ k. refl;
-          draw = refl;
-          still = λ s g f. f;
-          back = λ s g f. f;
-          bits = refl;
-          same = same_but;
-          closes = refl;
-          hand = refl;
-          sweeps = refl;
-          ended = λ b o f. record { session = f; maps = λ i. refl; given = refl };
-          shown = λ b f. f;
-          was = λ b h. h;
-          holds = keeps_grips v l r.machine a (released a gs) (h - 1) (λ b. one_hold_less a b gs r.machine.holds has held);
-          lends = (tt, tt);
-          pages = r.pages;
-          maps = refl;
-          cells = λ p j b w. refl;
-          reads = λ a e x i. (e, i);
-          paged = refl;
-          swept = refl;
-          shows = shown x (h - 1) al (ap (λ (y : ℕ). (y + (2 ^ 64 - 1)) % 2 ^ 64) (is_word al) ∙ less_word a h low owner held few);
-          world = world_count z r.memory r.machine r.world a (h - 1) al (omega arith);
-          inside = mine.work.inside;
-          mark = mine.work.mark;
-        })
+        counts_to x (h - 1) (released a gs) (Unhold a) (al, held) refl (λ b q. q) tt refl refl al (omega arith)
+        (ap (λ (y : ℕ). (y + (2 ^ 64 - 1)) % 2 ^ 64) (is_word al) ∙ less_word a h low owner held few)
+        (λ b. one_hold_less a b gs r.machine.holds has held)
 
   -- an arena that the pass holds is alive
   pub its_alive : (ws : List ℕ) (vs : List View) (r : Rule z ws vs) → get_elem? vs me ≡ some v → In a gs → r.machine.life a ≡ Lives

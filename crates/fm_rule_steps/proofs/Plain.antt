@@ -1,5 +1,5 @@
 -- Steps that leave closes and hands as they are.
-use Rattle.std.proofs.Common.{◌≡◌, ◌≢◌, ℕ, true, List, ◌++◌, length, set, sym, refl, ap, ◌∙◌, subst, inl, inr, Some, ◌/◌, ◌%◌}
+use Rattle.std.proofs.Common.{◌≡◌, ◌≢◌, ℕ, true, List, ◌++◌, length, set, sym, refl, ap, ◌∙◌, subst, inl, inr, Some, ◌/◌, ◌%◌, [], Option}
 use mathlib.Core.Option.{some}
 use lib.ListN.{get_elem?}
 use Rattle.fm_words.specs.declared.shape.Shape.{Shape}
@@ -7,23 +7,23 @@ use Rattle.fm_base.specs.declared.caller.Caller.{Caller}
 use Rattle.fm_base.specs.declared.arena_id.ArenaId.{ArenaId}
 use Rattle.fm_base.specs.Calls.{Entry}
 use Rattle.fm_base.specs.Finds.{Find, Close, Sweep}
-use Rattle.fm_base_machine.specs.Functions.{Closes, Over}
+use Rattle.fm_base_machine.specs.Functions.{Closes, Over, Machine}
 use Rattle.fm_base_machine.specs.Steps.{moved_by}
 use Rattle.std.specs.Int.{bit_at}
 use Rattle.fm_rule_facts.specs.Hands.{Hand, IsTaker}
 use Rattle.fm_rule_facts.specs.Views.{View, In, limit_of}
-use Rattle.fm_rule_facts.specs.Facts.{Memory, free, shut, Shows, World, IsOnce, Owners, HasInHand, HasClose, Owns, Rule, IsAt, IsLone, HasSwept, HasPages, Work}
+use Rattle.fm_rule_facts.specs.Facts.{Memory, free, shut, Shows, World, IsOnce, Owners, HasInHand, HasClose, Owns, Rule, IsAt, IsLone, HasSwept, HasPages, Work, Session, Pages}
 use Rattle.fm_rule_facts.specs.Moves.{MayMake, NoEnd, StaysEnded, Moved, Same, KeepsCloses, KeepsSlots, KeepsHolds, Gives, MayLend, PagesMoved, KeepsHand}
 use Rattle.fm_rule_facts.proofs.Keeping.{closing_on, sweeping_on}
 use Rattle.fm_rule_facts.proofs.Frame.{was_over}
 use Rattle.fm_rule_facts.proofs.Founds.{NoneDrawn, NoDraw}
 use Rattle.fm_rule_facts.specs.Gone.{FoundBy}
 use Rattle.fm_rule_facts.proofs.Gone.{none_founded}
-use Rattle.fm_rule_facts.specs.Loans.{loans_of}
+use Rattle.fm_rule_facts.specs.Loans.{loans_of, Loan, loans_after}
 use Rattle.fm_rule_facts.specs.Parts.{Mapping, Swept, unread, named, wiping}
-use Rattle.fm_rule_facts.proofs.Ruling.{PagesAfter, AreLooked, unlooked, keeps_with}
+use Rattle.fm_rule_facts.proofs.Ruling.{AreLooked, unlooked, keeps_with}
 use Rattle.fm_rule_steps.proofs.Knowing.{own}
-use Rattle.fm_rule_steps.proofs.Staying.{hand_still, sweeps_still, pages_there, slots_still, numbers_stay, number_stays}
+use Rattle.fm_rule_steps.proofs.Staying.{hand_still, sweeps_still, pages_there, slots_still, numbers_stay, number_stays, same_but}
 
 module _ (z : Shape) (ws : List ℕ) (vs : List View) (r : Rule z ws vs) (me : ℕ) (v : View) (at : get_elem? vs me ≡ some v) (l : v.live ≡ true) where
   abbrev mine : Owns z r.history r.memory r.machine r.owners me v
@@ -61,13 +61,13 @@ module _ (z : Shape) (ws : List ℕ) (vs : List View) (r : Rule z ws vs) (me : �
     }
 
     -- and what its own view says then
-    pub plain_part : MayMake (limit_of z) r.machine v.caller es → ((b : ArenaId) → NoEnd es b) → Same v p → p.closes ≡ v.closes → p.sweeps ≡ v.sweeps
+    pub plain_work : MayMake (limit_of z) r.machine v.caller es → ((b : ArenaId) → NoEnd es b) → Same v p → p.closes ≡ v.closes → p.sweeps ≡ v.sweeps
         → p.hand ≡ v.hand → ((s g : ℕ) → r.memory.sessions s ≡ free g → m'.sessions s ≡ free g) → m'.bits ≡ r.memory.bits
         → ((b : ArenaId) → r.machine.life b ≡ Over → r.memory.sessions b.slot ≡ shut b → StaysEnded r.memory m' b)
         → (moved_by r.machine es).inside p.caller ≡ p.inside → m'.marks p.caller.number ≡ p.mark
         → HasPages z m'.maps m'.cells r.owners.berth me p.inside p.reads p.pages p.sweeps p.swept
         → Work z m' (moved_by r.machine es) r.owners me p
-    plain_part ok ends s cl sw hd still bits ended inside mark pages = record {
+    plain_work ok ends s cl sw hd still bits ended inside mark pages = record {
       pages = pages;
       inside = inside;
       mark = mark;
@@ -98,36 +98,69 @@ module _ (z : Shape) (ws : List ℕ) (vs : List View) (r : Rule z ws vs) (me : �
 abbrev pub Made : (z : Shape) (ws : List ℕ) (vs : List View) (me : ℕ) (v : View) (i x : ℕ) (p : View) (es : List Entry) (fs : ℕ → List Find) → Type 0
 Made z ws vs me v i x p es fs = (w : View) × (rule : Rule z (set ws i x) (set vs me w)) × Gives v p es fs w × (w.seen ≡ rule.history)
 
--- what a plain step does to the memory, the machine and its view
-pub record Plain (z : Shape) (ws : List ℕ) (vs : List View) (r : Rule z ws vs) (v : View) (i x : ℕ) (p : View) (es : List Entry) (m' : Memory) : Type 0 where
-  pub may : MayMake (limit_of z) r.machine v.caller es
+-- entries of the caller c that end no arena and leave all loans, after which the machine is t'
+pub record Calls (z : Shape) (h : List Entry) (t : Machine) (c : Caller) (es : List Entry) (t' : Machine) : Type 0 where
+  pub may : MayMake (limit_of z) t c es
   pub ends : (b : ArenaId) → NoEnd es b
-  pub marks : (k : ℕ) → k ≢ v.caller.number → m'.marks k ≡ r.memory.marks k
-  pub numbers : (k : ℕ) → m'.numbers k ≡ r.memory.numbers k
-  pub terms : (k : ℕ) → m'.terms k ≡ r.memory.terms k
-  pub draw : m'.draw ≡ r.memory.draw
-  pub still : (s g : ℕ) → r.memory.sessions s ≡ free g → m'.sessions s ≡ free g
-  pub back : (s g : ℕ) → m'.sessions s ≡ free g → r.memory.sessions s ≡ free g
-  pub bits : m'.bits ≡ r.memory.bits
+  pub lends : MayLend z.page_words t (loans_of h) es
+  pub loans : loans_after (loans_of h) es ≡ loans_of h
+  pub moves : moved_by t es ≡ t'
+  pub life : t'.life ≡ t.life
+
+-- there may be none
+pub no_calls : {z : Shape} {h : List Entry} {t : Machine} {c : Caller} → Calls z h t c [] t
+no_calls = record { may = tt; ends = λ b. tt; lends = tt; loans = refl; moves = refl; life = refl }
+
+-- what a plain step leaves of the memory
+pub record LeavesMemory (m m' : Memory) : Type 0 where
+  pub numbers : (k : ℕ) → m'.numbers k ≡ m.numbers k
+  pub terms : (k : ℕ) → m'.terms k ≡ m.terms k
+  pub draw : m'.draw ≡ m.draw
+  pub sessions : m'.sessions ≡ m.sessions
+  pub bits : m'.bits ≡ m.bits
+  pub maps : m'.maps ≡ m.maps
+
+pub memory_left : {m : Memory} {marks : ℕ → Option ArenaId} {counts given : ℕ → ℕ} {cells : ℕ → ℕ → ℕ}
+    → LeavesMemory m (record m { marks = marks; counts = counts; given = given; cells = cells })
+memory_left = record { numbers = λ k. refl; terms = λ k. refl; draw = refl; sessions = refl; bits = refl; maps = refl }
+
+-- and of its view
+pub record LeavesView (v p : View) : Type 0 where
   pub same : Same v p
   pub number : p.number ≡ v.number
   pub closes : p.closes ≡ v.closes
   pub hand : p.hand ≡ v.hand
   pub sweeps : p.sweeps ≡ v.sweeps
-  pub ended : (b : ArenaId) → r.machine.life b ≡ Over → r.memory.sessions b.slot ≡ shut b → StaysEnded r.memory m' b
-  pub shown : (b : ArenaId) → m'.sessions b.slot ≡ shut b → r.memory.sessions b.slot ≡ shut b
-  pub was : (a : ArenaId) → (moved_by r.machine es).life a ≡ Closes → r.machine.life a ≡ Closes
-  pub holds : KeepsHolds v p r.machine (moved_by r.machine es)
-  pub lends : MayLend z.page_words r.machine (loans_of r.history) es
-  pub pages : PagesAfter z r.history m' r.machine r.owners es
-  pub maps : m'.maps ≡ r.memory.maps
-  pub cells : (p j : ℕ) → IsAt j (r.owners.berth p) → (w : ℕ) → m'.cells p w ≡ r.memory.cells p w
-  pub reads : (a : ArenaId) → p.inside ≡ Some a → (x : Mapping) → In x p.reads → (v.inside ≡ Some a) × In x v.reads
-  pub paged : p.pages ≡ v.pages
+  pub pages : p.pages ≡ v.pages
   pub swept : p.swept ≡ v.swept
+
+pub view_left : {v : View} {inside mark : Option ArenaId} {holds handles : List ArenaId} {reads : List Mapping}
+    → LeavesView v (record v { inside = inside; mark = mark; holds = holds; handles = handles; reads = reads })
+view_left = record { same = same_but; number = refl; closes = refl; hand = refl; sweeps = refl; pages = refl; swept = refl }
+
+-- and of words of arenas that others may have: given words of ended arenas, and the pages that somebody has
+pub record LeavesWords (m m' : Memory) (t : Machine) (o : Owners) : Type 0 where
+  pub given : (b : ArenaId) → t.life b ≡ Over → m.sessions b.slot ≡ shut b → m'.given b.slot ≡ m.given b.slot
+  pub cells : (p j : ℕ) → IsAt j (o.berth p) → (w : ℕ) → m'.cells p w ≡ m.cells p w
+
+pub words_left : {m : Memory} {t : Machine} {o : Owners} {marks : ℕ → Option ArenaId} {counts : ℕ → ℕ}
+    → LeavesWords m (record m { marks = marks; counts = counts }) t o
+words_left = record { given = λ b o f. refl; cells = λ p j b w. refl }
+
+-- what a plain step does to the memory, the machine and its view
+pub record Plain (z : Shape) (ws : List ℕ) (vs : List View) (r : Rule z ws vs) (v : View) (i x : ℕ) (p : View) (es : List Entry) (m' : Memory) (t' : Machine)
+    : Type 0 where
+  pub calls : Calls z r.history r.machine v.caller es t'
+  pub memory : LeavesMemory r.memory m'
+  pub view : LeavesView v p
+  pub words : LeavesWords r.memory m' r.machine r.owners
+  pub pages : Pages z (loans_of r.history) m'.page_bits m'.maps m'.cells r.owners.berth m'.sessions t'.life t'.word t'.given
+  pub marks : (k : ℕ) → k ≢ v.caller.number → m'.marks k ≡ r.memory.marks k
+  pub reads : (a : ArenaId) → p.inside ≡ Some a → (x : Mapping) → In x p.reads → (v.inside ≡ Some a) × In x v.reads
+  pub holds : KeepsHolds v p r.machine t'
   pub shows : Shows z (set ws i x) m'
-  pub world : World z m' (moved_by r.machine es)
-  pub inside : (moved_by r.machine es).inside p.caller ≡ p.inside
+  pub world : World z m' t'
+  pub inside : t'.inside p.caller ≡ p.inside
   pub mark : m'.marks p.caller.number ≡ p.mark
 
 -- what a seat knows of pages that stay
@@ -157,30 +190,45 @@ pub plain_with : (z : Shape) (ws : List ℕ) (vs : List View) (r : Rule z ws vs)
     → (i x : ℕ) (p : View) (es : List Entry) (fs : ℕ → List Find) → NoneDrawn fs
     → ((f : Find) → In f (fs (length r.history)) → FoundBy z r.history r.memory r.owners.taker r.machine.life v.caller f)
     → AreLooked r v fs
-    → (m' : Memory)
-    → Plain z ws vs r v i x p es m' → Made z ws vs me v i x p es fs
-plain_with z ws vs r me v at l i x p es fs nd new looks m' q =
-    let d = plain_moved z ws vs r me v at l es m' p q.may q.ends q.marks q.numbers q.terms q.draw q.still q.bits q.ended (record {
-      others = λ c j b h. (refl, q.cells c j b);
-      stay = λ b c n st e. (λ k. q.maps k b.slot c) ∙ e;
+    → (m' : Memory) (t' : Machine)
+    → Plain z ws vs r v i x p es m' t' → Made z ws vs me v i x p es fs
+plain_with z ws vs r me v at l i x p es fs nd new looks m' t' q =
+    let c = q.calls in
+    let m = q.memory in
+    let u = q.view in
+    let shown : (s : ℕ) (y : Session) → r.memory.sessions s ≡ y → m'.sessions s ≡ y = (λ s y f. (λ j. m.sessions j s) ∙ f) in
+    let back : (s : ℕ) (y : Session) → m'.sessions s ≡ y → r.memory.sessions s ≡ y = (λ s y f. (λ j. sym m.sessions j s) ∙ f) in
+    let still : (s g : ℕ) → r.memory.sessions s ≡ free g → m'.sessions s ≡ free g = (λ s g. shown s (free g)) in
+    let was : (a : ArenaId) → (moved_by r.machine es).life a ≡ Closes → r.machine.life a ≡ Closes =
+    (λ a h. sym (ap (λ (t : Machine). t.life a) c.moves ∙ (λ j. c.life j a)) ∙ h) in
+    let ended : (b : ArenaId) → r.machine.life b ≡ Over → r.memory.sessions b.slot ≡ shut b → StaysEnded r.memory m' b =
+    (λ b o f. record { session = shown b.slot (shut b) f; maps = λ i j. m.maps j b.slot i; given = q.words.given b o f }) in
+    let d = plain_moved z ws vs r me v at l es m' p c.may c.ends q.marks m.numbers m.terms m.draw still m.bits ended (record {
+      others = λ c j b h. (refl, q.words.cells c j b);
+      stay = λ b c n st e. (λ k. m.maps k b.slot c) ∙ e;
     }) in
     keeps_with z ws (set ws i x) vs r me v p es fs m' r.owners at l d
-    q.same nd new looks q.lends q.pages
-    (plain_closes z ws vs r me v at l es m' p q.same q.closes q.was)
-    (sweeps_still me v p r.memory r.machine r.owners m' (moved_by r.machine es) r.owners q.same q.sweeps (λ a h. refl)
-    (λ a f h. (q.shown a f, was_over a es r.machine (q.ends a) h)))
-    (plain_slots z ws vs r me v at l es m' p q.same q.hand q.back q.bits) (pages_there me r.owners v p q.same q.paged q.swept) q.holds
-    (numbers_stay z ws vs r me v at l es m' r.owners p d q.same q.number q.numbers q.terms (λ n. refl))
-    q.shows q.world
-    (plain_part z ws vs r me v at l es m' p q.may q.ends q.same q.closes q.sweeps q.hand q.still q.bits q.ended q.inside q.mark
-    (plain_pages z r.memory m' r.owners me v p (own z ws vs r me v at l).work.pages q.maps q.cells q.reads q.paged q.sweeps q.swept))
-    (number_stays z ws vs r me v at l es m' r.owners p d q.same q.number q.numbers q.terms (λ n. refl))
+    u.same nd new looks c.lends
+    (subst (λ (x : List Loan × Machine). Pages z x.0 m'.page_bits m'.maps m'.cells r.owners.berth m'.sessions x.1.life x.1.word x.1.given)
+    (λ j. (sym c.loans j, sym c.moves j)) q.pages)
+    (plain_closes z ws vs r me v at l es m' p u.same u.closes was)
+    (sweeps_still me v p r.memory r.machine r.owners m' (moved_by r.machine es) r.owners u.same u.sweeps (λ a h. refl)
+    (λ a f h. (back a.slot (shut a) f, was_over a es r.machine (c.ends a) h)))
+    (plain_slots z ws vs r me v at l es m' p u.same u.hand (λ s g. back s (free g)) m.bits) (pages_there me r.owners v p u.same u.pages u.swept)
+    (subst (KeepsHolds v p r.machine) (sym c.moves) q.holds)
+    (numbers_stay z ws vs r me v at l es m' r.owners p d u.same u.number m.numbers m.terms (λ n. refl))
+    q.shows
+    (subst (World z m') (sym c.moves) q.world)
+    (plain_work z ws vs r me v at l es m' p c.may c.ends u.same u.closes u.sweeps u.hand still m.bits ended
+    (ap (λ (t : Machine). t.inside p.caller) c.moves ∙ q.inside) q.mark
+    (plain_pages z r.memory m' r.owners me v p (own z ws vs r me v at l).work.pages m.maps q.words.cells q.reads u.pages u.sweeps u.swept))
+    (number_stays z ws vs r me v at l es m' r.owners p d u.same u.number m.numbers m.terms (λ n. refl))
 
 -- where no slot was looked for
 pub plain : (z : Shape) (ws : List ℕ) (vs : List View) (r : Rule z ws vs) (me : ℕ) (v : View) → get_elem? vs me ≡ some v → v.live ≡ true
-    → (i x : ℕ) (p : View) (es : List Entry) (fs : ℕ → List Find) → NoDraw fs → (m' : Memory)
-    → Plain z ws vs r v i x p es m' → Made z ws vs me v i x p es fs
-plain z ws vs r me v at l i x p es fs nd m' q =
+    → (i x : ℕ) (p : View) (es : List Entry) (fs : ℕ → List Find) → NoDraw fs → (m' : Memory) (t' : Machine)
+    → Plain z ws vs r v i x p es m' t' → Made z ws vs me v i x p es fs
+plain z ws vs r me v at l i x p es fs nd =
     plain_with z ws vs r me v at l i x p es fs (λ n f i. let y = nd n f i in (y.0, y.1))
     (none_founded z r.history r.memory r.owners.taker r.machine.life v.caller fs (λ n f i. let y = nd n f i in (y.2, y.3)) (length r.history))
-    (unlooked r v fs (λ n f i. (nd n f i).4)) m' q
+    (unlooked r v fs (λ n f i. (nd n f i).4))

@@ -21,7 +21,7 @@ use Rattle.fm_rule_facts.proofs.Ruling.{AreLooked, unlooked}
 use Rattle.fm_rule_facts.proofs.Shown.{shows_same}
 use Rattle.fm_rule_steps.proofs.Knowing.{own}
 use Rattle.fm_rule_steps.proofs.Staying.{same_but}
-use Rattle.fm_rule_steps.proofs.Plain.{Made, plain_with}
+use Rattle.fm_rule_steps.proofs.Plain.{Made, plain_with, memory_left, view_left, words_left}
 use Rattle.fm_rule_facts.proofs.Leaving.{stays_ended}
 
 module _ (z : Shape) (ws : List ℕ) (vs : List View) (r : Rule z ws vs) (me : ℕ) (v : View) (at : get_elem? vs me ≡ some v) (l : v.live ≡ true) (i : ℕ) where
@@ -33,37 +33,18 @@ module _ (z : Shape) (ws : List ℕ) (vs : List View) (r : Rule z ws vs) (me : �
       → loans_after (loans_of r.history) es ≡ loans_of r.history → moved_by r.machine es ≡ r.machine → Made z ws vs me v i (get_or ws i 0) v es fs
   quiet es fs nd new looks may ends lends same stays =
       let mine = own z ws vs r me v at l in
-      plain_with z ws vs r me v at l i (get_or ws i 0) v es fs nd new looks r.memory (record {
-        may = may;
-        ends = ends;
+      plain_with z ws vs r me v at l i (get_or ws i 0) v es fs nd new looks r.memory r.machine (record {
+        calls = record { may = may; ends = ends; lends = lends; loans = same; moves = stays; life = refl };
+        memory = memory_left;
+        view = view_left;
+        words = words_left;
+        pages = r.pages;
         marks = λ k h. refl;
-        numbers = λ k. refl;
-        number = refl;
-        terms = λ k. refl;
-        draw = refl;
-        still = λ s g f. f;
-        back = λ s g f. f;
-        bits = refl;
-        same = same_but;
-        closes = refl;
-        hand = refl;
-        sweeps = refl;
-        ended = λ b o f. stays_ended b f;
-        shown = λ b f. f;
-        was = λ b h. ap (λ (t : Machine). t.life b) (sym stays) ∙ h;
-        holds = λ b. ap (λ (t : Machine). holds_of b v + all_holds b t) (sym stays);
-        lends = lends;
-        pages = subst (λ (x : List Loan × Machine).
-            Pages z x.0 r.memory.page_bits r.memory.maps r.memory.cells r.owners.berth r.memory.sessions x.1.life x.1.word x.1.given)
-            (λ j. (sym same j, sym stays j)) r.pages;
-        maps = refl;
-        cells = λ p j b w. refl;
         reads = λ b e x h. (e, h);
-        paged = refl;
-        swept = refl;
+        holds = λ b. refl;
         shows = shows_same z r.valid ws r.memory r.shows i;
-        world = subst (World z r.memory) (sym stays) r.world;
-        inside = ap (λ (t : Machine). t.inside v.caller) stays ∙ mine.work.inside;
+        world = r.world;
+        inside = mine.work.inside;
         mark = mine.work.mark;
       })
 

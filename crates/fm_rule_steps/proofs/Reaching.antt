@@ -28,8 +28,7 @@ use Rattle.fm_rule_facts.proofs.Shown.{shows_same, shows_cell}
 use Rattle.fm_rule_facts.proofs.Founds.{no_draw}
 use Rattle.fm_rule_steps.proofs.Knowing.{own, given_now}
 use Rattle.fm_rule_steps.proofs.Staying.{same_but}
-use Rattle.fm_rule_steps.proofs.Plain.{Made, plain}
-use Rattle.fm_rule_facts.proofs.Leaving.{stays_ended}
+use Rattle.fm_rule_steps.proofs.Plain.{Made, plain, LeavesWords, memory_left, view_left, words_left}
 
 -- an arena has the words of its slot
 span_within : (z : Shape) (w : ℕ) → w < span z → w < words_within (limit_of z)
@@ -67,43 +66,23 @@ module _ (z : Shape) (me : ℕ) (v : View) (l : v.live ≡ true) (a : ArenaId) (
         → loans_by (loans_of r.history) call ≡ loans_of r.history → Shows z (set ws i x) (record r.memory { cells = m'; given = g' })
         → World z (record r.memory { cells = m'; given = g' }) (record r.machine { word = f; given = g })
         → Pages z (loans_of r.history) r.memory.page_bits r.memory.maps m' r.owners.berth r.memory.sessions r.machine.life f g
-        → ((p j : ℕ) → IsAt j (r.owners.berth p) → (o : ℕ) → m' p o ≡ r.memory.cells p o)
-        → ((b : ArenaId) → r.machine.life b ≡ Over → r.memory.sessions b.slot ≡ shut b → StaysEnded r.memory (record r.memory { cells = m'; given = g' }) b)
+        → LeavesWords r.memory (record r.memory { cells = m'; given = g' }) r.machine r.owners
         → Made z ws vs me v i x v (entry_of v.caller call reply ∷ []) none_noted
-    act i x call reply m' g' f g is may answer ends lends same shows world pages cells ended =
+    act i x call reply m' g' f g is may answer ends lends same shows world pages words =
         let k = own z ws vs r me v at l in
         let m : Memory = record r.memory { cells = m'; given = g' } in
-        plain z ws vs r me v at l i x v (entry_of v.caller call reply ∷ []) none_noted no_draw m (record {
-          may = (refl, may, answer, tt);
-          ends = λ b. (ends b, tt);
+        plain z ws vs r me v at l i x v (entry_of v.caller call reply ∷ []) none_noted no_draw m (record r.machine { word = f; given = g }) (record {
+          calls = record { may = (refl, may, answer, tt); ends = λ b. (ends b, tt); lends = (lends, tt); loans = same; moves = is; life = refl };
+          memory = memory_left;
+          view = view_left;
+          words = words;
+          pages = pages;
           marks = λ k h. refl;
-          numbers = λ k. refl;
-          number = refl;
-          terms = λ k. refl;
-          draw = refl;
-          still = λ s g f. f;
-          back = λ s g f. f;
-          bits = refl;
-          same = same_but;
-          closes = refl;
-          hand = refl;
-          sweeps = refl;
-          ended = ended;
-          shown = λ b f. f;
-          was = λ b h. ap (λ (t : Machine). t.life b) (sym is) ∙ h;
-          holds = λ b. ap (λ (t : Machine). holds_of b v + all_holds b t) (sym is);
-          lends = (lends, tt);
-          pages = subst (λ (x : List Loan × Machine).
-              Pages z x.0 r.memory.page_bits r.memory.maps m' r.owners.berth r.memory.sessions x.1.life x.1.word x.1.given)
-              (λ j. (sym same j, sym is j)) pages;
-          maps = refl;
-          cells = cells;
           reads = λ a e x i. (e, i);
-          paged = refl;
-          swept = refl;
+          holds = λ b. refl;
           shows = shows;
-          world = subst (World z m) (sym is) world;
-          inside = ap (λ (t : Machine). t.inside v.caller) is ∙ k.work.inside;
+          world = world;
+          inside = k.work.inside;
           mark = k.work.mark;
         })
 
@@ -156,7 +135,7 @@ module _ (z : Shape) (me : ℕ) (v : View) (l : v.live ≡ true) (a : ArenaId) (
           → loans_by (loans_of r.history) call ≡ loans_of r.history → Made z ws vs me v i (found ws) v (entry_of v.caller call reply ∷ []) none_noted
       looks call reply is may answer ends lends same =
           act ws vs r at i (found ws) call reply r.memory.cells r.memory.given r.machine.word r.machine.given is may answer ends lends same
-          (shows_same z r.valid ws r.memory r.shows i) r.world r.pages (λ q j b n. refl) (λ b o f. stays_ended b f)
+          (shows_same z r.valid ws r.memory r.shows i) r.world r.pages words_left
 
       -- the word becomes y
       puts : (y : ℕ) (call : Call) (reply : Reply)
@@ -171,8 +150,10 @@ module _ (z : Shape) (me : ℕ) (v : View) (l : v.live ≡ true) (a : ArenaId) (
           (world_word z r.memory r.machine r.world (put r.memory.cells p (put (r.memory.cells p) o y)) (put_at r.machine.word a (put (r.machine.word a) w y)))
           (pages_write z (loans_of r.history) r.memory.page_bits r.memory.maps r.memory.cells r.owners.berth r.memory.sessions r.machine.life r.machine.word
           r.machine.given r.world.sessions r.pages a w p y (stands ws vs r at) named (let n = given_now z ws vs r me v at l a in omega arith))
-          (λ q j b n. λ k. put_else r.memory.cells p (put (r.memory.cells p) o y) q (λ e. unmapped_at j (subst (IsAt j) (ap r.owners.berth e ∙ at_it) b)) k n)
-          (λ b o f. record { session = f; maps = λ i. refl; given = refl })
+          (record {
+            given = λ b o f. refl;
+            cells = λ q j b n k. put_else r.memory.cells p (put (r.memory.cells p) o y) q (λ e. unmapped_at j (subst (IsAt j) (ap r.owners.berth e ∙ at_it) b)) k n;
+          })
         where
           unmapped_at : (j : ℕ) → IsAt j (mapped a.slot part_of) → ⊥
           unmapped_at j h = h
