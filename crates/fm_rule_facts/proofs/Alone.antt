@@ -12,10 +12,11 @@ use Rattle.fm_rule_facts.specs.Hands.{nothing, HasSlot, no_number, HasNumberIn}
 use Rattle.fm_rule_facts.specs.Views.{View, In, OpenedBut, NoneLeft, IsNumberGone, prefix, limit_of}
 use Rattle.fm_rule_facts.specs.Facts.{Owns, Rule, IsUsed, used, wanted, full}
 use Rattle.fm_rule_facts.specs.Gone.{IsGone, FoundBy}
-use Rattle.fm_rule_facts.proofs.Callers.{same_caller, whole_has, all_counted}
+use Rattle.fm_rule_facts.proofs.Callers.{whole_has, all_counted}
 use Rattle.fm_rule_facts.proofs.Looking.{wants_in}
 use Rattle.fm_rule_facts.proofs.Keeping.{seated_all}
 use Rattle.fm_base_machine.proofs.Allowing.{not_fresh}
+use Rattle.fm_base_machine.proofs.Putting.{one_caller}
 
 module _ (z : Shape) (me : ℕ) (v : View) (l : v.live ≡ true) (ws : List ℕ) (vs : List View) (r : Rule z ws vs) (at : get_elem? vs me ≡ some v) where
   abbrev mine : Owns z r.history r.memory r.machine r.owners me v
@@ -25,7 +26,7 @@ module _ (z : Shape) (me : ℕ) (v : View) (l : v.live ≡ true) (ws : List ℕ)
   pub lonely : v.whole ≡ true → (j : ℕ) (u : View) → get_elem? vs j ≡ some u → u.live ≡ true → u ≡ v
   lonely w j u at' live' =
       let x = (r.each j u at').owns live' in
-      let here : j ≡ me = elim (same_caller u.caller v.caller) [
+      let here : j ≡ me = elim (one_caller u.caller v.caller) [
         | yes e ↦ sym x.seated ∙ (ap r.owners.seat e ∙ mine.seated)
         | no ne ↦ (let g = mine.whole w u.caller x.drawn ne in
             sym x.seated ∙ (ap r.owners.seat (sym g.2) ∙ seated_all z r.history r.memory r.machine r.owners me v mine g.0 g.1))

@@ -14,6 +14,7 @@ use Rattle.fm_rule_facts.specs.Views.{Met, View, In, HasCaller, KnowsCallers, al
 use Rattle.fm_rule_facts.specs.Facts.{Memory, Owners, WasDrawn, HasGathered, IsSilent, IsOnce, Owns}
 use Rattle.fm_rule_facts.proofs.Counting.{ranks, ranks_long, has_rank, in_ranks, ranks_apart, one_rank, at_most, at_least, all_below, Distinct}
 use Rattle.fm_base.proofs.Names.{are_one-self}
+use Rattle.fm_base_machine.proofs.Putting.{one_caller}
 
 -- ---- who made an entry
 
@@ -32,19 +33,10 @@ made_in e (x ∷ xs) (inl p) q =
     hit (are_one x.caller e.caller) x (made_by e.caller xs) (ap (λ (y : Entry). are_one y.caller e.caller) (sym p) ∙ are_one-self e.caller) q
 made_in e (x ∷ xs) (inr i) q = made_in e xs i (miss (are_one x.caller e.caller) x (made_by e.caller xs) q)
 
--- whether two callers are one
-pub same_caller : (c d : Caller) → Dec (c ≡ d)
-same_caller c d = go (ℕ_discrete c.number d.number) (ℕ_discrete c.term d.term)
-  where
-    go : Dec (c.number ≡ d.number) → Dec (c.term ≡ d.term) → Dec (c ≡ d)
-    go (yes p) (yes q) = yes (λ i. record { number = p i; term = q i })
-    go (yes p) (no n) = no (λ e. n (ap (λ (x : Caller). x.term) e))
-    go (no n) q = no (λ e. n (ap (λ (x : Caller). x.number) e))
-
 -- whether a caller was drawn
 pub drawn_or : (draw : ℕ) (who : ℕ → Caller) (rank : Caller → ℕ) (c : Caller) → Dec (WasDrawn draw who rank c)
 drawn_or draw who rank c = elim (cases_lt (rank c) draw) [
-  | inl l ↦ go l (same_caller (who (rank c)) c)
+  | inl l ↦ go l (one_caller (who (rank c)) c)
   | inr l ↦ no (λ d. let x = d.0 in omega arith)
 ]
   where
@@ -107,7 +99,7 @@ module _ (z : Shape) (h : List Entry) (m : Memory) (t : Machine) (o : Owners) (j
       let x = ranks_long o.rank v.gathered in omega arith
 
   pub whole_has : v.whole ≡ true → (c : Caller) → WasDrawn m.draw o.who o.rank c → HasCaller v c
-  whole_has w c l = elim (same_caller c v.caller) [
+  whole_has w c l = elim (one_caller c v.caller) [
     | yes e ↦ inl e
     | no ne ↦ (let g = u.whole w c l ne in inr (g.0, subst (In g.0) all_now g.1, g.2))
   ]

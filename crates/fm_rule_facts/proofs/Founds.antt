@@ -13,7 +13,7 @@ use Rattle.fm_rule_facts.specs.Steps.{none_noted, note_of, note_draw}
 use Rattle.fm_rule_facts.specs.Hands.{drawn_by}
 use Rattle.fm_rule_facts.specs.Facts.{WasDrawn, IsWithin, IsCounted}
 use Rattle.fm_rule_facts.specs.Moves.{told}
-use Rattle.fm_rule_facts.proofs.Keeping.{in_left, in_right, in_append}
+use Rattle.fm_rule_facts.proofs.Keeping.{in_left, in_append, all_gather}
 
 -- ---- what a step notes
 
@@ -135,25 +135,10 @@ module _ (d : ℕ) (who : ℕ → Caller) (rank : Caller → ℕ) where
   pub counted_bare : (v : View) → v.finds ≡ [] → all_gathered v ≡ [] → IsCounted d who rank v
   counted_bare v finds gs = record { finds = λ f i. absurd (subst (In f) finds i); theirs = λ g j. absurd (subst (In g) gs j) }
 
-  -- what is known of one who is gathered
-  abbrev Told : Gathered → Type 0
-  Told g = (f : Find) → In f g.finds → IsWithin d who rank f
-
   -- a view that another is put to
   pub counted_gather : (v w : View) → IsCounted d who rank v → IsCounted d who rank w → IsCounted d who rank (gather v w)
-  counted_gather v w a b = record { finds = a.finds; theirs = each }
-    where
-      come : (g : Gathered) → In g (as_gathered w ∷ w.gathered) → Told g
-      come g (inl q) = subst Told (sym q) b.finds
-      come g (inr j) = b.theirs g (in_left g w.gathered (brought w.met) j)
-
-      each : (g : Gathered) → In g (all_gathered (gather v w)) → Told g
-      each g j = ⊎_elim
-          (λ (k : In g v.gathered). a.theirs g (in_left g v.gathered (brought v.met) k))
-          (λ (k : In g ((as_gathered w ∷ w.gathered) ++ brought v.met)).
-          ⊎_elim (come g) (λ (q : In g (brought v.met)). a.theirs g (in_right g v.gathered (brought v.met) q))
-          (in_append g (as_gathered w ∷ w.gathered) (brought v.met) k))
-          (in_append g v.gathered ((as_gathered w ∷ w.gathered) ++ brought v.met) j)
+  counted_gather v w a b =
+      record { finds = a.finds; theirs = all_gather v w (λ g. (f : Find) → In f g.finds → IsWithin d who rank f) a.theirs b.theirs b.finds }
 
   -- each find that a view has
   pub find_within : (v : View) → IsCounted d who rank v → (f : Find) → HasFind v f → IsWithin d who rank f

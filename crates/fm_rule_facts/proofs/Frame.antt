@@ -1,12 +1,12 @@
 -- What entries of one caller leave, whatever they are.
-use Rattle.std.proofs.Common.{◌≡◌, ◌≢◌, ℕ, ◌+◌, ◌==◌, Bool, true, false, if◌then◌else◌, List, [], ◌∷◌, ◌++◌, refl, ap, sym, ◌∙◌, subst, append_assoc, Some, None}
+use Rattle.std.proofs.Common.{◌≡◌, ◌≢◌, ℕ, ◌+◌, ◌==◌, Bool, true, false, if◌then◌else◌, List, [], ◌∷◌, ◌++◌, refl, ap, sym, ◌∙◌, subst, append_assoc, Some, None, ◌-◌, ◌%◌, ◌^◌}
 use Rattle.std.proofs.lemmas.List.{append-nil}
 use Rattle.fm_base.specs.declared.caller.Caller.{Caller}
 use Rattle.fm_base.specs.declared.arena_id.ArenaId.{ArenaId}
 use Rattle.fm_base.specs.Calls.{Call, Open, Enter, Read, Write, SwapIf, Add, Allocate, Leave, Hold, Unhold, Shut, End, Lend, Back, Reply, Fine, Closed, Found, Given, Entry}
 use Rattle.fm_base.specs.Histories.{IsLegal, state_after, made_by}
 use Rattle.fm_base.proofs.Names.{are_one-not}
-use Rattle.fm_base_machine.specs.Functions.{Fresh, Lives, Closes, Over, Machine, Depicts, moved, MayBy, reply_by, enter_stage, shut_stage, put, put_at}
+use Rattle.fm_base_machine.specs.Functions.{Fresh, Lives, Closes, Over, Machine, Depicts, moved, MayBy, reply_by, enter_stage, shut_stage, put, put_at, put_by}
 use Rattle.fm_base_machine.specs.Steps.{moved_by}
 use Rattle.fm_base_machine.proofs.Putting.{by_else, by_cases, at_cases, are_one-equal}
 use Rattle.fm_base_machine.proofs.GoingOn.{goes_on}
@@ -19,188 +19,110 @@ either_swap P t u false p q = q
 
 -- ---- one call
 
+-- what a call leaves, by what it changes
+module _ (t : Machine) (c : Caller) (P : Call → Reply → Machine → Type 0) where
+  moved_cases : ((call : Call) (reply : Reply) → P call reply t)
+      → ((call : Call) (reply : Reply) (f : ArenaId → ℕ → ℕ) → P call reply (record t { word = f }))
+      → ((call : Call) (reply : Reply) (f : ArenaId → ℕ) → P call reply (record t { holds = f }))
+      → ((id : ArenaId) (reply : Reply) → P (Open id) reply (record t { life = put_at t.life id Lives }))
+      → ((id : ArenaId) → P (Enter id) Fine (record t { inside = put_by t.inside c (Some id) }))
+      → ((id : ArenaId) (size align place : ℕ) → P (Allocate id size align) (Given place) (record t { given = put_at t.given id (place + size) }))
+      → ((id : ArenaId) (reply : Reply) → P (Leave id) reply (record t { inside = put_by t.inside c None }))
+      → ((id : ArenaId) → P (Shut id) Fine (record t { life = put_at t.life id Closes }))
+      → ((id : ArenaId) (reply : Reply) → P (End id) reply (record t { life = put_at t.life id Over })) → (call : Call) (reply : Reply)
+      → P call reply (moved t c call reply)
+  moved_cases still word holds opens enters gives leaves shuts ends (Open id) reply = opens id reply
+  moved_cases still word holds opens enters gives leaves shuts ends (Enter id) Fine = enters id
+  moved_cases still word holds opens enters gives leaves shuts ends (Enter id) reply = still (Enter id) reply
+  moved_cases still word holds opens enters gives leaves shuts ends (Read id w) reply = still (Read id w) reply
+  moved_cases still word holds opens enters gives leaves shuts ends (Write id w x) reply = word (Write id w x) reply (put_at t.word id (put (t.word id) w x))
+  moved_cases still word holds opens enters gives leaves shuts ends (SwapIf id w old new) (Found found) =
+      either_swap (P (SwapIf id w old new) (Found found)) t (record t { word = put_at t.word id (put (t.word id) w new) }) (found == old)
+      (word (SwapIf id w old new) (Found found) (put_at t.word id (put (t.word id) w new))) (still (SwapIf id w old new) (Found found))
+  moved_cases still word holds opens enters gives leaves shuts ends (SwapIf id w old new) reply = still (SwapIf id w old new) reply
+  moved_cases still word holds opens enters gives leaves shuts ends (Add id w n) (Found found) =
+      word (Add id w n) (Found found) (put_at t.word id (put (t.word id) w ((found + n) % 2 ^ 64)))
+  moved_cases still word holds opens enters gives leaves shuts ends (Add id w n) reply = still (Add id w n) reply
+  moved_cases still word holds opens enters gives leaves shuts ends (Allocate id size align) (Given place) = gives id size align place
+  moved_cases still word holds opens enters gives leaves shuts ends (Allocate id size align) reply = still (Allocate id size align) reply
+  moved_cases still word holds opens enters gives leaves shuts ends (Leave id) reply = leaves id reply
+  moved_cases still word holds opens enters gives leaves shuts ends (Hold id) Fine = holds (Hold id) Fine (put_at t.holds id (t.holds id + 1))
+  moved_cases still word holds opens enters gives leaves shuts ends (Hold id) reply = still (Hold id) reply
+  moved_cases still word holds opens enters gives leaves shuts ends (Unhold id) reply = holds (Unhold id) reply (put_at t.holds id (t.holds id - 1))
+  moved_cases still word holds opens enters gives leaves shuts ends (Shut id) Fine = shuts id
+  moved_cases still word holds opens enters gives leaves shuts ends (Shut id) reply = still (Shut id) reply
+  moved_cases still word holds opens enters gives leaves shuts ends (End id) reply = ends id reply
+  moved_cases still word holds opens enters gives leaves shuts ends (Lend block id part) reply = still (Lend block id part) reply
+  moved_cases still word holds opens enters gives leaves shuts ends (Back block) reply = still (Back block) reply
+
 -- another caller stays where it is
 other_stays : (t : Machine) (c k : Caller) (call : Call) (reply : Reply) → k ≢ c → (moved t c call reply).inside k ≡ t.inside k
-other_stays t c k (Open id) reply n = refl
-other_stays t c k (Enter id) Fine n = by_else t.inside c (Some id) k n
-other_stays t c k (Enter id) reply n = refl
-other_stays t c k (Read id word) reply n = refl
-other_stays t c k (Write id word value) reply n = refl
-other_stays t c k (SwapIf id word old new) (Found found) n =
-    either_swap (λ u. u.inside k ≡ t.inside k) t (record t { word = put_at t.word id (put (t.word id) word new) }) (found == old) refl refl
-other_stays t c k (SwapIf id word old new) reply n = refl
-other_stays t c k (Add id word m) (Found found) n = refl
-other_stays t c k (Add id word m) reply n = refl
-other_stays t c k (Allocate id size align) (Given place) n = refl
-other_stays t c k (Allocate id size align) reply n = refl
-other_stays t c k (Leave id) reply n = by_else t.inside c None k n
-other_stays t c k (Hold id) Fine n = refl
-other_stays t c k (Hold id) reply n = refl
-other_stays t c k (Unhold id) reply n = refl
-other_stays t c k (Shut id) Fine n = refl
-other_stays t c k (Shut id) reply n = refl
-other_stays t c k (End id) reply n = refl
-other_stays t c k (Lend block id part) reply n = refl
-other_stays t c k (Back block) reply n = refl
+other_stays t c k call reply n = moved_cases t c (λ call reply u. u.inside k ≡ t.inside k) (λ x y. refl) (λ x y f. refl) (λ x y f. refl) (λ id y. refl)
+    (λ id. by_else t.inside c (Some id) k n) (λ id s a p. refl) (λ id y. by_else t.inside c None k n) (λ id. refl) (λ id y. refl) call reply
 
 -- nobody comes into an arena that isn't alive
 none_comes : (limit : ℕ) (t : Machine) (c k : Caller) (b : ArenaId) (call : Call) (reply : Reply) → reply ≡ reply_by limit t call
     → enter_stage (t.life b) ≡ Closed → t.inside k ≢ Some b → (moved t c call reply).inside k ≢ Some b
-none_comes limit t c k b (Open id) reply e l n = n
-none_comes limit t c k b (Enter id) Fine e l n = by_cases t.inside c (Some id) k (λ x. x ≢ Some b)
+none_comes limit t c k b call reply e l n = moved_cases t c (λ call reply u. reply ≡ reply_by limit t call → u.inside k ≢ Some b)
+    (λ x y e. n) (λ x y f e. n) (λ x y f e. n) (λ id y e. n)
+    (λ id e. by_cases t.inside c (Some id) k (λ x. x ≢ Some b)
     (λ h s. let i : id ≡ b = cc in let f : Fine ≡ Closed = e ∙ (ap (λ a. enter_stage (t.life a)) i ∙ l) in absurd (cc))
-    (λ h. n)
-none_comes limit t c k b (Enter id) reply e l n = n
-none_comes limit t c k b (Read id word) reply e l n = n
-none_comes limit t c k b (Write id word value) reply e l n = n
-none_comes limit t c k b (SwapIf id word old new) (Found found) e l n =
-    either_swap (λ u. u.inside k ≢ Some b) t (record t { word = put_at t.word id (put (t.word id) word new) }) (found == old) n n
-none_comes limit t c k b (SwapIf id word old new) reply e l n = n
-none_comes limit t c k b (Add id word m) (Found found) e l n = n
-none_comes limit t c k b (Add id word m) reply e l n = n
-none_comes limit t c k b (Allocate id size align) (Given place) e l n = n
-none_comes limit t c k b (Allocate id size align) reply e l n = n
-none_comes limit t c k b (Leave id) reply e l n = by_cases t.inside c None k (λ x. x ≢ Some b) (λ h s. absurd (cc)) (λ h. n)
-none_comes limit t c k b (Hold id) Fine e l n = n
-none_comes limit t c k b (Hold id) reply e l n = n
-none_comes limit t c k b (Unhold id) reply e l n = n
-none_comes limit t c k b (Shut id) Fine e l n = n
-none_comes limit t c k b (Shut id) reply e l n = n
-none_comes limit t c k b (End id) reply e l n = n
-none_comes limit t c k b (Lend block id part) reply e l n = n
-none_comes limit t c k b (Back block) reply e l n = n
+    (λ h. n))
+    (λ id s a p e. n)
+    (λ id y e. by_cases t.inside c None k (λ x. x ≢ Some b) (λ h s. absurd (cc)) (λ h. n))
+    (λ id e. n) (λ id y e. n) call reply e
 
 -- an arena that is closing stays so, but for its end
 closing_stays : (limit : ℕ) (t : Machine) (c : Caller) (b : ArenaId) (call : Call) (reply : Reply) → MayBy limit t c call → t.life b ≡ Closes → ¬ (Ends call b)
     → (moved t c call reply).life b ≡ Closes
-closing_stays limit t c b (Open id) reply m l n = at_cases t.life id Lives b (λ x. x ≡ Closes)
-    (λ e. let f : t.life b ≡ Fresh = ap t.life e ∙ m.0 in absurd (cc))
-    (λ e. l)
-closing_stays limit t c b (Enter id) Fine m l n = l
-closing_stays limit t c b (Enter id) reply m l n = l
-closing_stays limit t c b (Read id word) reply m l n = l
-closing_stays limit t c b (Write id word value) reply m l n = l
-closing_stays limit t c b (SwapIf id word old new) (Found found) m l n =
-    either_swap (λ u. u.life b ≡ Closes) t (record t { word = put_at t.word id (put (t.word id) word new) }) (found == old) l l
-closing_stays limit t c b (SwapIf id word old new) reply m l n = l
-closing_stays limit t c b (Add id word k) (Found found) m l n = l
-closing_stays limit t c b (Add id word k) reply m l n = l
-closing_stays limit t c b (Allocate id size align) (Given place) m l n = l
-closing_stays limit t c b (Allocate id size align) reply m l n = l
-closing_stays limit t c b (Leave id) reply m l n = l
-closing_stays limit t c b (Hold id) Fine m l n = l
-closing_stays limit t c b (Hold id) reply m l n = l
-closing_stays limit t c b (Unhold id) reply m l n = l
-closing_stays limit t c b (Shut id) Fine m l n = at_cases t.life id Closes b (λ x. x ≡ Closes) (λ e. refl) (λ e. l)
-closing_stays limit t c b (Shut id) reply m l n = l
-closing_stays limit t c b (End id) reply m l n = at_cases t.life id Over b (λ x. x ≡ Closes) (λ e. absurd (n (sym e))) (λ e. l)
-closing_stays limit t c b (Lend block id part) reply m l n = l
-closing_stays limit t c b (Back block) reply m l n = l
+closing_stays limit t c b call reply m l n = moved_cases t c (λ call reply u. MayBy limit t c call → ¬ (Ends call b) → u.life b ≡ Closes)
+    (λ x y m n. l) (λ x y f m n. l) (λ x y f m n. l)
+    (λ id y m n. at_cases t.life id Lives b (λ x. x ≡ Closes) (λ e. let f : t.life b ≡ Fresh = ap t.life e ∙ m.0 in absurd (cc)) (λ e. l))
+    (λ id m n. l) (λ id s a p m n. l) (λ id y m n. l)
+    (λ id m n. at_cases t.life id Closes b (λ x. x ≡ Closes) (λ e. refl) (λ e. l))
+    (λ id y m n. at_cases t.life id Over b (λ x. x ≡ Closes) (λ e. absurd (n (sym e))) (λ e. l))
+    call reply m n
 
 -- an arena that has ended stays so
 over_stays : (limit : ℕ) (t : Machine) (c : Caller) (b : ArenaId) (call : Call) (reply : Reply) → MayBy limit t c call → reply ≡ reply_by limit t call
     → t.life b ≡ Over → (moved t c call reply).life b ≡ Over
-over_stays limit t c b (Open id) reply m r l = at_cases t.life id Lives b (λ x. x ≡ Over)
-    (λ e. let f : t.life b ≡ Fresh = ap t.life e ∙ m.0 in absurd (cc))
-    (λ e. l)
-over_stays limit t c b (Enter id) Fine m r l = l
-over_stays limit t c b (Enter id) reply m r l = l
-over_stays limit t c b (Read id word) reply m r l = l
-over_stays limit t c b (Write id word value) reply m r l = l
-over_stays limit t c b (SwapIf id word old new) (Found found) m r l =
-    either_swap (λ u. u.life b ≡ Over) t (record t { word = put_at t.word id (put (t.word id) word new) }) (found == old) l l
-over_stays limit t c b (SwapIf id word old new) reply m r l = l
-over_stays limit t c b (Add id word k) (Found found) m r l = l
-over_stays limit t c b (Add id word k) reply m r l = l
-over_stays limit t c b (Allocate id size align) (Given place) m r l = l
-over_stays limit t c b (Allocate id size align) reply m r l = l
-over_stays limit t c b (Leave id) reply m r l = l
-over_stays limit t c b (Hold id) Fine m r l = l
-over_stays limit t c b (Hold id) reply m r l = l
-over_stays limit t c b (Unhold id) reply m r l = l
-over_stays limit t c b (Shut id) Fine m r l = at_cases t.life id Closes b (λ x. x ≡ Over)
+over_stays limit t c b call reply m r l = moved_cases t c (λ call reply u. MayBy limit t c call → reply ≡ reply_by limit t call → u.life b ≡ Over)
+    (λ x y m r. l) (λ x y f m r. l) (λ x y f m r. l)
+    (λ id y m r. at_cases t.life id Lives b (λ x. x ≡ Over) (λ e. let f : t.life b ≡ Fresh = ap t.life e ∙ m.0 in absurd (cc)) (λ e. l))
+    (λ id m r. l) (λ id s a p m r. l) (λ id y m r. l)
+    (λ id m r. at_cases t.life id Closes b (λ x. x ≡ Over)
     (λ e. let i : t.life id ≡ Over = ap t.life (sym e) ∙ l in let f : Fine ≡ Closed = r ∙ (λ j. shut_stage (i j) (t.holds id)) in absurd (cc))
-    (λ e. l)
-over_stays limit t c b (Shut id) reply m r l = l
-over_stays limit t c b (End id) reply m r l = at_cases t.life id Over b (λ x. x ≡ Over) (λ e. refl) (λ e. l)
-over_stays limit t c b (Lend block id part) reply m r l = l
-over_stays limit t c b (Back block) reply m r l = l
+    (λ e. l))
+    (λ id y m r. at_cases t.life id Over b (λ x. x ≡ Over) (λ e. refl) (λ e. l))
+    call reply m r
 
 -- an arena that has ended after a call that isn't its end had ended before
 over_was : (t : Machine) (c : Caller) (b : ArenaId) (call : Call) (reply : Reply) → ¬ (Ends call b) → (moved t c call reply).life b ≡ Over → t.life b ≡ Over
-over_was t c b (Open id) reply n l = at_cases t.life id Lives b (λ x. x ≡ Over → t.life b ≡ Over) (λ e q. absurd (cc)) (λ e q. q) l
-over_was t c b (Enter id) Fine n l = l
-over_was t c b (Enter id) reply n l = l
-over_was t c b (Read id word) reply n l = l
-over_was t c b (Write id word value) reply n l = l
-over_was t c b (SwapIf id word old new) (Found found) n l =
-    either_swap (λ u. u.life b ≡ Over → t.life b ≡ Over) t (record t { word = put_at t.word id (put (t.word id) word new) }) (found == old) (λ q. q) (λ q. q)
-    l
-over_was t c b (SwapIf id word old new) reply n l = l
-over_was t c b (Add id word k) (Found found) n l = l
-over_was t c b (Add id word k) reply n l = l
-over_was t c b (Allocate id size align) (Given place) n l = l
-over_was t c b (Allocate id size align) reply n l = l
-over_was t c b (Leave id) reply n l = l
-over_was t c b (Hold id) Fine n l = l
-over_was t c b (Hold id) reply n l = l
-over_was t c b (Unhold id) reply n l = l
-over_was t c b (Shut id) Fine n l = at_cases t.life id Closes b (λ x. x ≡ Over → t.life b ≡ Over) (λ e q. absurd (cc)) (λ e q. q) l
-over_was t c b (Shut id) reply n l = l
-over_was t c b (End id) reply n l = at_cases t.life id Over b (λ x. x ≡ Over → t.life b ≡ Over) (λ e q. absurd (n (sym e))) (λ e q. q) l
-over_was t c b (Lend block id part) reply n l = l
-over_was t c b (Back block) reply n l = l
+over_was t c b call reply n l = moved_cases t c (λ call reply u. ¬ (Ends call b) → u.life b ≡ Over → t.life b ≡ Over)
+    (λ x y n l. l) (λ x y f n l. l) (λ x y f n l. l)
+    (λ id y n l. at_cases t.life id Lives b (λ x. x ≡ Over → t.life b ≡ Over) (λ e q. absurd (cc)) (λ e q. q) l)
+    (λ id n l. l) (λ id s a p n l. l) (λ id y n l. l)
+    (λ id n l. at_cases t.life id Closes b (λ x. x ≡ Over → t.life b ≡ Over) (λ e q. absurd (cc)) (λ e q. q) l)
+    (λ id y n l. at_cases t.life id Over b (λ x. x ≡ Over → t.life b ≡ Over) (λ e q. absurd (n (sym e))) (λ e q. q) l)
+    call reply n l
 
 -- an arena gives nothing to a caller that isn't inside
 given_stays : (limit : ℕ) (t : Machine) (c : Caller) (b : ArenaId) (call : Call) (reply : Reply) → MayBy limit t c call → t.inside c ≢ Some b
     → (moved t c call reply).given b ≡ t.given b
-given_stays limit t c b (Open id) reply m n = refl
-given_stays limit t c b (Enter id) Fine m n = refl
-given_stays limit t c b (Enter id) reply m n = refl
-given_stays limit t c b (Read id word) reply m n = refl
-given_stays limit t c b (Write id word value) reply m n = refl
-given_stays limit t c b (SwapIf id word old new) (Found found) m n =
-    either_swap (λ u. u.given b ≡ t.given b) t (record t { word = put_at t.word id (put (t.word id) word new) }) (found == old) refl refl
-given_stays limit t c b (SwapIf id word old new) reply m n = refl
-given_stays limit t c b (Add id word k) (Found found) m n = refl
-given_stays limit t c b (Add id word k) reply m n = refl
-given_stays limit t c b (Allocate id size align) (Given place) m n = at_cases t.given id (place + size) b (λ x. x ≡ t.given b)
-    (λ e. absurd (n (m.0 ∙ ap Some (sym e))))
-    (λ e. refl)
-given_stays limit t c b (Allocate id size align) reply m n = refl
-given_stays limit t c b (Leave id) reply m n = refl
-given_stays limit t c b (Hold id) Fine m n = refl
-given_stays limit t c b (Hold id) reply m n = refl
-given_stays limit t c b (Unhold id) reply m n = refl
-given_stays limit t c b (Shut id) Fine m n = refl
-given_stays limit t c b (Shut id) reply m n = refl
-given_stays limit t c b (End id) reply m n = refl
-given_stays limit t c b (Lend block id part) reply m n = refl
-given_stays limit t c b (Back block) reply m n = refl
+given_stays limit t c b call reply m n = moved_cases t c (λ call reply u. MayBy limit t c call → u.given b ≡ t.given b)
+    (λ x y m. refl) (λ x y f m. refl) (λ x y f m. refl) (λ id y m. refl) (λ id m. refl)
+    (λ id s a p m. at_cases t.given id (p + s) b (λ x. x ≡ t.given b) (λ e. absurd (n (m.0 ∙ ap Some (sym e)))) (λ e. refl))
+    (λ id y m. refl) (λ id m. refl) (λ id y m. refl) call reply m
 
 -- an arena that was opened stays known
 known_stays : (t : Machine) (c : Caller) (b : ArenaId) (call : Call) (reply : Reply) → t.life b ≢ Fresh → (moved t c call reply).life b ≢ Fresh
-known_stays t c b (Open id) reply n = at_cases t.life id Lives b (λ x. x ≢ Fresh) (λ e s. absurd (cc)) (λ e. n)
-known_stays t c b (Enter id) Fine n = n
-known_stays t c b (Enter id) reply n = n
-known_stays t c b (Read id word) reply n = n
-known_stays t c b (Write id word value) reply n = n
-known_stays t c b (SwapIf id word old new) (Found found) n =
-    either_swap (λ u. u.life b ≢ Fresh) t (record t { word = put_at t.word id (put (t.word id) word new) }) (found == old) n n
-known_stays t c b (SwapIf id word old new) reply n = n
-known_stays t c b (Add id word k) (Found found) n = n
-known_stays t c b (Add id word k) reply n = n
-known_stays t c b (Allocate id size align) (Given place) n = n
-known_stays t c b (Allocate id size align) reply n = n
-known_stays t c b (Leave id) reply n = n
-known_stays t c b (Hold id) Fine n = n
-known_stays t c b (Hold id) reply n = n
-known_stays t c b (Unhold id) reply n = n
-known_stays t c b (Shut id) Fine n = at_cases t.life id Closes b (λ x. x ≢ Fresh) (λ e s. absurd (cc)) (λ e. n)
-known_stays t c b (Shut id) reply n = n
-known_stays t c b (End id) reply n = at_cases t.life id Over b (λ x. x ≢ Fresh) (λ e s. absurd (cc)) (λ e. n)
-known_stays t c b (Lend block id part) reply n = n
-known_stays t c b (Back block) reply n = n
+known_stays t c b call reply n = moved_cases t c (λ call reply u. u.life b ≢ Fresh)
+    (λ x y. n) (λ x y f. n) (λ x y f. n)
+    (λ id y. at_cases t.life id Lives b (λ x. x ≢ Fresh) (λ e s. absurd (cc)) (λ e. n))
+    (λ id. n) (λ id s a p. n) (λ id y. n)
+    (λ id. at_cases t.life id Closes b (λ x. x ≢ Fresh) (λ e s. absurd (cc)) (λ e. n))
+    (λ id y. at_cases t.life id Over b (λ x. x ≢ Fresh) (λ e s. absurd (cc)) (λ e. n))
+    call reply
 
 -- ---- entries of one caller
 

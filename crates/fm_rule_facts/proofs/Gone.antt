@@ -15,7 +15,7 @@ use Rattle.fm_rule_facts.specs.Splits.{as_gathered, gather}
 use Rattle.fm_rule_facts.specs.Steps.{note_draw}
 use Rattle.fm_rule_facts.specs.Moves.{told}
 use Rattle.fm_rule_facts.proofs.Frame.{still_known}
-use Rattle.fm_rule_facts.proofs.Keeping.{begins_on, in_left, in_right, in_append}
+use Rattle.fm_rule_facts.proofs.Keeping.{begins_on, in_append, all_gather}
 
 -- what is noted has no find of slots or pages
 abbrev pub NoSlots : (ℕ → List Find) → Type 0
@@ -93,23 +93,11 @@ module _ (z : Shape) (h : List Entry) (m : Memory) (taker : ℕ → Option Calle
     theirs = λ g j. absurd (subst (In g) gs j);
   }
 
-  abbrev Has : Gathered → Type 0
-  Has g = (f : Find) → In f g.finds → FoundBy z h m taker life g.caller f
-
   pub founded_gather : (v w : View) → IsFounded z h m taker life v → IsFounded z h m taker life w → IsFounded z h m taker life (gather v w)
-  founded_gather v w a b = record { finds = a.finds; theirs = each }
-    where
-      come : (g : Gathered) → In g (as_gathered w ∷ w.gathered) → Has g
-      come g (inl q) = subst Has (sym q) b.finds
-      come g (inr j) = b.theirs g (in_left g w.gathered (brought w.met) j)
-
-      each : (g : Gathered) → In g (all_gathered (gather v w)) → Has g
-      each g j = ⊎_elim
-          (λ (k : In g v.gathered). a.theirs g (in_left g v.gathered (brought v.met) k))
-          (λ (k : In g ((as_gathered w ∷ w.gathered) ++ brought v.met)).
-          ⊎_elim (come g) (λ (q : In g (brought v.met)). a.theirs g (in_right g v.gathered (brought v.met) q))
-          (in_append g (as_gathered w ∷ w.gathered) (brought v.met) k))
-          (in_append g v.gathered ((as_gathered w ∷ w.gathered) ++ brought v.met) j)
+  founded_gather v w a b = record {
+    finds = a.finds;
+    theirs = all_gather v w (λ g. (f : Find) → In f g.finds → FoundBy z h m taker life g.caller f) a.theirs b.theirs b.finds;
+  }
 
 -- a draw notes no find of slots
 pub draw_no_slots : (expected x : ℕ) (v : View) → NoSlots (note_draw expected x v)

@@ -23,6 +23,7 @@ use Rattle.fm_rule_facts.proofs.Frame.{others_stay, none_come, still_closing, st
 use Rattle.fm_rule_facts.proofs.Sessions.{unstanding}
 use Rattle.fm_rule_facts.specs.Hands.{Hand, IsTaker, Number, no_number, number_taken, number_learnt, number_drawn, number_left, number_joined, most_draws}
 use Rattle.fm_rule_facts.proofs.Handing.{hand_on, took_on}
+use Rattle.fm_rule_facts.specs.Splits.{as_gathered, gather}
 
 -- ---- lists
 
@@ -73,6 +74,20 @@ in_brought g (x ∷ xs) i = ⊎_elim
     (λ (j : In g x.gathered). (x, inl refl, j))
     (λ (j : In g (brought xs)). let y = in_brought g xs j in (y.0, inr y.1, y.2))
     (in_append g x.gathered (brought xs) i)
+
+-- what holds of each that was gathered into two passes, and of the other's own caller, holds of each once the other is gathered into the one
+pub all_gather : (v w : View) (P : Gathered → Type 0) → ((g : Gathered) → In g (all_gathered v) → P g) → ((g : Gathered) → In g (all_gathered w) → P g)
+    → P (as_gathered w) → (g : Gathered) → In g (all_gathered (gather v w)) → P g
+all_gather v w P mine theirs own g j = ⊎_elim
+    (λ (k : In g v.gathered). mine g (in_left g v.gathered (brought v.met) k))
+    (λ (k : In g ((as_gathered w ∷ w.gathered) ++ brought v.met)).
+    ⊎_elim comes (λ (q : In g (brought v.met)). mine g (in_right g v.gathered (brought v.met) q))
+    (in_append g (as_gathered w ∷ w.gathered) (brought v.met) k))
+    (in_append g v.gathered ((as_gathered w ∷ w.gathered) ++ brought v.met) j)
+  where
+    comes : In g (as_gathered w ∷ w.gathered) → P g
+    comes (inl q) = subst P (sym q) own
+    comes (inr i) = theirs g (in_left g w.gathered (brought w.met) i)
 
 module _ (z : Shape) (h : List Entry) (m : Memory) (t : Machine) (o : Owners) (j : ℕ) (v : View) (k : Owns z h m t o j v) where
   -- each of them was gathered when something was seen

@@ -13,7 +13,7 @@ use Rattle.fm_rule_facts.specs.Splits.{as_gathered, gather}
 use Rattle.fm_rule_facts.specs.Facts.{Memory, Owners, WasDrawn, Somewhere, WantsNumber, IsUsed, used, wanted, full, HasLooked, LookedBy, IsLooked, IsLoose, Rule}
 use Rattle.fm_rule_facts.specs.Moves.{told}
 use Rattle.fm_rule_facts.proofs.Handing.{hand_owner}
-use Rattle.fm_rule_facts.proofs.Keeping.{in_left, in_right, in_append}
+use Rattle.fm_rule_facts.proofs.Keeping.{in_append, all_gather}
 
 pub prefix-append : (k : ℕ) (xs ys : List Gathered) → k ≤ length xs → prefix k (xs ++ ys) ≡ prefix k xs
 prefix-append zero xs ys h = refl
@@ -110,23 +110,13 @@ module _ (z : Shape) (m : Memory) (o : Owners) (vs : List View) where
     theirs = λ g j. absurd (subst (In g) gs j);
   }
 
-  abbrev Has : Gathered → Type 0
-  Has g = (f : Find) → In f g.finds → LookedBy z m o vs [] f
-
   pub looked_gather : (v w : View) → IsLooked z m o vs v → IsLooked z m o vs w → IsLooked z m o vs (gather v w)
-  looked_gather v w a b = record { few = a.few; finds = a.finds; theirs = each }
-    where
-      come : (g : Gathered) → In g (as_gathered w ∷ w.gathered) → Has g
-      come g (inl q) = subst Has (sym q) (λ f i. none_before (prefix f.gathered w.gathered) f (b.finds f i))
-      come g (inr j) = b.theirs g (in_left g w.gathered (brought w.met) j)
-
-      each : (g : Gathered) → In g (all_gathered (gather v w)) → Has g
-      each g j = ⊎_elim
-          (λ (k : In g v.gathered). a.theirs g (in_left g v.gathered (brought v.met) k))
-          (λ (k : In g ((as_gathered w ∷ w.gathered) ++ brought v.met)).
-          ⊎_elim (come g) (λ (q : In g (brought v.met)). a.theirs g (in_right g v.gathered (brought v.met) q))
-          (in_append g (as_gathered w ∷ w.gathered) (brought v.met) k))
-          (in_append g v.gathered ((as_gathered w ∷ w.gathered) ++ brought v.met) j)
+  looked_gather v w a b = record {
+    few = a.few;
+    finds = a.finds;
+    theirs = all_gather v w (λ g. (f : Find) → In f g.finds → LookedBy z m o vs [] f) a.theirs b.theirs
+        (λ f i. none_before (prefix f.gathered w.gathered) f (b.finds f i));
+  }
 
 -- where no number was looked for, all that was noted is so
 pub none_looked : (z : Shape) (m : Memory) (o : Owners) (vs : List View) (before : List Gathered) (f : Find) → is_number f.step ≡ false

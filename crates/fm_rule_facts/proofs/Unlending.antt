@@ -3,7 +3,7 @@ use Rattle.std.proofs.Common.{◌≡◌, ℕ, ◌==◌, true, List, [], ◌∷�
 use Rattle.std.specs.Prelude.{Contains}
 use Rattle.fm_base.specs.declared.arena_id.ArenaId.{ArenaId}
 use Rattle.fm_base.specs.Arenas.{State, Ended, has_arena, arena_of}
-use Rattle.fm_base.specs.Calls.{Call, Open, Enter, Read, Write, SwapIf, Add, Allocate, Leave, Hold, Unhold, Shut, End, Lend, Back, Entry}
+use Rattle.fm_base.specs.Calls.{Call, Lend, Back, Entry}
 use Rattle.fm_base.specs.Machine.{after}
 use Rattle.fm_base.specs.Histories.{IsLegal, state_after}
 use Rattle.fm_base.proofs.Growing.{IsOver, Grows-after, Grows-state_after}
@@ -19,18 +19,7 @@ still_none size s loans (Lend block id part) a o r n l h e = ⊎_elim
     (λ (i : Contains loans l). n l i e)
     (loan_cases (loan_of block id part) l loans h)
 still_none size s loans (Back block) a o r n l h e = n l (loan_was (λ x. not (x.block == block)) loans l h) e
-still_none size s loans (Open id) a o r n l h e = n l h e
-still_none size s loans (Enter id) a o r n l h e = n l h e
-still_none size s loans (Read id word) a o r n l h e = n l h e
-still_none size s loans (Write id word value) a o r n l h e = n l h e
-still_none size s loans (SwapIf id word old new) a o r n l h e = n l h e
-still_none size s loans (Add id word k) a o r n l h e = n l h e
-still_none size s loans (Allocate id length align) a o r n l h e = n l h e
-still_none size s loans (Leave id) a o r n l h e = n l h e
-still_none size s loans (Hold id) a o r n l h e = n l h e
-still_none size s loans (Unhold id) a o r n l h e = n l h e
-still_none size s loans (Shut id) a o r n l h e = n l h e
-still_none size s loans (End id) a o r n l h e = n l h e
+still_none size s loans call a o r n l h e = n l h e
 
 -- nothing is lent to it later
 pub none_lent_on : (size limit : ℕ) (s : State) (loans : List Loan) (es : List Entry) (a : ArenaId) → IsLegal limit s es → has_arena s a ≡ true
@@ -43,15 +32,15 @@ none_lent_on size limit s loans (e ∷ es) a l h o r n =
 -- ---- histories
 
 -- both parts of a history that is rightly lent are so
-pub lent-first : (size limit : ℕ) (s : State) (loans : List Loan) (es fs : List Entry) → IsRightlyLentFrom size limit s loans (es ++ fs)
-    → IsRightlyLentFrom size limit s loans es
-lent-first size limit s loans [] fs r = tt
-lent-first size limit s loans (e ∷ es) fs r = (r.0, lent-first size limit (after limit s e) (loans_by loans e.call) es fs r.1)
+module _ (size limit : ℕ) where
+  pub lent-first : (s : State) (loans : List Loan) (es fs : List Entry) → IsRightlyLentFrom size limit s loans (es ++ fs) → IsRightlyLentFrom size limit s loans es
+  lent-first s loans [] fs r = tt
+  lent-first s loans (e ∷ es) fs r = (r.0, lent-first (after limit s e) (loans_by loans e.call) es fs r.1)
 
-pub lent-split : (size limit : ℕ) (s : State) (loans : List Loan) (es fs : List Entry) → IsRightlyLentFrom size limit s loans (es ++ fs)
-    → IsRightlyLentFrom size limit (state_after limit s es) (loans_after loans es) fs
-lent-split size limit s loans [] fs r = r
-lent-split size limit s loans (e ∷ es) fs r = lent-split size limit (after limit s e) (loans_by loans e.call) es fs r.1
+  pub lent-split : (s : State) (loans : List Loan) (es fs : List Entry) → IsRightlyLentFrom size limit s loans (es ++ fs)
+      → IsRightlyLentFrom size limit (state_after limit s es) (loans_after loans es) fs
+  lent-split s loans [] fs r = r
+  lent-split s loans (e ∷ es) fs r = lent-split (after limit s e) (loans_by loans e.call) es fs r.1
 
 -- where the history goes on, an arena that is over is so still
 pub over_later : (limit : ℕ) (h more : List Entry) (a : ArenaId) → IsLegal limit [] (h ++ more) → has_arena (state_after limit [] h) a ≡ true

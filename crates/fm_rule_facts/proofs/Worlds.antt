@@ -71,6 +71,13 @@ module _ (sessions : ℕ → Session) (words : ℕ → ℕ) (life : ArenaId → 
 -- ---- each kind of entry
 
 module _ (z : Shape) (m : Memory) (t : Machine) (r : World z m t) where
+  -- who is under way in an arena whose stage becomes s is so still, where s stands
+  stands_on : (a : ArenaId) (s : Stage) → ((c : Caller) (b : ArenaId) → t.inside c ≡ Some b → b ≡ a → IsStanding s) → (c : Caller) (b : ArenaId)
+      → t.inside c ≡ Some b → IsMarked z m.marks m.terms (put_at t.life a s) c b
+  stands_on a s on c b i =
+      let w = r.marked c b i in
+      record { number = w.number; term = w.term; mark = w.mark; stands = at_cases t.life a s b IsStanding (on c b i) (λ n. w.stands) }
+
   -- the mark of a caller that is outside
   pub world_mark : (c : Caller) (x : Option ArenaId) → c.term ≡ m.terms c.number → t.inside c ≡ None → World z (record m { marks = put m.marks c.number x }) t
   world_mark c x term out = record {
@@ -116,7 +123,7 @@ module _ (z : Shape) (m : Memory) (t : Machine) (r : World z m t) where
   -- words don't matter
   pub world_word : (cells : ℕ → ℕ → ℕ) (f : ArenaId → ℕ → ℕ) → World z (record m { cells = cells }) (record t { word = f })
   world_word cells f = record {
-    marked = λ c b i. let w = r.marked c b i in record { number = w.number; term = w.term; mark = w.mark; stands = w.stands };
+    marked = r.marked;
     sessions = r.sessions;
     slots = r.slots;
     counts = r.counts;
@@ -126,7 +133,7 @@ module _ (z : Shape) (m : Memory) (t : Machine) (r : World z m t) where
   -- nor do pages
   pub world_pages : (bits : ℕ → ℕ) (maps : ℕ → ℕ → Option ℕ) (cells : ℕ → ℕ → ℕ) → World z (record m { page_bits = bits; maps = maps; cells = cells }) t
   world_pages bits maps cells = record {
-    marked = λ c b i. let w = r.marked c b i in record { number = w.number; term = w.term; mark = w.mark; stands = w.stands };
+    marked = r.marked;
     sessions = r.sessions;
     slots = r.slots;
     counts = r.counts;
@@ -136,15 +143,7 @@ module _ (z : Shape) (m : Memory) (t : Machine) (r : World z m t) where
   pub world_shut : (a : ArenaId) → t.life a ≡ Lives → t.holds a ≡ 0
       → World z (record m { sessions = put m.sessions a.slot (shut a); counts = put m.counts a.slot 0 }) (record t { life = put_at t.life a Closes })
   world_shut a l no_holds = record {
-    marked =
-        λ c b i. let w =
-        r.marked c b i in record {
-          number = w.number;
-          term = w.term;
-          mark = w.mark;
-          stands = at_cases t.life a Closes b IsStanding (λ e. inr refl)
-              (λ n. w.stands);
-        };
+    marked = stands_on a Closes (λ c b i e. inr refl);
     sessions = sessions_shut z m.sessions t.life r.sessions a l;
     slots = slots_used z m.bits m.sessions r.slots a.slot (shut a) (λ g e. absurd (cc)) (λ b.
         let y = r.slots.bit_is a.slot b in let q : free y.0 ≡ live a = sym y.1 ∙ r.sessions.alive_shown a l in absurd (cc));
@@ -154,15 +153,7 @@ module _ (z : Shape) (m : Memory) (t : Machine) (r : World z m t) where
 
   pub world_end : (a : ArenaId) → t.life a ≡ Closes → ((k : Caller) → t.inside k ≢ Some a) → World z m (record t { life = put_at t.life a Over })
   world_end a l nobody = record {
-    marked =
-        λ c b i. let w =
-        r.marked c b i in record {
-          number = w.number;
-          term = w.term;
-          mark = w.mark;
-          stands = at_cases t.life a Over b IsStanding
-              (λ e. absurd (nobody c (i ∙ ap Some e))) (λ n. w.stands);
-        };
+    marked = stands_on a Over (λ c b i e. absurd (nobody c (i ∙ ap Some e)));
     sessions = sessions_end z m.sessions t.life r.sessions a l;
     slots = r.slots;
     counts = counts_end m.counts t.life t.holds r.counts a l;
@@ -174,15 +165,7 @@ module _ (z : Shape) (m : Memory) (t : Machine) (r : World z m t) where
   world_open a f taken fit =
       let new = open_new z m.sessions t.life r.sessions a f in
       record {
-        marked =
-            λ c b i. let w =
-            r.marked c b i in record {
-              number = w.number;
-              term = w.term;
-              mark = w.mark;
-              stands = at_cases t.life a Lives b IsStanding (λ e. inl refl)
-                  (λ n. w.stands);
-            };
+        marked = stands_on a Lives (λ c b i e. inl refl);
         sessions = sessions_open z m.sessions t.life r.sessions a f fit;
         slots = slots_used z m.bits m.sessions r.slots a.slot (live a) (λ g e. absurd (cc)) taken;
         counts =
@@ -194,7 +177,7 @@ module _ (z : Shape) (m : Memory) (t : Machine) (r : World z m t) where
   pub world_count : (a : ArenaId) (n : ℕ) → t.life a ≡ Lives → n ≤ 65535
       → World z (record m { counts = put m.counts a.slot n }) (record t { holds = put_at t.holds a n })
   world_count a n l few = record {
-    marked = λ c b i. let w = r.marked c b i in record { number = w.number; term = w.term; mark = w.mark; stands = w.stands };
+    marked = r.marked;
     sessions = r.sessions;
     slots = r.slots;
     counts = record {
@@ -211,7 +194,7 @@ module _ (z : Shape) (m : Memory) (t : Machine) (r : World z m t) where
   pub world_given : (a : ArenaId) (n : ℕ) → IsStanding (t.life a)
       → World z (record m { given = put m.given a.slot n }) (record t { given = put_at t.given a n })
   world_given a n s = record {
-    marked = λ c b i. let w = r.marked c b i in record { number = w.number; term = w.term; mark = w.mark; stands = w.stands };
+    marked = r.marked;
     sessions = r.sessions;
     slots = r.slots;
     counts = r.counts;
@@ -229,7 +212,7 @@ module _ (z : Shape) (m : Memory) (t : Machine) (r : World z m t) where
   -- other slot bits
   pub world_bits : (bits : ℕ) → ((s : ℕ) → bit_at bits s ≡ 1 → bit_at m.bits s ≡ 1) → World z (record m { bits = bits }) t
   world_bits bits less = record {
-    marked = λ c b i. let w = r.marked c b i in record { number = w.number; term = w.term; mark = w.mark; stands = w.stands };
+    marked = r.marked;
     sessions = r.sessions;
     slots = record { bit_is = λ s b. r.slots.bit_is s (less s b); low = λ s b. r.slots.low s (less s b); within = r.slots.within };
     counts = r.counts;

@@ -1,5 +1,5 @@
 -- What one step changes, and what the rule allows.
-use Rattle.std.specs.Prelude.{◌*◌, ◌/◌, ◌≡◌, ◌≢◌, ◌⊎◌, ℕ, ◌+◌, ◌<◌, ◌≤◌, true, List, [], ◌∷◌, ◌++◌, length, slice_index, slice_set, Contains, Some, None, ⊤}
+use Rattle.std.specs.Prelude.{◌*◌, ◌/◌, ◌≡◌, ◌≢◌, ◌⊎◌, ℕ, ◌+◌, ◌<◌, ◌≤◌, true, List, [], ◌∷◌, ◌++◌, length, slice_index, slice_set, Contains, Some, None, ⊤, Option}
 use mathlib.Core.Option.{some}
 use lib.ListN.{get_elem?}
 use Rattle.fm_words.specs.declared.shape.Shape.{Shape}
@@ -9,7 +9,7 @@ use Rattle.fm_base.specs.Calls.{Call, Read, Write, SwapIf, Add, End, Lend, Back,
 use Rattle.fm_base.specs.Histories.{made_by}
 use Rattle.fm_rule_facts.specs.Loans.{loans_of, Loan, loan_of, loans_by, IsFree, HasPart}
 use Rattle.fm_base.specs.Finds.{Find, Gathered, Close, Sweep, is_draw}
-use Rattle.fm_base_machine.specs.Functions.{Fresh, Closes, Over, Machine, moved, MayBy, reply_by}
+use Rattle.fm_base_machine.specs.Functions.{Fresh, Closes, Over, Machine, moved, MayBy, reply_by, Stage}
 use Rattle.std.specs.Int.{bit_at}
 use Rattle.fm_rule_facts.specs.Hands.{nothing, IsTaker, number_drawn, HasNumberIn, last_term, most_draws}
 use Rattle.fm_rule_facts.specs.declared.step.Step.{Step}
@@ -20,7 +20,7 @@ use Rattle.fm_rule_facts.specs.Words.{own_word, alive_holds}
 use Rattle.fm_rule_facts.specs.Holds.{grips, holds_of, all_holds}
 use Rattle.fm_rule_facts.specs.Gone.{IsTakenBy, OpenedBy}
 use Rattle.fm_base_machine.specs.Steps.{moved_by}
-use Rattle.fm_rule_facts.specs.Facts.{Memory, free, shut, IsStanding, IsAt, HasPages, HasPage, Owners, IsClosing, IsSweeping, IsOnce, HasInHand, HasClose, HasSweep, KeepsSlot, Begins, Rule, bit_of, KeepsNumber, WantsNumber, IsSpent, IsFreeNumber, HasNumberInHand}
+use Rattle.fm_rule_facts.specs.Facts.{Memory, free, shut, IsStanding, IsAt, HasPages, HasPage, Owners, IsClosing, IsSweeping, IsOnce, HasInHand, HasClose, HasSweep, KeepsSlot, Begins, Rule, bit_of, KeepsNumber, WantsNumber, IsSpent, IsFreeNumber, HasNumberInHand, Berth}
 
 -- entries of one caller that the functions allow
 abbrev pub MayMake : ℕ → Machine → Caller → List Entry → Type 0
@@ -57,26 +57,26 @@ pub record StaysEnded (m m' : Memory) (b : ArenaId) : Type 0 where
   pub given : m'.given b.slot ≡ m.given b.slot
 
 -- what a step of the seat `me` may do to what others know of pages
-pub record PagesMoved (me : ℕ) (m : Memory) (t : Machine) (o : Owners) (m' : Memory) (o' : Owners) : Type 0 where
+pub record PagesMoved (me : ℕ) (life : ArenaId → Stage) (maps : ℕ → ℕ → Option ℕ) (cells : ℕ → ℕ → ℕ) (berth : ℕ → Berth) (maps' : ℕ → ℕ → Option ℕ)
+    (cells' : ℕ → ℕ → ℕ) (berth' : ℕ → Berth) : Type 0 where
   -- a page that another seat has
-  pub others : (p j : ℕ) → IsAt j (o.berth p) → j ≢ me → (o'.berth p ≡ o.berth p) × ((w : ℕ) → m'.cells p w ≡ m.cells p w)
+  pub others : (p j : ℕ) → IsAt j (berth p) → j ≢ me → (berth' p ≡ berth p) × ((w : ℕ) → cells' p w ≡ cells p w)
   -- a page of an arena that stands
-  pub stay : (b : ArenaId) (i p : ℕ) → IsStanding (t.life b) → m.maps b.slot i ≡ Some p → m'.maps b.slot i ≡ Some p
+  pub stay : (b : ArenaId) (i p : ℕ) → IsStanding (life b) → maps b.slot i ≡ Some p → maps' b.slot i ≡ Some p
 
 -- nobody was drawn, and each caller stays at its seat
-pub record CallersStay (m : Memory) (o : Owners) (m' : Memory) (o' : Owners) : Type 0 where
-  pub draw : m'.draw ≡ m.draw
-  pub who : (k : ℕ) → o'.who k ≡ o.who k
-  pub rank : (k : Caller) → o'.rank k ≡ o.rank k
-  pub seat : (k : Caller) → o'.seat k ≡ o.seat k
+pub record CallersStay (d : ℕ) (w : ℕ → Caller) (r s : Caller → ℕ) (d' : ℕ) (w' : ℕ → Caller) (r' s' : Caller → ℕ) : Type 0 where
+  pub draw : d' ≡ d
+  pub who : (k : ℕ) → w' k ≡ w k
+  pub rank : (k : Caller) → r' k ≡ r k
+  pub seat : (k : Caller) → s' k ≡ s k
 
 -- the caller's own number n stays its own, and a number at another seat stays there
-pub record NumbersMoved (me n : ℕ) (m : Memory) (o : Owners) (m' : Memory) (o' : Owners) : Type 0 where
-  pub owner : o'.number n ≡ o.number n
-  pub bit : bit_of m'.numbers n ≡ bit_of m.numbers n
-  pub term : m'.terms n ≡ m.terms n
-  pub others : (k : ℕ) → bit_of m.numbers k ≡ 0 → o.number k ≢ me
-      → (o'.number k ≡ o.number k) × (bit_of m'.numbers k ≡ 0) × (m'.terms k ≡ m.terms k)
+pub record NumbersMoved (me n : ℕ) (bits terms at bits' terms' at' : ℕ → ℕ) : Type 0 where
+  pub owner : at' n ≡ at n
+  pub bit : bit_of bits' n ≡ bit_of bits n
+  pub term : terms' n ≡ terms n
+  pub others : (k : ℕ) → bit_of bits k ≡ 0 → at k ≢ me → (at' k ≡ at k) × (bit_of bits' k ≡ 0) × (terms' k ≡ terms k)
 
 -- where each number whose bit is 0 is after the step
 abbrev pub KeepsNumbers : (z : Shape) (me : ℕ) (v p : View) (m : Memory) (o : Owners) (m' : Memory) (o' : Owners) → Type 0
@@ -106,8 +106,8 @@ pub record NumbersOn (z : Shape) (me : ℕ) (v p : View) (m : Memory) (o : Owner
 pub record Moved (me : ℕ) (z : Shape) (c : Caller) (m : Memory) (t : Machine) (o : Owners) (es : List Entry) (m' : Memory) (o' : Owners) : Type 0 where
   pub allowed : MayMake (limit_of z) t c es
   pub marks : (k : ℕ) → k ≢ c.number → m'.marks k ≡ m.marks k
-  pub callers : CallersStay m o m' o'
-  pub numbers : NumbersMoved me c.number m o m' o'
+  pub callers : CallersStay m.draw o.who o.rank o.seat m'.draw o'.who o'.rank o'.seat
+  pub numbers : NumbersMoved me c.number m.numbers m.terms o.number m'.numbers m'.terms o'.number
   pub closers : (b : ArenaId) → t.life b ≡ Closes → o.closer b ≢ me → (o'.closer b ≡ o.closer b) × NoEnd es b
   pub sweepers : (b : ArenaId) → t.life b ≡ Over → m.sessions b.slot ≡ shut b → o.closer b ≢ me → (o'.closer b ≡ o.closer b) × StaysEnded m m' b
   pub holders : (s g : ℕ) → m.sessions s ≡ free g → bit_at m.bits s ≡ 0 → o.holder s ≢ me
@@ -115,7 +115,7 @@ pub record Moved (me : ℕ) (z : Shape) (c : Caller) (m : Memory) (t : Machine) 
   -- a slot that was taken for an arena is so still, or the arena was opened
   pub taken : (s : ℕ) (k : Caller) → IsTakenBy z m.bits m.sessions o.taker s k
       → IsTakenBy z m'.bits m'.sessions o'.taker s k ⊎ OpenedBy (moved_by t es).life s k
-  pub pages : PagesMoved me m t o m' o'
+  pub pages : PagesMoved me t.life m.maps m.cells o.berth m'.maps m'.cells o'.berth
 
 -- what a step leaves of a view
 pub record Same (v p : View) : Type 0 where

@@ -28,12 +28,12 @@ use Rattle.fm_rule_facts.proofs.Moving.{pages_take}
 use Rattle.fm_rule_facts.proofs.Returning.{pages_give}
 use Rattle.fm_rule_facts.proofs.Shown.{shows_same, shows_page_bits}
 use Rattle.fm_rule_facts.proofs.Ruling.{page_by, page_like, AreLooked, unlooked}
-use Rattle.fm_rule_steps.proofs.Reading.{eqb_true, eqb_false}
+use Rattle.fm_rule_steps.proofs.Reading.{by_bit}
 use Rattle.fm_rule_steps.proofs.Knowing.{own}
 use Rattle.fm_rule_steps.proofs.Plain.{Made}
 use Rattle.fm_rule_steps.proofs.Scarce.{few_left}
 use Rattle.fm_rule_facts.proofs.Gone.{NoSlots, none_founded}
-use Rattle.fm_rule_steps.proofs.Paging.{paged, swept_still}
+use Rattle.fm_rule_steps.proofs.Paging.{paged, swept_still, pages_read}
 
 -- a clear pass is known to be whole
 pub whole_clear : (v : View) → is_clear v ≡ true → v.whole ≡ true
@@ -80,19 +80,7 @@ module _ (z : Shape) (me : ℕ) (v : View) (l : v.live ≡ true) (ws : List ℕ)
     looks = unlooked r v fs (note_no_number (Claiming g e bit) found v refl)
 
     claim_misses : Made z ws vs me v bits_at found (record v { pages = v.pages; reads = v.reads }) [] fs
-    claim_misses = paged z me v l ws vs r at bits_at found r.memory.page_bits r.memory.maps r.owners.berth v.pages v.reads [] fs
-        (note_none_drawn (Claiming g e bit) found v refl) new looks (record {
-          may = tt;
-          ends = λ b. tt;
-          stays = refl;
-          moved = record { others = λ q j b h. (refl, λ w. refl); stay = λ b k q st f. f };
-          ended = λ b o f k. refl;
-          lends = tt;
-          pages = r.pages;
-          keep = λ q j b. inr (refl, page_like q (r.owners.berth q) v v refl refl refl);
-          shows = shows_same z r.valid ws r.memory r.shows bits_at;
-          has = mine.work.pages;
-        })
+    claim_misses = pages_read z me v l ws vs r at bits_at v.reads fs (note_none_drawn (Claiming g e bit) found v refl) new looks mine.work.pages.read
 
     claims_it : r.memory.page_bits g ≡ e → bit_at e bit ≡ 1 → Made z ws vs me v bits_at next (record v { pages = p ∷ v.pages; reads = v.reads }) [] fs
     claims_it is one =
@@ -134,12 +122,8 @@ module _ (z : Shape) (me : ℕ) (v : View) (l : v.live ≡ true) (ws : List ℕ)
 
     claiming : (b c : Bool) → (found == e) ≡ b → (bit_at e bit == 1) ≡ c
         → Made z ws vs me v bits_at (either b next found) (record v { pages = pages_taken (if b then c else false) p v.pages; reads = v.reads }) [] fs
-    claiming true true p q = claims_it (sym is_found ∙ eqb_true found e p) (eqb_true (bit_at e bit) 1 q)
-    claiming true false p q =
-        let zero : bit_at e bit ≡ 0 = (let y = bit_at-lt e bit in let n = eqb_false (bit_at e bit) 1 q in omega arith) in
-        subst (λ (w : ℕ). Made z ws vs me v bits_at w (record v { pages = v.pages; reads = v.reads }) [] fs)
-        (eqb_true found e p ∙ sym (without.same zero)) claim_misses
-    claiming false c p q = claim_misses
+    claiming = by_bit (λ w b. Made z ws vs me v bits_at w (record v { pages = pages_taken b p v.pages; reads = v.reads }) [] fs) e bit next found without
+        (λ q. claims_it (sym is_found ∙ q)) claim_misses
 
   founded : (fs : ℕ → List Find) → NoSlots fs → (f : Find) → In f (fs (length r.history))
       → FoundBy z r.history r.memory r.owners.taker r.machine.life v.caller f

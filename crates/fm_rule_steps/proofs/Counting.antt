@@ -10,7 +10,7 @@ use Rattle.fm_words.specs.Places.{at as place_at, draw as draw_place}
 use Rattle.fm_base.specs.Calls.{Entry}
 use Rattle.fm_base.specs.Finds.{Find, Gathered, is_number}
 use Rattle.fm_base_machine.specs.Functions.{put, put_by}
-use Rattle.fm_base_machine.proofs.Putting.{put_here, put_else, by_here, by_else}
+use Rattle.fm_base_machine.proofs.Putting.{put_here, put_else, by_here, by_else, one_caller}
 use Rattle.fm_rule_facts.specs.Views.{View, In, all_gathered}
 use Rattle.fm_rule_facts.specs.Holds.{holds_of}
 use Rattle.fm_rule_facts.specs.Facts.{Memory, Owners, HasDraw, HasClose, HasSweep, KeepsSlot, DrewIn, IsDrawn, Somewhere, Owns, Knows, Rule, HasPage, WantsNumber, IsUsed, used, wanted, IsLooked, WasDrawn, bit_of, next_of, IsUndrawn, IsSpent, IsCounted, HasNumberInHand, KeepsCaller, KeepsNumber}
@@ -19,7 +19,6 @@ use Rattle.fm_rule_facts.specs.Hands.{number_learnt, number_drawn, HasNumberIn, 
 use Rattle.fm_rule_facts.proofs.Looking.{looked_on, looked_told, none_looked, wants_in}
 use Rattle.atomic_table.proofs.Lists.{set_else}
 use mathlib.Core.Option.{some-injective}
-use Rattle.fm_rule_facts.proofs.Callers.{same_caller}
 use Rattle.fm_rule_facts.specs.Moves.{told}
 use Rattle.fm_rule_facts.specs.Gone.{IsFounded}
 use Rattle.fm_rule_facts.proofs.Ruling.{page_like}
@@ -100,7 +99,7 @@ module _ (z : Shape) (me : ℕ) (v : View) (l : v.live ≡ true) (lone : v.met �
     seat_on x q = by_else r.owners.seat c me x (was_else x q)
 
     mine_only : (x : Caller) → WasDrawn (d + 1) who' rank' x → Was x ⊎ (r.owners.number x.number ≡ me)
-    mine_only x q = elim (same_caller x c) [
+    mine_only x q = elim (one_caller x c) [
       | yes e ↦ inr (ap (λ (y : Caller). r.owners.number y.number) e ∙ its.0.loose.owner)
       | no ne ↦ inl (back x ne q)
     ]
@@ -185,13 +184,13 @@ module _ (z : Shape) (me : ℕ) (v : View) (l : v.live ≡ true) (lone : v.met �
           let low : j < d = omega arith in
           ap rank' (who_on j low) ∙ (by_else r.owners.rank c d (r.owners.who j) (was_else (r.owners.who j) (was_who j low)) ∙ r.ranks j low));
       later = λ x n. r.later x (λ y. n (on x y));
-      terms = λ x q. elim (same_caller x c) [
+      terms = λ x q. elim (one_caller x c) [
         | yes e ↦ subst (λ (y : Caller). (y.number < z.passes) × (y.term ≤ r.memory.terms y.number)) (sym e)
             (its.0.loose.low, (let a = its.1 in omega arith))
         | no ne ↦ r.terms x (back x ne q)
       ];
       last = r.last;
-      callers = λ x q. elim (same_caller x c) [
+      callers = λ x q. elim (one_caller x c) [
         | yes e ↦ record {
           view = drawer;
           there = ap (get_elem? (set vs me drawer)) (ap seat' e ∙ by_here r.owners.seat c me) ∙ set_there vs me v drawer at;
@@ -230,7 +229,7 @@ module _ (z : Shape) (me : ℕ) (v : View) (l : v.live ≡ true) (lone : v.met �
           let y = r.free_numbers x b in
           record {
             mark = y.mark;
-            fresh = λ q. elim (same_caller (next_of r.memory.terms x) c) [
+            fresh = λ q. elim (one_caller (next_of r.memory.terms x) c) [
               | yes e ↦ absurd (let e' : x ≡ n = ap (λ (y : Caller). y.number) e in
                   let zero : bit_of r.memory.numbers x ≡ 0 = ap (bit_of r.memory.numbers) e' ∙ its.0.loose.bit in omega arith)
               | no ne ↦ y.fresh (back (next_of r.memory.terms x) ne q)

@@ -12,14 +12,13 @@ use Rattle.fm_base.specs.Histories.{made_by}
 use Rattle.fm_base.specs.Finds.{Gathered}
 use Rattle.fm_base_machine.specs.Handles.{AreLeft}
 use Rattle.fm_base_machine.specs.Functions.{put, put_by}
-use Rattle.fm_base_machine.proofs.Putting.{put_here, put_else, by_here, by_else}
+use Rattle.fm_base_machine.proofs.Putting.{put_here, put_else, by_here, by_else, one_caller}
 use Rattle.fm_rule_facts.specs.Views.{Met, View, In, all_gathered, brought}
 use Rattle.fm_rule_facts.specs.Holds.{holds_of}
 use Rattle.fm_rule_facts.specs.Splits.{drawn_left, drawn_right, caller_or}
 use Rattle.fm_rule_facts.specs.Facts.{Owners, HasDraw, HasClose, HasSweep, KeepsSlot, IsGathered, IsDrawn, Somewhere, Owns, Knows, Rule, IsCounted, HasPage, WantsNumber, IsLooked, HasNumberInHand, WasDrawn, bit_of, KeepsCaller, KeepsNumber}
 use Rattle.fm_rule_facts.specs.Hands.{number_taken, number_learnt, number_drawn, HasNumberIn}
 use Rattle.fm_rule_facts.proofs.Looking.{looked_bare}
-use Rattle.fm_rule_facts.proofs.Callers.{same_caller}
 use Rattle.fm_rule_facts.specs.Gone.{IsFounded}
 use Rattle.fm_rule_facts.proofs.Ruling.{page_like}
 use Rattle.fm_rule_facts.proofs.Gone.{founded_bare}
@@ -201,7 +200,7 @@ module _ (z : Shape) (ws : List ℕ) (vs : List View) (r : Rule z ws vs) (id : �
   pub draw_splits : Rule z ws us
   draw_splits =
       with_owners z ws vs us r f g
-      (λ c h. elim (same_caller c d) [
+      (λ c h. elim (one_caller c d) [
         | yes e ↦ record {
           view = right;
           there = ap (get_elem? us) (ap f e ∙ by_here r.owners.seat d last) ∙ at_last (set vs id left) right;

@@ -26,12 +26,12 @@ use Rattle.fm_rule_facts.proofs.Moving.{pages_map, no_part, claimed_free, read_m
 use Rattle.fm_rule_facts.proofs.Shown.{shows_same, shows_map}
 use Rattle.fm_rule_facts.proofs.Ruling.{page_by, page_like}
 use Rattle.fm_rule_facts.proofs.Keeping.{set_there}
-use Rattle.fm_rule_steps.proofs.Reading.{eqb_true, eqb_false, none_read, page_read, page_back}
+use Rattle.fm_rule_steps.proofs.Reading.{eqb_true, eqb_false, none_read, page_read, map_below}
 use Rattle.fm_rule_steps.proofs.Knowing.{own, given_now}
 use Rattle.fm_rule_steps.proofs.Plain.{Made}
 use Rattle.fm_rule_facts.proofs.Gone.{none_founded}
 use Rattle.fm_rule_facts.proofs.Ruling.{AreLooked, unlooked}
-use Rattle.fm_rule_steps.proofs.Paging.{paged, swept_still}
+use Rattle.fm_rule_steps.proofs.Paging.{paged, swept_still, pages_read}
 
 module _ (z : Shape) (me : ℕ) (v : View) (l : v.live ≡ true) (ws : List ℕ) (vs : List View) (r : Rule z ws vs) (at : get_elem? vs me ≡ some v) where
   abbrev mine : Owns z r.history r.memory r.machine r.owners me v
@@ -95,28 +95,8 @@ module _ (z : Shape) (me : ℕ) (v : View) (l : v.live ≡ true) (ws : List ℕ)
       map_loses : (fs : ℕ → List Find) → NoDraw fs → seen ≢ 0
           → Made z ws vs me v map_at seen (record v { pages = v.pages; reads = mapping_of i (seen - 1) ∷ v.reads }) [] fs
       map_loses fs nd n =
-          paged z me v l ws vs r at map_at seen r.memory.page_bits r.memory.maps r.owners.berth v.pages (mapping_of i (seen - 1) ∷ v.reads) [] fs (none_drawn fs nd)
-          (founded fs nd) (looks fs nd) (record {
-            may = tt;
-            ends = λ b. tt;
-            stays = refl;
-            moved = record { others = λ q j b h. (refl, λ w. refl); stay = λ b k q st f. f };
-            ended = λ b o f k. refl;
-            lends = tt;
-            pages = r.pages;
-            keep = λ q j b. inr (
-              refl,
-              page_like q (r.owners.berth q) v
-                  (record v { pages = v.pages; reads = mapping_of i (seen - 1) ∷ v.reads }) refl refl refl,
-            );
-            shows = shows_same z r.valid ws r.memory r.shows map_at;
-            has = record {
-              read = knows v.pages r.memory.maps r.owners.berth (seen - 1) (says_some n) (λ b k q st f. f);
-              claims = mine.work.pages.claims;
-              lone = mine.work.pages.lone;
-              sweep = mine.work.pages.sweep;
-            };
-          })
+          pages_read z me v l ws vs r at map_at (mapping_of i (seen - 1) ∷ v.reads) fs (none_drawn fs nd) (founded fs nd) (looks fs nd)
+          (knows v.pages r.memory.maps r.owners.berth (seen - 1) (says_some n) (λ b k q st f. f))
 
       -- nothing was there: the page is lent to the arena as this part
       map_wins : (p : ℕ) (fs : ℕ → List Find) → NoDraw fs
@@ -184,19 +164,8 @@ module _ (z : Shape) (me : ℕ) (v : View) (l : v.live ≡ true) (ws : List ℕ)
       reads : (b : Bool) → (seen == 0) ≡ b
           → Made z ws vs me v map_at seen (record v { pages = v.pages; reads = if b then v.reads else mapping_of i (seen - 1) ∷ v.reads }) [] none_noted
       reads false e = map_loses none_noted no_draw (eqb_false seen 0 e)
-      reads true e = paged z me v l ws vs r at map_at seen r.memory.page_bits r.memory.maps r.owners.berth v.pages v.reads [] none_noted
-          (λ n f j. absurd j) (founded none_noted no_draw) (looks none_noted no_draw) (record {
-            may = tt;
-            ends = λ b. tt;
-            stays = refl;
-            moved = record { others = λ q j b h. (refl, λ w. refl); stay = λ b k q st f. f };
-            ended = λ b o f k. refl;
-            lends = tt;
-            pages = r.pages;
-            keep = λ q j b. inr (refl, page_like q (r.owners.berth q) v v refl refl refl);
-            shows = shows_same z r.valid ws r.memory r.shows map_at;
-            has = mine.work.pages;
-          })
+      reads true e = pages_read z me v l ws vs r at map_at v.reads none_noted (λ n f j. absurd j) (founded none_noted no_draw) (looks none_noted no_draw)
+          mine.work.pages.read
 
       no_draws : (p : ℕ) → NoDraw (note_of (Mapped a i p) seen v)
       no_draws p = note_no_draw (Mapped a i p) seen v refl refl refl refl
@@ -212,13 +181,8 @@ module _ (z : Shape) (me : ℕ) (v : View) (l : v.live ≡ true) (ws : List ℕ)
       -- ---- what a map word tells
 
       low_map : v.shape ≡ z → seen ≤ v.shape.pages
-      low_map sh = subst (λ (x : Shape). seen ≤ x.pages) (sym sh) (go (r.memory.maps a.slot i) refl)
-        where
-          go : (o : Option ℕ) → r.memory.maps a.slot i ≡ o → seen ≤ z.pages
-          go None h = let e : seen ≡ 0 = is_map ∙ ap own_map h in omega arith
-          go (Some p) h =
-              let y = (r.pages.mapped_is p a.slot i (r.pages.map_is a.slot i p h)).page in
-              let e = page_back p seen (is_map ∙ ap own_map h) in omega arith
+      low_map sh = subst (λ (x : Shape). seen ≤ x.pages) (sym sh)
+          (map_below z.pages seen (r.memory.maps a.slot i) is_map (λ p h. (r.pages.mapped_is p a.slot i (r.pages.map_is a.slot i p h)).page))
 
       learns_map : v.shape ≡ z → (g : Made z ws vs me v map_at seen
           (record v { pages = v.pages; reads = if seen == 0 then v.reads else mapping_of i (seen - 1) ∷ v.reads }) [] none_noted) → LearnsMap v a i seen g.0

@@ -52,7 +52,7 @@ module _ (z : Shape) (me : ℕ) (v : View) (l : v.live ≡ true) (ws : List ℕ)
 
     -- the rule after a step that changes numbers, terms and which number is in the hand
     pub turns : (i y : ℕ) (fs : ℕ → List Find) → NoneDrawn fs → NoSlots fs
-        → AreLooked r v fs → NumbersMoved me v.caller.number r.memory r.owners m' o'
+        → AreLooked r v fs → NumbersMoved me v.caller.number r.memory.numbers r.memory.terms r.owners.number numbers' terms' number'
         → NumbersOn z me v p r.memory r.owners m' o' → KeepsHand z (r.history ++ []) v m' r.machine o' me p
         → ((c : Caller) (a : ArenaId) → r.machine.inside c ≡ Some a → IsMarked z r.memory.marks terms' r.machine.life c a) → Shows z (set ws i y) m'
         → Made z ws vs me v i y p [] fs

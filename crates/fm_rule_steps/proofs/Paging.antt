@@ -1,5 +1,5 @@
 -- A step on page bits or map words, by a pass that isn't sweeping: it keeps the rule where it keeps the facts of pages.
-use Rattle.std.proofs.Common.{◌≡◌, ℕ, ◌+◌, true, List, length, set, sym, refl, ap, ◌∙◌, subst, inl, inr, Option}
+use Rattle.std.proofs.Common.{◌≡◌, ℕ, ◌+◌, true, List, length, set, sym, refl, ap, ◌∙◌, subst, inl, inr, Option, get_or, [], Some}
 use mathlib.Core.Option.{some}
 use lib.ListN.{get_elem?}
 use Rattle.fm_words.specs.declared.shape.Shape.{Shape}
@@ -16,12 +16,13 @@ use Rattle.fm_rule_facts.specs.Views.{View, In, limit_of}
 use Rattle.fm_rule_facts.specs.Facts.{Memory, Owners, shut, Berth, unmapped, IsNext, HasSwept, HasPages, World, Shows, Owns, Rule}
 use Rattle.fm_rule_facts.specs.Moves.{MayMake, NoEnd, StaysEnded, Moved, Same, PagesMoved, KeepsPages, MayLend}
 use Rattle.fm_rule_facts.proofs.Founds.{NoneDrawn}
-use Rattle.fm_rule_facts.proofs.Ruling.{PagesAfter, AreLooked, keeps_with}
+use Rattle.fm_rule_facts.proofs.Ruling.{PagesAfter, AreLooked, keeps_with, page_like}
 use Rattle.fm_rule_facts.proofs.Keeping.{closing_on, sweeping_on}
 use Rattle.fm_rule_steps.proofs.Knowing.{own}
 use Rattle.fm_rule_steps.proofs.Staying.{same_but, numbers_stay, number_stays}
 use Rattle.fm_rule_steps.proofs.Plain.{Made}
-use Rattle.fm_rule_facts.proofs.Leaving.{callers_stay, numbers_left}
+use Rattle.fm_rule_facts.proofs.Leaving.{berths_moved, pages_left}
+use Rattle.fm_rule_facts.proofs.Shown.{shows_same}
 
 module _ (z : Shape) (me : ℕ) (v : View) (l : v.live ≡ true) (ws : List ℕ) (vs : List View) (r : Rule z ws vs) (at : get_elem? vs me ≡ some v) where
   abbrev mine : Owns z r.history r.memory r.machine r.owners me v
@@ -32,7 +33,7 @@ module _ (z : Shape) (me : ℕ) (v : View) (l : v.live ≡ true) (ws : List ℕ)
     pub may : MayMake (limit_of z) r.machine v.caller es
     pub ends : (b : ArenaId) → NoEnd es b
     pub stays : moved_by r.machine es ≡ r.machine
-    pub moved : PagesMoved me r.memory r.machine r.owners (record r.memory { page_bits = bits; maps = maps }) (record r.owners { berth = berth })
+    pub moved : PagesMoved me r.machine.life r.memory.maps r.memory.cells r.owners.berth maps r.memory.cells berth
     pub ended : (b : ArenaId) → r.machine.life b ≡ Over → r.memory.sessions b.slot ≡ shut b → (k : ℕ) → maps b.slot k ≡ r.memory.maps b.slot k
     pub lends : MayLend z.page_words r.machine (loans_of r.history) es
     pub pages : PagesAfter z r.history (record r.memory { page_bits = bits; maps = maps }) r.machine (record r.owners { berth = berth }) es
@@ -52,17 +53,8 @@ module _ (z : Shape) (me : ℕ) (v : View) (l : v.live ≡ true) (ws : List ℕ)
       let t' : Machine = moved_by r.machine es in
       let stays_ended : (b : ArenaId) → r.machine.life b ≡ Over → r.memory.sessions b.slot ≡ shut b → StaysEnded r.memory m' b =
       (λ b o f. record { session = f; maps = q.ended b o f; given = refl }) in
-      let d : Moved me z v.caller r.memory r.machine r.owners es m' o' = record {
-        allowed = q.may;
-        marks = λ k h. refl;
-        callers = callers_stay;
-        numbers = numbers_left;
-        closers = λ b f h. (refl, q.ends b);
-        sweepers = λ b f h n. (refl, stays_ended b f h);
-        holders = λ s g f b h. (refl, f, b, refl);
-        taken = λ s k x. inl x;
-        pages = q.moved;
-      } in
+      let d : Moved me z v.caller r.memory r.machine r.owners es m' o' =
+      berths_moved q.may (λ b f h. q.ends b) (λ b f h n. stays_ended b f h) q.moved in
       keeps_with z ws (set ws i x) vs r me v p es fs m' o' at l d same nd new looks q.lends q.pages
       (λ b h. inr (ap (λ (t : Machine). t.life b) (sym q.stays) ∙ h, refl, (λ y. y)))
       (λ b f h. inr (f, ap (λ (t : Machine). t.life b) (sym q.stays) ∙ h, refl, (λ y. y)))
@@ -72,7 +64,7 @@ module _ (z : Shape) (me : ℕ) (v : View) (l : v.live ≡ true) (ws : List ℕ)
       (numbers_stay z ws vs r me v at l es m' o' p d same refl (λ k. refl) (λ k. refl) (λ k. refl))
       q.shows
       (subst (World z m') (sym q.stays) (record {
-        marked = λ c b j. let w = r.world.marked c b j in record { number = w.number; term = w.term; mark = w.mark; stands = w.stands };
+        marked = r.world.marked;
         sessions = r.world.sessions;
         slots = r.world.slots;
         counts = r.world.counts;
@@ -94,6 +86,25 @@ module _ (z : Shape) (me : ℕ) (v : View) (l : v.live ≡ true) (ws : List ℕ)
         pages = q.has;
       })
       (number_stays z ws vs r me v at l es m' o' p d same refl (λ k. refl) (λ k. refl) (λ k. refl))
+
+  -- where no page moves, what was read may be more
+  pub pages_read : (i : ℕ) (ms : List Mapping) (fs : ℕ → List Find)
+      → NoneDrawn fs → ((f : Find) → In f (fs (length r.history)) → FoundBy z r.history r.memory r.owners.taker r.machine.life v.caller f)
+      → AreLooked r v fs → ((a : ArenaId) → v.inside ≡ Some a → (x : Mapping) → In x ms → r.memory.maps a.slot x.part ≡ Some x.page)
+      → Made z ws vs me v i (get_or ws i 0) (record v { pages = v.pages; reads = ms }) [] fs
+  pages_read i ms fs nd new looks read =
+      paged i (get_or ws i 0) r.memory.page_bits r.memory.maps r.owners.berth v.pages ms [] fs nd new looks (record {
+        may = tt;
+        ends = λ b. tt;
+        stays = refl;
+        moved = pages_left;
+        ended = λ b o f k. refl;
+        lends = tt;
+        pages = r.pages;
+        keep = λ q j b. inr (refl, page_like q (r.owners.berth q) v (record v { pages = v.pages; reads = ms }) refl refl refl);
+        shows = shows_same z r.valid ws r.memory r.shows i;
+        has = record { read = read; claims = mine.work.pages.claims; lone = mine.work.pages.lone; sweep = mine.work.pages.sweep };
+      })
 
   -- what a sweep has is there still, where its map words and pages are
   pub swept_still : (maps : ℕ → ℕ → Option ℕ) (berth : ℕ → Berth)

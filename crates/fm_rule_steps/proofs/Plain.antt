@@ -35,7 +35,7 @@ module _ (z : Shape) (ws : List ℕ) (vs : List View) (r : Rule z ws vs) (me : �
         → ((k : ℕ) → k ≢ v.caller.number → m'.marks k ≡ r.memory.marks k) → ((k : ℕ) → m'.numbers k ≡ r.memory.numbers k) → ((k : ℕ) → m'.terms k ≡ r.memory.terms k) → m'.draw ≡ r.memory.draw
         → ((s g : ℕ) → r.memory.sessions s ≡ free g → m'.sessions s ≡ free g) → m'.bits ≡ r.memory.bits
         → ((b : ArenaId) → r.machine.life b ≡ Over → r.memory.sessions b.slot ≡ shut b → StaysEnded r.memory m' b)
-        → PagesMoved me r.memory r.machine r.owners m' r.owners
+        → PagesMoved me r.machine.life r.memory.maps r.memory.cells r.owners.berth m'.maps m'.cells r.owners.berth
         → Moved me z v.caller r.memory r.machine r.owners es m' r.owners
     plain_moved ok ends marks numbers terms draw still bits ended pages = record {
       allowed = ok;
@@ -186,49 +186,45 @@ plain_pages z m m' o me v p k maps cells reads paged sweeps swept = record {
       wiped = λ n l b. cells q me (subst (IsAt me) (sym h.owner) refl) n ∙ h.wiped n l b;
     }
 
-pub plain_with : (z : Shape) (ws : List ℕ) (vs : List View) (r : Rule z ws vs) (me : ℕ) (v : View) → get_elem? vs me ≡ some v → v.live ≡ true
-    → (i x : ℕ) (p : View) (es : List Entry) (fs : ℕ → List Find) → NoneDrawn fs
-    → ((f : Find) → In f (fs (length r.history)) → FoundBy z r.history r.memory r.owners.taker r.machine.life v.caller f)
-    → AreLooked r v fs
-    → (m' : Memory) (t' : Machine)
-    → Plain z ws vs r v i x p es m' t' → Made z ws vs me v i x p es fs
-plain_with z ws vs r me v at l i x p es fs nd new looks m' t' q =
-    let c = q.calls in
-    let m = q.memory in
-    let u = q.view in
-    let shown : (s : ℕ) (y : Session) → r.memory.sessions s ≡ y → m'.sessions s ≡ y = (λ s y f. (λ j. m.sessions j s) ∙ f) in
-    let back : (s : ℕ) (y : Session) → m'.sessions s ≡ y → r.memory.sessions s ≡ y = (λ s y f. (λ j. sym m.sessions j s) ∙ f) in
-    let still : (s g : ℕ) → r.memory.sessions s ≡ free g → m'.sessions s ≡ free g = (λ s g. shown s (free g)) in
-    let was : (a : ArenaId) → (moved_by r.machine es).life a ≡ Closes → r.machine.life a ≡ Closes =
-    (λ a h. sym (ap (λ (t : Machine). t.life a) c.moves ∙ (λ j. c.life j a)) ∙ h) in
-    let ended : (b : ArenaId) → r.machine.life b ≡ Over → r.memory.sessions b.slot ≡ shut b → StaysEnded r.memory m' b =
-    (λ b o f. record { session = shown b.slot (shut b) f; maps = λ i j. m.maps j b.slot i; given = q.words.given b o f }) in
-    let d = plain_moved z ws vs r me v at l es m' p c.may c.ends q.marks m.numbers m.terms m.draw still m.bits ended (record {
-      others = λ c j b h. (refl, q.words.cells c j b);
-      stay = λ b c n st e. (λ k. m.maps k b.slot c) ∙ e;
-    }) in
-    keeps_with z ws (set ws i x) vs r me v p es fs m' r.owners at l d
-    u.same nd new looks c.lends
-    (subst (λ (x : List Loan × Machine). Pages z x.0 m'.page_bits m'.maps m'.cells r.owners.berth m'.sessions x.1.life x.1.word x.1.given)
-    (λ j. (sym c.loans j, sym c.moves j)) q.pages)
-    (plain_closes z ws vs r me v at l es m' p u.same u.closes was)
-    (sweeps_still me v p r.memory r.machine r.owners m' (moved_by r.machine es) r.owners u.same u.sweeps (λ a h. refl)
-    (λ a f h. (back a.slot (shut a) f, was_over a es r.machine (c.ends a) h)))
-    (plain_slots z ws vs r me v at l es m' p u.same u.hand (λ s g. back s (free g)) m.bits) (pages_there me r.owners v p u.same u.pages u.swept)
-    (subst (KeepsHolds v p r.machine) (sym c.moves) q.holds)
-    (numbers_stay z ws vs r me v at l es m' r.owners p d u.same u.number m.numbers m.terms (λ n. refl))
-    q.shows
-    (subst (World z m') (sym c.moves) q.world)
-    (plain_work z ws vs r me v at l es m' p c.may c.ends u.same u.closes u.sweeps u.hand still m.bits ended
-    (ap (λ (t : Machine). t.inside p.caller) c.moves ∙ q.inside) q.mark
-    (plain_pages z r.memory m' r.owners me v p (own z ws vs r me v at l).work.pages m.maps q.words.cells q.reads u.pages u.sweeps u.swept))
-    (number_stays z ws vs r me v at l es m' r.owners p d u.same u.number m.numbers m.terms (λ n. refl))
+module _ (z : Shape) (ws : List ℕ) (vs : List View) (r : Rule z ws vs) (me : ℕ) (v : View) (at : get_elem? vs me ≡ some v) (l : v.live ≡ true) (i x : ℕ)
+    (p : View) (es : List Entry) (fs : ℕ → List Find) where
+  pub plain_with : NoneDrawn fs → ((f : Find) → In f (fs (length r.history)) → FoundBy z r.history r.memory r.owners.taker r.machine.life v.caller f)
+      → AreLooked r v fs → (m' : Memory) (t' : Machine) → Plain z ws vs r v i x p es m' t' → Made z ws vs me v i x p es fs
+  plain_with nd new looks m' t' q =
+      let c = q.calls in
+      let m = q.memory in
+      let u = q.view in
+      let shown : (s : ℕ) (y : Session) → r.memory.sessions s ≡ y → m'.sessions s ≡ y = (λ s y f. (λ j. m.sessions j s) ∙ f) in
+      let back : (s : ℕ) (y : Session) → m'.sessions s ≡ y → r.memory.sessions s ≡ y = (λ s y f. (λ j. sym m.sessions j s) ∙ f) in
+      let still : (s g : ℕ) → r.memory.sessions s ≡ free g → m'.sessions s ≡ free g = (λ s g. shown s (free g)) in
+      let was : (a : ArenaId) → (moved_by r.machine es).life a ≡ Closes → r.machine.life a ≡ Closes =
+      (λ a h. sym (ap (λ (t : Machine). t.life a) c.moves ∙ (λ j. c.life j a)) ∙ h) in
+      let ended : (b : ArenaId) → r.machine.life b ≡ Over → r.memory.sessions b.slot ≡ shut b → StaysEnded r.memory m' b =
+      (λ b o f. record { session = shown b.slot (shut b) f; maps = λ i j. m.maps j b.slot i; given = q.words.given b o f }) in
+      let d = plain_moved z ws vs r me v at l es m' p c.may c.ends q.marks m.numbers m.terms m.draw still m.bits ended (record {
+        others = λ c j b h. (refl, q.words.cells c j b);
+        stay = λ b c n st e. (λ k. m.maps k b.slot c) ∙ e;
+      }) in
+      keeps_with z ws (set ws i x) vs r me v p es fs m' r.owners at l d
+      u.same nd new looks c.lends
+      (subst (λ (x : List Loan × Machine). Pages z x.0 m'.page_bits m'.maps m'.cells r.owners.berth m'.sessions x.1.life x.1.word x.1.given)
+      (λ j. (sym c.loans j, sym c.moves j)) q.pages)
+      (plain_closes z ws vs r me v at l es m' p u.same u.closes was)
+      (sweeps_still me v p r.memory r.machine r.owners m' (moved_by r.machine es) r.owners u.same u.sweeps (λ a h. refl)
+      (λ a f h. (back a.slot (shut a) f, was_over a es r.machine (c.ends a) h)))
+      (plain_slots z ws vs r me v at l es m' p u.same u.hand (λ s g. back s (free g)) m.bits) (pages_there me r.owners v p u.same u.pages u.swept)
+      (subst (KeepsHolds v p r.machine) (sym c.moves) q.holds)
+      (numbers_stay z ws vs r me v at l es m' r.owners p d u.same u.number m.numbers m.terms (λ n. refl))
+      q.shows
+      (subst (World z m') (sym c.moves) q.world)
+      (plain_work z ws vs r me v at l es m' p c.may c.ends u.same u.closes u.sweeps u.hand still m.bits ended
+      (ap (λ (t : Machine). t.inside p.caller) c.moves ∙ q.inside) q.mark
+      (plain_pages z r.memory m' r.owners me v p (own z ws vs r me v at l).work.pages m.maps q.words.cells q.reads u.pages u.sweeps u.swept))
+      (number_stays z ws vs r me v at l es m' r.owners p d u.same u.number m.numbers m.terms (λ n. refl))
 
--- where no slot was looked for
-pub plain : (z : Shape) (ws : List ℕ) (vs : List View) (r : Rule z ws vs) (me : ℕ) (v : View) → get_elem? vs me ≡ some v → v.live ≡ true
-    → (i x : ℕ) (p : View) (es : List Entry) (fs : ℕ → List Find) → NoDraw fs → (m' : Memory) (t' : Machine)
-    → Plain z ws vs r v i x p es m' t' → Made z ws vs me v i x p es fs
-plain z ws vs r me v at l i x p es fs nd =
-    plain_with z ws vs r me v at l i x p es fs (λ n f i. let y = nd n f i in (y.0, y.1))
-    (none_founded z r.history r.memory r.owners.taker r.machine.life v.caller fs (λ n f i. let y = nd n f i in (y.2, y.3)) (length r.history))
-    (unlooked r v fs (λ n f i. (nd n f i).4))
+  -- where no slot was looked for
+  pub plain : NoDraw fs → (m' : Memory) (t' : Machine) → Plain z ws vs r v i x p es m' t' → Made z ws vs me v i x p es fs
+  plain nd =
+      plain_with (λ n f i. let y = nd n f i in (y.0, y.1))
+      (none_founded z r.history r.memory r.owners.taker r.machine.life v.caller fs (λ n f i. let y = nd n f i in (y.2, y.3)) (length r.history))
+      (unlooked r v fs (λ n f i. (nd n f i).4))

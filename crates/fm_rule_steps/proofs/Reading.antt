@@ -1,7 +1,7 @@
 -- What a session word that was read says of an arena, and a map word of a page.
 use Rattle.fm_words.proofs.Maps.{map_word-some}
 use Rattle.fm_words.specs.Maps.{map_word}
-use Rattle.std.proofs.Common.{◌≡◌, ◌≢◌, ℕ, ◌%◌, ◌^◌, ◌<◌, ◌≤◌, ◌==◌, Bool, true, false, if◌then◌else◌, Option, Some, None, refl, sym, ap, ◌∙◌, arith, inl, eq-eqb, ne_eqb, ◌-◌}
+use Rattle.std.proofs.Common.{◌≡◌, ◌≢◌, ℕ, ◌%◌, ◌^◌, ◌<◌, ◌≤◌, ◌==◌, Bool, true, false, if◌then◌else◌, Option, Some, None, refl, sym, ap, ◌∙◌, arith, inl, eq-eqb, ne_eqb, ◌-◌, subst}
 use mathlib.Core.Logic.{dite}
 use native.Mathlib.Decide.{ℕ_discrete}
 use Rattle.fm_words.specs.declared.shape.Shape.{Shape}
@@ -15,6 +15,10 @@ use Rattle.fm_base_machine.specs.Functions.{Stage, Fresh, Lives, Closes, Over, M
 use Rattle.fm_base_machine.proofs.Putting.{one_arena}
 use Rattle.fm_rule_facts.specs.Words.{alive_word, closing_word, free_word, alive_holds, enter_found, hold_found, hold_by, shut_found, shut_by}
 use Rattle.fm_rule_facts.specs.Facts.{Session, free, live, shut, Memory, session_code, World, own_map}
+use Rattle.fm_words.specs.Bits.{IsWithout}
+use Rattle.std.specs.Int.{bit_at}
+use Rattle.std.proofs.lemmas.Nat.Bits.{bit_at-lt}
+use prog.Atomic.{either}
 
 pub kind_below : (k : Kind) → kind_number k ≤ 3
 kind_below Global = omega arith
@@ -108,36 +112,36 @@ module _ (z : Shape) (m : Memory) (t : Machine) (r : World z m t) (few : z.passe
           let h : x % 2 ^ 16 ≡ t.holds a = ap (λ (y : ℕ). y % 2 ^ 16) s ∙ alive_rest a (t.holds a) (r.counts.few a) in
           eqb_false x (alive_word a (x % 2 ^ 16)) q (s ∙ ap (alive_word a) (sym h))
 
+-- what holds at each stage but that of an arena that is alive
+unless_alive : (P : Stage → Type 0) (l : Stage) → l ≢ Lives → P Fresh → P Closes → P Over → P l
+unless_alive P Fresh n f c o = f
+unless_alive P Lives n f c o = absurd (n refl)
+unless_alive P Closes n f c o = c
+unless_alive P Over n f c o = o
+
 -- what is answered by what was read is what the machine answers
 pub enter_says : (t : Machine) (a : ArenaId) (o : Option ℕ) → Says t a o → enter_found o ≡ enter_stage (t.life a)
-enter_says t a None s = go (t.life a) s
-  where
-    go : (l : Stage) → l ≢ Lives → Closed ≡ enter_stage l
-    go Fresh n = refl
-    go Lives n = absurd (n refl)
-    go Closes n = refl
-    go Over n = refl
+enter_says t a None s = unless_alive (λ l. Closed ≡ enter_stage l) (t.life a) s refl refl refl
 enter_says t a (Some n) s = ap enter_stage (sym s.0)
 
 pub shut_says : (t : Machine) (a : ArenaId) (o : Option ℕ) → Says t a o → shut_found o ≡ shut_stage (t.life a) (t.holds a)
-shut_says t a None s = go (t.life a) s
-  where
-    go : (l : Stage) → l ≢ Lives → Closed ≡ shut_stage l (t.holds a)
-    go Fresh n = refl
-    go Lives n = absurd (n refl)
-    go Closes n = refl
-    go Over n = refl
+shut_says t a None s = unless_alive (λ l. Closed ≡ shut_stage l (t.holds a)) (t.life a) s refl refl refl
 shut_says t a (Some n) s = ap shut_by s.1 ∙ ap (λ (l : Stage). shut_stage l (t.holds a)) (sym s.0)
 
 pub hold_says : (t : Machine) (a : ArenaId) (o : Option ℕ) → Says t a o → hold_found o ≡ hold_stage (t.life a) (t.holds a)
-hold_says t a None s = go (t.life a) s
-  where
-    go : (l : Stage) → l ≢ Lives → Closed ≡ hold_stage l (t.holds a)
-    go Fresh n = refl
-    go Lives n = absurd (n refl)
-    go Closes n = refl
-    go Over n = refl
+hold_says t a None s = unless_alive (λ l. Closed ≡ hold_stage l (t.holds a)) (t.life a) s refl refl refl
 hold_says t a (Some n) s = ap hold_by s.1 ∙ ap (λ (l : Stage). hold_stage l (t.holds a)) (sym s.0)
+
+-- ---- bit words
+
+-- A bit is taken where the expected word is found and has it; else the word stays, also where the bit was 0 already.
+pub by_bit : (P : ℕ → Bool → Type 0) (e bit next found : ℕ) → IsWithout e bit next → (found ≡ e → bit_at e bit ≡ 1 → P next true) → P found false
+    → (b c : Bool) → (found == e) ≡ b → (bit_at e bit == 1) ≡ c → P (either b next found) (if b then c else false)
+by_bit P e bit next found without take stay true true p q = take (eqb_true found e p) (eqb_true (bit_at e bit) 1 q)
+by_bit P e bit next found without take stay true false p q =
+    let zero : bit_at e bit ≡ 0 = (let y = bit_at-lt e bit in let n = eqb_false (bit_at e bit) 1 q in omega arith) in
+    subst (λ (w : ℕ). P w false) (eqb_true found e p ∙ sym (without.same zero)) stay
+by_bit P e bit next found without take stay false c p q = stay
 
 -- ---- map words
 
@@ -155,3 +159,8 @@ none_read (Some p) e = absurd (map_word-some p e)
 pub page_read : (o : Option ℕ) (x : ℕ) → x ≡ own_map o → x ≢ 0 → o ≡ Some (x - 1)
 page_read None x e n = absurd (n e)
 page_read (Some p) x e n = ap Some (page_back p x e)
+
+-- where its page is one of these, so is what names it
+pub map_below : (pages x : ℕ) (o : Option ℕ) → x ≡ own_map o → ((p : ℕ) → o ≡ Some p → p < pages) → x ≤ pages
+map_below pages x None e low = let f : x ≡ 0 = e in omega arith
+map_below pages x (Some p) e low = let f = page_back p x e in let l = low p refl in omega arith

@@ -1,5 +1,5 @@
 -- A step of a sweep: it keeps the rule where it keeps the facts of pages and what the sweep says.
-use Rattle.std.proofs.Common.{◌≡◌, ◌≢◌, ◌⊎◌, ℕ, ◌+◌, ◌<◌, true, List, set, sym, refl, ap, ◌∙◌, subst, arith, inl, inr, Option, Some, None}
+use Rattle.std.proofs.Common.{◌≡◌, ◌≢◌, ◌⊎◌, ℕ, ◌+◌, ◌<◌, true, List, set, sym, refl, ap, ◌∙◌, subst, arith, inl, inr, Option, Some, None, get_or, []}
 use mathlib.Core.Option.{some}
 use mathlib.Core.Logic.{dite}
 use native.Mathlib.Decide.{ℕ_discrete}
@@ -27,7 +27,8 @@ use Rattle.fm_rule_steps.proofs.Closes.{Found, passed_of-found, count_of, in_adv
 use Rattle.fm_rule_steps.proofs.Knowing.{own}
 use Rattle.fm_rule_steps.proofs.Staying.{same_but, numbers_stay, number_stays}
 use Rattle.fm_rule_steps.proofs.Plain.{Made}
-use Rattle.fm_rule_facts.proofs.Leaving.{callers_stay, numbers_left}
+use Rattle.fm_rule_facts.proofs.Leaving.{berths_moved}
+use Rattle.fm_rule_facts.proofs.Shown.{shows_same}
 
 -- where the sweep of the arena has come so far
 module _ (z : Shape) (me : ℕ) (v : View) (l : v.live ≡ true) (a : ArenaId) (k : ℕ) (has : passed_of v.sweeps a ≡ Some k)
@@ -106,21 +107,13 @@ module _ (z : Shape) (me : ℕ) (v : View) (l : v.live ≡ true) (a : ArenaId) (
       let m' : Memory = memory_of bits maps cells given in
       let o' : Owners = record r.owners { berth = berth } in
       let p : View = record v { sweeps = cs; swept = s } in
-      let d : Moved me z v.caller r.memory r.machine r.owners es m' o' = record {
-        allowed = q.may;
-        marks = λ k h. refl;
-        callers = callers_stay;
-        numbers = numbers_left;
-        closers = λ b f h. (refl, q.ends b);
-        sweepers = λ b f h n.
-            let far = apart b h (not_mine b n) in (refl, record { session = h; maps = q.same_maps b.slot far; given = q.same_given b.slot far });
-        holders = λ s g f b h. (refl, f, b, refl);
-        taken = λ s k x. inl x;
-        pages = record {
-          others = q.others;
-          stay = λ b n p st e. q.same_maps b.slot (ended_apart z r.memory.sessions r.machine.life r.world.sessions a b shut_now ended_now st) n ∙ e;
-        };
-      } in
+      let d : Moved me z v.caller r.memory r.machine r.owners es m' o' =
+      berths_moved q.may (λ b f h. q.ends b)
+      (λ b f h n. let far = apart b h (not_mine b n) in record { session = h; maps = q.same_maps b.slot far; given = q.same_given b.slot far })
+      (record {
+        others = q.others;
+        stay = λ b n p st e. q.same_maps b.slot (ended_apart z r.memory.sessions r.machine.life r.world.sessions a b shut_now ended_now st) n ∙ e;
+      }) in
       keeps z ws (set ws i x) vs r me v p es none_noted m' o' at l d same_but no_draw q.lends q.pages
       (λ b h. inr (ap (λ (t : Machine). t.life b) (sym q.stays) ∙ h, refl, (λ y. y)))
       (λ b f h. inr (
@@ -157,6 +150,33 @@ module _ (z : Shape) (me : ℕ) (v : View) (l : v.live ≡ true) (a : ArenaId) (
     where
       inside_apart : (b : ArenaId) → r.machine.inside v.caller ≡ Some b → b.slot ≢ a.slot
       inside_apart b e = ended_apart z r.memory.sessions r.machine.life r.world.sessions a b shut_now ended_now (r.world.marked v.caller b e).stands
+
+  -- a step that changes no word keeps the rule
+  pub sweep_reads : (i : ℕ) (cs : List Sweep) (s : Swept) → ((c : Sweep) → In c v.sweeps → (d : Sweep) × In d cs × (d.arena ≡ c.arena))
+      → ((q : ℕ) (b : Berth) → HasPage q b v → HasPage q b (record v { sweeps = cs; swept = s }))
+      → ((c : Sweep) → In c cs
+      → IsSweeping z (memory_of r.memory.page_bits r.memory.maps r.memory.cells r.memory.given) r.machine (record r.owners { berth = r.owners.berth }) me c)
+      → IsOnce (λ (c : Sweep). c.arena) cs → HasSwept z r.memory.maps r.memory.cells r.owners.berth me cs s
+      → Made z ws vs me v i (get_or ws i 0) (record v { sweeps = cs; swept = s }) [] none_noted
+  sweep_reads i cs s there keep sweeps once page =
+      sweep_on i (get_or ws i 0) r.memory.page_bits r.memory.maps r.memory.cells r.memory.given r.owners.berth cs s [] (record {
+        may = tt;
+        ends = λ b. tt;
+        stays = refl;
+        same_maps = λ b n i. refl;
+        same_given = λ b n. refl;
+        others = λ p j h n. (refl, λ w. refl);
+        claims = λ p h. h;
+        lends = tt;
+        pages = r.pages;
+        there = there;
+        keep = λ q j b. inr (refl, keep q (r.owners.berth q));
+        shows = shows_same z r.valid ws r.memory r.shows i;
+        world = r.world;
+        sweeps = sweeps;
+        once = once;
+        of_page = page;
+      })
 
   -- the same sweeps, where parts that had no page have none
   pub sweeps_kept : (bits : ℕ → ℕ) (maps : ℕ → ℕ → Option ℕ) (cells : ℕ → ℕ → ℕ) (berth : ℕ → Berth)

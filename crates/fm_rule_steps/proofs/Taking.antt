@@ -27,7 +27,7 @@ use Rattle.fm_rule_facts.specs.Words.{kept, free_word}
 use Rattle.fm_rule_facts.proofs.Worlds.{world_bits}
 use Rattle.fm_rule_facts.proofs.Shown.{shows_same, shows_bits}
 use Rattle.fm_rule_facts.proofs.Ruling.{AreLooked, unlooked, page_like, keeps, keeps_with}
-use Rattle.fm_rule_steps.proofs.Reading.{eqb_true, eqb_false}
+use Rattle.fm_rule_steps.proofs.Reading.{by_bit}
 use Rattle.fm_rule_steps.proofs.Telling.{some_bit, idle, busy, none_left}
 use Rattle.fm_rule_steps.proofs.Quiet.{quiet}
 use Rattle.fm_rule_steps.proofs.Knowing.{own}
@@ -122,11 +122,8 @@ module _ (z : Shape) (me : ℕ) (v : View) (l : v.live ≡ true) (ws : List ℕ)
 
     taking : (b c : Bool) → (found == e) ≡ b → (bit_at e bit == 1) ≡ c
         → Made z ws vs me v i (either b next found) (record v { hand = hand_taken (if b then c else false) bit v.hand }) [] fs
-    taking true true p q = takes_it (sym is_found ∙ eqb_true found e p) (eqb_true (bit_at e bit) 1 q)
-    taking true false p q =
-        let zero : bit_at e bit ≡ 0 = (let y = bit_at-lt e bit in let n = eqb_false (bit_at e bit) 1 q in omega arith) in
-        subst (λ (w : ℕ). Made z ws vs me v i w v [] fs) (eqb_true found e p ∙ sym (without.same zero)) stays
-    taking false c p q = stays
+    taking = by_bit (λ w b. Made z ws vs me v i w (record v { hand = hand_taken b bit v.hand }) [] fs) e bit next found without
+        (λ p. takes_it (sym is_found ∙ p)) stays
 
     learns : LearnsSlots v found
     learns = record {

@@ -31,7 +31,7 @@ use Rattle.fm_rule_facts.proofs.Founds.{NoneDrawn, note_none_drawn}
 use Rattle.fm_rule_facts.proofs.Keeping.{gathered_all}
 use Rattle.fm_rule_facts.proofs.Shown.{shows_numbers}
 use Rattle.fm_rule_facts.proofs.Ruling.{AreLooked}
-use Rattle.fm_rule_steps.proofs.Reading.{eqb_true, eqb_false}
+use Rattle.fm_rule_steps.proofs.Reading.{by_bit}
 use Rattle.fm_rule_steps.proofs.Knowing.{own}
 use Rattle.fm_rule_steps.proofs.Plain.{Made}
 use Rattle.fm_rule_steps.proofs.Quiet.{quiet}
@@ -180,11 +180,8 @@ module _ (z : Shape) (me : ℕ) (v : View) (l : v.live ≡ true) (ws : List ℕ)
 
     taking : (b c : Bool) → (found == e) ≡ b → (bit_at e bit == 1) ≡ c
         → Made z ws vs me v i (either b next found) (record v { number = number_taken_by (if b then c else false) n v.number }) [] fs
-    taking true true p q = takes_it (sym is_found ∙ eqb_true found e p) (eqb_true (bit_at e bit) 1 q)
-    taking true false p q =
-        let zero : bit_at e bit ≡ 0 = (let y = bit_at-lt e bit in let n = eqb_false (bit_at e bit) 1 q in omega arith) in
-        subst (λ (w : ℕ). Made z ws vs me v i w v [] fs) (eqb_true found e p ∙ sym (without.same zero)) stays
-    taking false c p q = stays
+    taking = by_bit (λ w b. Made z ws vs me v i w (record v { number = number_taken_by b n v.number }) [] fs) e bit next found without
+        (λ p. takes_it (sym is_found ∙ p)) stays
 
 pub take_number_steps : (z : Shape) (me : ℕ) (v : View) (g e bit next : ℕ) → v.live ≡ true → v.number ≡ no_number → g < groups z → bit < 64
     → number_at g bit < z.passes → IsWithout e bit next

@@ -27,10 +27,10 @@ use Rattle.fm_rule_facts.proofs.Returning.{pages_back}
 use Rattle.fm_rule_facts.proofs.Shown.{shows_same, shows_map, shows_cell, shows_page_bits}
 use Rattle.fm_rule_facts.proofs.Groups.{set_here, set_else, page_group}
 use Rattle.fm_rule_steps.proofs.Closes.{once_advanced}
-use Rattle.fm_rule_steps.proofs.Reading.{eqb_true, eqb_false, none_read, page_read, page_back}
+use Rattle.fm_rule_steps.proofs.Reading.{eqb_true, eqb_false, none_read, page_read, map_below}
 use Rattle.fm_rule_steps.proofs.Knowing.{own, given_over}
 use Rattle.fm_rule_steps.proofs.Plain.{Made}
-use Rattle.fm_rule_steps.proofs.Sweeping.{ended_now, shut_now, fit, next_here, sweep_on, sweeps_kept, sweeps_more, visits, stays_there, not_wiping}
+use Rattle.fm_rule_steps.proofs.Sweeping.{ended_now, shut_now, fit, next_here, sweep_on, sweeps_kept, sweeps_more, visits, stays_there, not_wiping, sweep_reads}
 
 -- what was none is none, where one is taken away
 none_stays : (f : ℕ → ℕ → Option ℕ) (s i b n : ℕ) → f b n ≡ None → put f s (put (f s) i None) b n ≡ None
@@ -62,13 +62,8 @@ module _ (z : Shape) (me : ℕ) (v : View) (l : v.live ≡ true) (a : ArenaId) (
 
     -- it names a page of the pool
     low_map : v.shape ≡ z → seen ≤ v.shape.pages
-    low_map sh = subst (λ (x : Shape). seen ≤ x.pages) (sym sh) (go (r.memory.maps a.slot k) refl)
-      where
-        go : (o : Option ℕ) → r.memory.maps a.slot k ≡ o → seen ≤ z.pages
-        go None h = let e : seen ≡ 0 = is_map ∙ ap own_map h in omega arith
-        go (Some p) h =
-            let y = (r.pages.mapped_is p a.slot k (r.pages.map_is a.slot k p h)).page in
-            let e = page_back p seen (is_map ∙ ap own_map h) in omega arith
+    low_map sh = subst (λ (x : Shape). seen ≤ x.pages) (sym sh)
+        (map_below z.pages seen (r.memory.maps a.slot k) is_map (λ p h. (r.pages.mapped_is p a.slot k (r.pages.map_is a.slot k p h)).page))
 
     -- ---- a map word is read
 
@@ -79,45 +74,14 @@ module _ (z : Shape) (me : ℕ) (v : View) (l : v.live ≡ true) (a : ArenaId) (
       looks : (b : Bool) → (seen == 0) ≡ b
           → Made z ws vs me v map_at seen
           (record v { swept = if b then unread else named a k (seen - 1); sweeps = if b then advanced a v.sweeps else v.sweeps }) [] none_noted
-      looks true e = sweep_on z me v l a k has ws vs r at map_at seen r.memory.page_bits r.memory.maps r.memory.cells r.memory.given r.owners.berth
-          (advanced a v.sweeps) unread [] (record {
-            may = tt;
-            ends = λ b. tt;
-            stays = refl;
-            same_maps = λ b n i. refl;
-            same_given = λ b n. refl;
-            others = λ p j h n. (refl, λ w. refl);
-            claims = λ p h. h;
-            lends = tt;
-            pages = r.pages;
-            there = visits z me v l a k has ws vs r at;
-            keep = λ q j b. inr (refl, nothing_held q (r.owners.berth q) (record v { sweeps = advanced a v.sweeps; swept = unread }) refl refl);
-            shows = shows_same z r.valid ws r.memory r.shows map_at;
-            world = r.world;
-            sweeps = sweeps_more z me v l a k has ws vs r at r.memory.page_bits r.memory.maps r.memory.cells r.owners.berth (λ b n h. h)
-                (none_read (r.memory.maps a.slot k) (sym is_map ∙ eqb_true seen 0 e)) low;
-            once = once_advanced a v.sweeps mine.work.swept_once;
-            of_page = tt;
-          })
-      looks false e = sweep_on z me v l a k has ws vs r at map_at seen r.memory.page_bits r.memory.maps r.memory.cells r.memory.given r.owners.berth
-          v.sweeps (named a k (seen - 1)) [] (record {
-            may = tt;
-            ends = λ b. tt;
-            stays = refl;
-            same_maps = λ b n i. refl;
-            same_given = λ b n. refl;
-            others = λ p j h n. (refl, λ w. refl);
-            claims = λ p h. h;
-            lends = tt;
-            pages = r.pages;
-            there = stays_there z me v l a k has ws vs r at;
-            keep = λ q j b. inr (refl, nothing_held q (r.owners.berth q) (record v { sweeps = v.sweeps; swept = named a k (seen - 1) }) refl refl);
-            shows = shows_same z r.valid ws r.memory r.shows map_at;
-            world = r.world;
-            sweeps = mine.work.sweeps;
-            once = mine.work.swept_once;
-            of_page = (next_here z me v l a k has ws vs r at, page_read (r.memory.maps a.slot k) seen is_map (eqb_false seen 0 e));
-          })
+      looks true e = sweep_reads z me v l a k has ws vs r at map_at (advanced a v.sweeps) unread (visits z me v l a k has ws vs r at)
+          (λ q b. nothing_held q b (record v { sweeps = advanced a v.sweeps; swept = unread }) refl refl)
+          (sweeps_more z me v l a k has ws vs r at r.memory.page_bits r.memory.maps r.memory.cells r.owners.berth (λ b n h. h)
+          (none_read (r.memory.maps a.slot k) (sym is_map ∙ eqb_true seen 0 e)) low)
+          (once_advanced a v.sweeps mine.work.swept_once) tt
+      looks false e = sweep_reads z me v l a k has ws vs r at map_at v.sweeps (named a k (seen - 1)) (stays_there z me v l a k has ws vs r at)
+          (λ q b. nothing_held q b (record v { sweeps = v.sweeps; swept = named a k (seen - 1) }) refl refl) mine.work.sweeps mine.work.swept_once
+          (next_here z me v l a k has ws vs r at, page_read (r.memory.maps a.slot k) seen is_map (eqb_false seen 0 e))
 
     -- ---- the page is taken from its map word
 
