@@ -1,5 +1,5 @@
 -- A step keeps the rule, and tells its caller what others did.
-use Rattle.std.proofs.Common.{Bool, Option, ◌≡◌, ◌≢◌, ◌⊎◌, ℕ, zero, suc, true, List, [], ◌∷◌, ◌++◌, set, sym, refl, ap, ◌∙◌, subst, arith, inl, inr, ⊎_elim, append_assoc, Some}
+use Rattle.std.proofs.Common.{◌≡◌, ◌≢◌, ◌⊎◌, ℕ, zero, suc, true, List, [], ◌∷◌, ◌++◌, set, sym, refl, ap, ◌∙◌, subst, arith, inl, inr, ⊎_elim, append_assoc, Some}
 use Rattle.std.proofs.lemmas.List.{append-nil}
 use Rattle.std.proofs.lemmas.List.Elements.{filter-append}
 use mathlib.Core.Logic.{dite}
@@ -11,17 +11,17 @@ use Rattle.fm_words.specs.declared.shape.Shape.{Shape}
 use Rattle.fm_base.specs.declared.caller.Caller.{Caller}
 use Rattle.fm_base.specs.Calls.{Entry}
 use Rattle.fm_base.specs.Histories.{made_by}
-use Rattle.fm_base.specs.Finds.{Find, Gathered, Close, Sweep}
+use Rattle.fm_base.specs.Finds.{Gathered, Close, Sweep}
 use Rattle.fm_base_machine.specs.Functions.{Machine}
 use Rattle.fm_base_machine.specs.Steps.{moved_by}
 use Rattle.fm_rule_facts.specs.Views.{Met, View, In, all_gathered, brought, limit_of}
 use Rattle.fm_base.specs.declared.arena_id.ArenaId.{ArenaId}
 use Rattle.fm_rule_facts.specs.Parts.{Swept, unread, named, wiping}
-use Rattle.fm_rule_facts.specs.Facts.{Memory, Owners, IsStanding, IsAt, IsNext, HasSwept, HasPages, IsClosing, IsSweeping, IsGathered, IsSilent, HasInHand, Begins, Somewhere, Work, Owns, Knows, WasDrawn, bit_of, next_of, IsLoose, IsUndrawn, HasNumberInHand}
+use Rattle.fm_rule_facts.specs.Facts.{Memory, Owners, IsStanding, IsAt, IsNext, HasSwept, HasPages, IsClosing, IsSweeping, IsGathered, IsSilent, Begins, Somewhere, Owns, Knows, WasDrawn, bit_of, next_of, IsLoose, IsUndrawn, HasNumberInHand}
 use Rattle.fm_rule_facts.specs.Moves.{MayMake, NoEnd, StaysEnded, Moved}
 use Rattle.fm_rule_facts.proofs.Frame.{others_stay, none_come, still_closing, still_over, still_given, made_by-other}
 use Rattle.fm_rule_facts.proofs.Sessions.{unstanding}
-use Rattle.fm_rule_facts.specs.Hands.{Hand, IsTaker, Number, no_number, number_taken, number_learnt, number_drawn, number_left, number_joined, most_draws}
+use Rattle.fm_rule_facts.specs.Hands.{Number, no_number, number_taken, number_learnt, number_drawn, number_left, number_joined, most_draws}
 use Rattle.fm_rule_facts.proofs.Handing.{hand_on, took_on}
 use Rattle.fm_rule_facts.specs.Splits.{as_gathered, gather}
 
@@ -130,36 +130,6 @@ sweeping_on limit c m t es m' ok stands z j o o' x k e s = record {
       ∙ sym (still_given limit c x.arena es t ok k.life (λ i. unstanding (t.life x.arena) k.life (stands c x.arena i))));
   reset = λ l. s.given ∙ k.reset l;
 }
-
--- callers, numbers and what was seen are no part of the work, which goes on with this slot in the hand
-pub work_with : {z : Shape} {m : Memory} {t : Machine} {o : Owners} {j : ℕ} {v : View} {draw bits : ℕ} {numbers terms : ℕ → ℕ} {who : ℕ → Caller}
-    {rank seat : Caller → ℕ} {owner holder : ℕ → ℕ} {taker : ℕ → Option Caller} {seen : List Entry} {hand : Hand} {number : Number} {met : List Met}
-    {finds : List Find} {gathered : List Gathered} {whole : Bool}
-    → Work z m t o j v → HasInHand z bits m.sessions holder j hand → IsTaker taker v.caller hand
-    → Work z (record m { draw = draw; bits = bits; numbers = numbers; terms = terms }) t
-    (record o { who = who; rank = rank; seat = seat; number = owner; holder = holder; taker = taker }) j
-    (record v { seen = seen; hand = hand; number = number; met = met; finds = finds; gathered = gathered; whole = whole })
-work_with w hand took = record {
-  inside = w.inside;
-  mark = w.mark;
-  closes = λ c i. let y = w.closes c i in record { owner = y.owner; life = y.life; passed = y.passed };
-  once = w.once;
-  sweeps = λ c i.
-      let y = w.sweeps c i in
-      record { owner = y.owner; life = y.life; session = y.session; parts = y.parts; count = y.count; reset = y.reset };
-  swept_once = w.swept_once;
-  hand = hand;
-  took = took;
-  pages = w.pages;
-}
-
--- and with the same slot
-pub work_as : {z : Shape} {m : Memory} {t : Machine} {o : Owners} {j : ℕ} {v : View} {draw : ℕ} {numbers terms : ℕ → ℕ} {who : ℕ → Caller}
-    {rank seat : Caller → ℕ} {owner : ℕ → ℕ} {seen : List Entry} {number : Number} {met : List Met} {finds : List Find} {gathered : List Gathered} {whole : Bool}
-    → Work z m t o j v → Work z (record m { draw = draw; numbers = numbers; terms = terms }) t
-    (record o { who = who; rank = rank; seat = seat; number = owner }) j
-    (record v { seen = seen; number = number; met = met; finds = finds; gathered = gathered; whole = whole })
-work_as w = work_with w w.hand w.took
 
 -- who was drawn is so after a step, and nobody else
 module _ {me : ℕ} {z : Shape} {c : Caller} {m : Memory} {t : Machine} {o : Owners} {es : List Entry} {m' : Memory} {o' : Owners}

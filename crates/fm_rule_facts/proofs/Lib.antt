@@ -32,3 +32,4 @@ pub mod Wanting
 pub mod Terming
 pub mod Leaving
 pub mod Seating
+pub mod Working

@@ -14,7 +14,8 @@ use Rattle.fm_rule_facts.specs.Facts.{Memory, Owners, IsOnce, Work, Knows, WasDr
 use Rattle.fm_rule_facts.specs.Moves.{Moved, Same, KeepsHand, told, Gives}
 use Rattle.fm_rule_facts.proofs.Frame.{others_stay, made_by-other}
 use Rattle.fm_rule_facts.proofs.Handing.{hand_view}
-use Rattle.fm_rule_facts.proofs.Keeping.{none_added, begins_on, gathered_all, made_by-on, drawn_still, drawn_before, work_as}
+use Rattle.fm_rule_facts.proofs.Keeping.{none_added, begins_on, gathered_all, made_by-on, drawn_still, drawn_before}
+use Rattle.fm_rule_facts.proofs.Working.{work_as}
 
 module _ (z : Shape) (h zs : List Entry) (me : ℕ) (m m' : Memory) (t : Machine) (o o' : Owners) (es : List Entry) (fs : ℕ → List Find) (v p : View)
     (k : Knows z h m t o me v) (l : v.live ≡ true) (d : Moved me z v.caller m t o es m' o') (is : h ≡ v.seen ++ zs) (s : Same v p) where

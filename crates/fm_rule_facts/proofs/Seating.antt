@@ -1,5 +1,5 @@
 -- What a pass says where others get another seat.
-use Rattle.std.proofs.Common.{◌≡◌, ℕ, Bool, true, List, None, sym, refl, inl, ◌∙◌, subst}
+use Rattle.std.proofs.Common.{◌≡◌, ℕ, true, List, sym, ◌∙◌, subst}
 use Rattle.fm_words.specs.declared.shape.Shape.{Shape}
 use Rattle.fm_base.specs.declared.caller.Caller.{Caller}
 use Rattle.fm_base.specs.Calls.{Entry}
@@ -7,25 +7,9 @@ use Rattle.fm_base.specs.Finds.{Gathered}
 use Rattle.fm_base_machine.specs.Functions.{Machine}
 use Rattle.fm_rule_facts.specs.Hands.{number_drawn}
 use Rattle.fm_rule_facts.specs.Views.{View}
-use Rattle.fm_rule_facts.specs.Facts.{Memory, Owners, Work, WasDrawn, IsGathered, HasNumberInHand, Owns, Knows}
-use Rattle.fm_rule_facts.specs.Splits.{view_of}
+use Rattle.fm_rule_facts.specs.Facts.{Memory, Owners, WasDrawn, IsGathered, HasNumberInHand, Owns, Knows}
 use Rattle.fm_rule_facts.proofs.Handing.{hand_owners, hand_owner}
-use Rattle.fm_rule_facts.proofs.Keeping.{work_as}
-
--- a new pass has nothing under way
-pub no_work : {z shape : Shape} {m : Memory} {t : Machine} {o : Owners} {j : ℕ} {seen : List Entry} {caller : Caller} {whole : Bool}
-    → t.inside caller ≡ None → m.marks caller.number ≡ None → Work z m t o j (record (view_of shape true seen) { caller = caller; whole = whole })
-no_work inside mark = record {
-  inside = inside;
-  mark = mark;
-  closes = λ c i. absurd i;
-  once = tt;
-  sweeps = λ c i. absurd i;
-  swept_once = tt;
-  hand = tt;
-  took = tt;
-  pages = record { read = λ a e x i. absurd i; claims = λ q i. absurd i; lone = inl refl; sweep = tt };
-}
+use Rattle.fm_rule_facts.proofs.Working.{work_as}
 
 module _ {z : Shape} {h : List Entry} {m : Memory} {t : Machine} {o : Owners} {j : ℕ} {u : View} where
   -- what a view knows stands where its pass has what it had

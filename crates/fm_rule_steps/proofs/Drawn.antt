@@ -14,10 +14,11 @@ use Rattle.fm_base.specs.declared.caller.Caller.{Caller}
 use Rattle.fm_rule_facts.specs.Hands.{Number, no_number, number_taken, number_learnt, number_drawn, number_left, number_joined, HasNumberIn, most_draws}
 use Rattle.fm_rule_facts.proofs.Handing.{hand_view}
 use Rattle.fm_rule_facts.specs.Moves.{told}
-use Rattle.fm_rule_facts.proofs.Keeping.{gathered_all, seated_all, work_as}
+use Rattle.fm_rule_facts.proofs.Keeping.{gathered_all, seated_all}
 use Rattle.fm_rule_facts.proofs.Handles.{handles_still}
 use Rattle.fm_rule_steps.proofs.Knowing.{own}
 use Rattle.fm_rule_facts.proofs.Seating.{knows_as, owns_seats}
+use Rattle.fm_rule_facts.proofs.Working.{work_as}
 
 module _ (z : Shape) (me : ℕ) (v : View) (l : v.live ≡ true) (lone : v.met ≡ []) (ws : List ℕ) (vs : List View) (r : Rule z ws vs)
     (at : get_elem? vs me ≡ some v) where

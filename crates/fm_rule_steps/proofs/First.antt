@@ -30,7 +30,7 @@ use Rattle.fm_rule_facts.proofs.Gone.{founded_bare}
 use Rattle.fm_rule_facts.proofs.Founds.{counted_bare}
 use Rattle.fm_rule_facts.proofs.Sounding.{sound_of}
 use Rattle.fm_rule_facts.proofs.Gripping.{none_held, none_counted}
-use Rattle.fm_rule_facts.proofs.Seating.{no_work}
+use Rattle.fm_rule_facts.proofs.Working.{no_work}
 
 -- ---- the words
 
@@ -157,116 +157,116 @@ first_knows z pages f valid bits = record {
   };
 }
 
-pub first_rule : (z : Shape) (ws : List ℕ) (pages f : ℕ → ℕ) → IsValid z → Shows z ws (first_memory z pages f) → AreLoose z pages → AreFree z f
-    → Rule z ws (first_view z ∷ [])
-unfolding blank
-first_rule z ws pages f valid shows claims bits = record {
-  history = [];
-  memory = first_memory z pages f;
-  machine = opening;
-  owners = nobody;
-  valid = valid;
-  legal = tt;
-  rightly = tt;
-  pages = record {
-    bit_is = λ p b. (refl, claims.low p b);
-    is_bit = λ p low e. claims.loose p low;
-    map_is = λ k i p e. absurd (cc);
-    mapped_is = λ p k i e. absurd (cc);
-    unmapped_is = λ p j i a e. absurd (cc);
-    claimed_is = λ p j e. absurd (cc);
-    loose_is = λ p e o h. refl;
-    lent_is = λ l h. (let b = h.1 in absurd (omega arith));
-    only_loan = λ l x h k e. (let b = h.1 in absurd (omega arith));
-    empty = λ k g i e. refl;
-    words = λ a w p. ⊎_elim (λ e. absurd (cc)) (λ e. absurd (cc));
-    bare = λ a w. ⊎_elim (λ e. absurd (cc)) (λ e. absurd (cc));
-    covered = λ a w. ⊎_elim (λ e. absurd (cc)) (λ e. absurd (cc));
-    new_words = λ a w e. refl;
-    new_given = λ a e. refl;
-  };
-  depicts = always (limit_of z) [] tt;
-  shows = shows;
-  world = record {
-    marked = λ c a e. absurd (cc);
-    sessions = record {
-      alive_shown = λ a e. absurd (cc);
-      closing_shown = λ a e. absurd (cc);
-      live_is = λ s a e. absurd (cc);
-      shut_is = λ s a e. absurd (cc);
-      free_is = λ s g e a p q. refl;
-      newest = λ s a. ⊎_elim (λ e. absurd (cc)) (λ e. absurd (cc));
-      before = λ s g e. (let q : 0 ≡ g + 1 = cc in absurd (omega arith));
-      fits = λ a n. absurd (n refl);
+module _ (z : Shape) (ws : List ℕ) (pages f : ℕ → ℕ) (valid : IsValid z) (shows : Shows z ws (first_memory z pages f)) (claims : AreLoose z pages)
+    (bits : AreFree z f) where
+  pub first_rule : Rule z ws (first_view z ∷ [])
+  unfolding blank
+  first_rule = record {
+    history = [];
+    memory = first_memory z pages f;
+    machine = opening;
+    owners = nobody;
+    valid = valid;
+    legal = tt;
+    rightly = tt;
+    pages = record {
+      bit_is = λ p b. (refl, claims.low p b);
+      is_bit = λ p low e. claims.loose p low;
+      map_is = λ k i p e. absurd (cc);
+      mapped_is = λ p k i e. absurd (cc);
+      unmapped_is = λ p j i a e. absurd (cc);
+      claimed_is = λ p j e. absurd (cc);
+      loose_is = λ p e o h. refl;
+      lent_is = λ l h. (let b = h.1 in absurd (omega arith));
+      only_loan = λ l x h k e. (let b = h.1 in absurd (omega arith));
+      empty = λ k g i e. refl;
+      words = λ a w p. ⊎_elim (λ e. absurd (cc)) (λ e. absurd (cc));
+      bare = λ a w. ⊎_elim (λ e. absurd (cc)) (λ e. absurd (cc));
+      covered = λ a w. ⊎_elim (λ e. absurd (cc)) (λ e. absurd (cc));
+      new_words = λ a w e. refl;
+      new_given = λ a e. refl;
     };
-    slots = record {
-      bit_is = λ s b. (0, refl, (let l = valid.generations.0 in omega arith));
-      low = λ s b. elim (cases_lt s z.slots) [
-        | inl l ↦ l
-        | inr l ↦ absurd (let none = bit_at_ones_above z.slots s l in let q : bit_at (ones z.slots) s ≡ 1 = b in omega arith)
-      ];
-      within = λ s g e. (let q : 0 ≡ g = cc in let l = valid.generations.0 in omega arith);
+    depicts = always (limit_of z) [] tt;
+    shows = shows;
+    world = record {
+      marked = λ c a e. absurd (cc);
+      sessions = record {
+        alive_shown = λ a e. absurd (cc);
+        closing_shown = λ a e. absurd (cc);
+        live_is = λ s a e. absurd (cc);
+        shut_is = λ s a e. absurd (cc);
+        free_is = λ s g e a p q. refl;
+        newest = λ s a. ⊎_elim (λ e. absurd (cc)) (λ e. absurd (cc));
+        before = λ s g e. (let q : 0 ≡ g + 1 = cc in absurd (omega arith));
+        fits = λ a n. absurd (n refl);
+      };
+      slots = record {
+        bit_is = λ s b. (0, refl, (let l = valid.generations.0 in omega arith));
+        low = λ s b. elim (cases_lt s z.slots) [
+          | inl l ↦ l
+          | inr l ↦ absurd (let none = bit_at_ones_above z.slots s l in let q : bit_at (ones z.slots) s ≡ 1 = b in omega arith)
+        ];
+        within = λ s g e. (let q : 0 ≡ g = cc in let l = valid.generations.0 in omega arith);
+      };
+      counts = record { shown = λ a e. absurd (cc); only = λ a e. refl; few = λ a. omega arith };
+      givens = record { shown = λ a. ⊎_elim (λ e. absurd (cc)) (λ e. absurd (cc)); none = λ a e. refl; clean = λ s g e. refl };
     };
-    counts = record { shown = λ a e. absurd (cc); only = λ a e. refl; few = λ a. omega arith };
-    givens = record { shown = λ a. ⊎_elim (λ e. absurd (cc)) (λ e. absurd (cc)); none = λ a e. refl; clean = λ s g e. refl };
-  };
-  few = omega arith;
-  begun = omega arith;
-  first = refl;
-  ranks = λ k h. (let e = first_rank in omega arith);
-  later = λ c h. record { calls = refl; outside = refl };
-  terms = λ c h. subst (λ (x : Caller). (x.number < z.passes) × (x.term ≤ 0)) (sym (only_drawn c h))
-      ((let p = valid.passes.0 in omega arith), omega arith);
-  last = λ n. omega arith;
-  callers = λ c h. record { view = first_view z; there = refl; holds = inl (refl, sym (only_drawn c h)) };
-  free_numbers = λ n b. record {
-    mark = refl;
-    fresh = λ q.
-        let e : n ≡ 0 = ap (λ (x : Caller). x.number) (only_drawn (record { number = n; term = 0 }) q) in
-        let one : bit_of f 0 ≡ 1 = ap (bit_of f) (sym e) ∙ b in let zero = bits.taken in omega arith;
-  };
-  numbers = λ n low b. inl (record {
-    view = first_view z;
-    there = refl;
-    holds = (
-      refl,
-      inl (dite (ℕ_discrete n 0) (λ e. sym e) (λ ne.
-          let one = bits.free n ne low in absurd (let zero : bit_of f n ≡ 0 = b in omega arith))),
-    );
-  });
-  drawers = λ n a b. absurd (omega arith);
-  closed = λ a e. absurd (cc);
-  swept = λ a e. absurd (cc);
-  slots = λ s g l e left b. absurd (let one = bit_at_ones z.slots s l in let q : bit_at (ones z.slots) s ≡ 0 = b in omega arith);
-  berths = λ p j b. absurd b;
-  held = λ a. (let x = none_held a (first_view z) refl refl in let y = none_counted a opening refl refl in omega arith);
-  each = go;
-  counted = counted;
-  founds = founds;
-  looked = looked;
-}
-  where
-    counted : (j : ℕ) (v : View) → get_elem? (first_view z ∷ []) j ≡ some v → IsCounted 1 nobody.who nobody.rank v
-    counted (suc j) v e = absurd (some-ne-none v (sym e))
-    counted zero v e = subst (IsCounted 1 nobody.who nobody.rank) (some-injective (first_view z) v e)
-        (counted_bare 1 nobody.who nobody.rank (first_view z) refl refl)
+    few = omega arith;
+    begun = omega arith;
+    first = refl;
+    ranks = λ k h. (let e = first_rank in omega arith);
+    later = λ c h. record { calls = refl; outside = refl };
+    terms = λ c h. subst (λ (x : Caller). (x.number < z.passes) × (x.term ≤ 0)) (sym (only_drawn c h))
+        ((let p = valid.passes.0 in omega arith), omega arith);
+    last = λ n. omega arith;
+    callers = λ c h. record { view = first_view z; there = refl; holds = inl (refl, sym (only_drawn c h)) };
+    free_numbers = λ n b. record {
+      mark = refl;
+      fresh = λ q.
+          let e : n ≡ 0 = ap (λ (x : Caller). x.number) (only_drawn (record { number = n; term = 0 }) q) in
+          let one : bit_of f 0 ≡ 1 = ap (bit_of f) (sym e) ∙ b in let zero = bits.taken in omega arith;
+    };
+    numbers = λ n low b. inl (record {
+      view = first_view z;
+      there = refl;
+      holds = (
+        refl,
+        inl (dite (ℕ_discrete n 0) (λ e. sym e) (λ ne.
+            let one = bits.free n ne low in absurd (let zero : bit_of f n ≡ 0 = b in omega arith))),
+      );
+    });
+    drawers = λ n a b. absurd (omega arith);
+    closed = λ a e. absurd (cc);
+    swept = λ a e. absurd (cc);
+    slots = λ s g l e left b. absurd (let one = bit_at_ones z.slots s l in let q : bit_at (ones z.slots) s ≡ 0 = b in omega arith);
+    berths = λ p j b. absurd b;
+    held = λ a. (let x = none_held a (first_view z) refl refl in let y = none_counted a opening refl refl in omega arith);
+    each = go;
+    counted = counted;
+    founds = founds;
+    looked = looked;
+  }
+    where
+      counted : (j : ℕ) (v : View) → get_elem? (first_view z ∷ []) j ≡ some v → IsCounted 1 nobody.who nobody.rank v
+      counted (suc j) v e = absurd (some-ne-none v (sym e))
+      counted zero v e = subst (IsCounted 1 nobody.who nobody.rank) (some-injective (first_view z) v e)
+          (counted_bare 1 nobody.who nobody.rank (first_view z) refl refl)
 
-    founds : (j : ℕ) (v : View) → get_elem? (first_view z ∷ []) j ≡ some v → IsFounded z [] (first_memory z pages f) nobody.taker opening.life v
-    founds (suc j) v e = absurd (some-ne-none v (sym e))
-    founds zero v e = subst (IsFounded z [] (first_memory z pages f) nobody.taker opening.life) (some-injective (first_view z) v e)
-        (founded_bare z [] (first_memory z pages f) nobody.taker opening.life (first_view z) refl refl)
+      founds : (j : ℕ) (v : View) → get_elem? (first_view z ∷ []) j ≡ some v → IsFounded z [] (first_memory z pages f) nobody.taker opening.life v
+      founds (suc j) v e = absurd (some-ne-none v (sym e))
+      founds zero v e = subst (IsFounded z [] (first_memory z pages f) nobody.taker opening.life) (some-injective (first_view z) v e)
+          (founded_bare z [] (first_memory z pages f) nobody.taker opening.life (first_view z) refl refl)
 
-    looked : (j : ℕ) (v : View) → get_elem? (first_view z ∷ []) j ≡ some v → IsLooked z (first_memory z pages f) nobody (first_view z ∷ []) v
-    looked (suc j) v e = absurd (some-ne-none v (sym e))
-    looked zero v e = subst (IsLooked z (first_memory z pages f) nobody (first_view z ∷ [])) (some-injective (first_view z) v e)
-        (looked_bare z (first_memory z pages f) nobody (first_view z ∷ []) (first_view z) refl refl)
+      looked : (j : ℕ) (v : View) → get_elem? (first_view z ∷ []) j ≡ some v → IsLooked z (first_memory z pages f) nobody (first_view z ∷ []) v
+      looked (suc j) v e = absurd (some-ne-none v (sym e))
+      looked zero v e = subst (IsLooked z (first_memory z pages f) nobody (first_view z ∷ [])) (some-injective (first_view z) v e)
+          (looked_bare z (first_memory z pages f) nobody (first_view z ∷ []) (first_view z) refl refl)
 
-    go : (j : ℕ) (v : View) → get_elem? (first_view z ∷ []) j ≡ some v → Knows z [] (first_memory z pages f) opening nobody j v
-    go (suc j) v e = absurd (some-ne-none v (sym e))
-    go zero v e = subst (Knows z [] (first_memory z pages f) opening nobody 0) (some-injective (first_view z) v e) (first_knows z pages f valid bits)
+      go : (j : ℕ) (v : View) → get_elem? (first_view z ∷ []) j ≡ some v → Knows z [] (first_memory z pages f) opening nobody j v
+      go (suc j) v e = absurd (some-ne-none v (sym e))
+      go zero v e = subst (Knows z [] (first_memory z pages f) opening nobody 0) (some-injective (first_view z) v e) (first_knows z pages f valid bits)
 
--- the first pass is sound
-pub first_sound : (z : Shape) (ws : List ℕ) (pages f : ℕ → ℕ) → IsValid z → Shows z ws (first_memory z pages f) → AreLoose z pages → AreFree z f
-    → IsSound (first_view z)
-unfolding first_rule
-first_sound z ws pages f valid shows claims bits = sound_of z ws (first_view z ∷ []) (first_rule z ws pages f valid shows claims bits) 0 (first_view z) refl refl refl refl
+  -- the first pass is sound
+  pub first_sound : IsSound (first_view z)
+  unfolding first_rule
+  first_sound = sound_of z ws (first_view z ∷ []) first_rule 0 (first_view z) refl refl refl refl

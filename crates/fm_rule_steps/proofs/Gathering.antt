@@ -21,13 +21,14 @@ use Rattle.fm_rule_facts.specs.Gone.{IsFounded}
 use Rattle.fm_rule_facts.proofs.Ruling.{page_like}
 use Rattle.fm_rule_facts.proofs.Gone.{founded_bare, founded_gather}
 use Rattle.fm_rule_facts.proofs.Founds.{counted_bare, counted_gather}
-use Rattle.fm_rule_facts.proofs.Keeping.{set_there, stays_somewhere, gathered_all, work_as}
+use Rattle.fm_rule_facts.proofs.Keeping.{set_there, stays_somewhere, gathered_all}
 use Rattle.fm_rule_facts.proofs.Counting.{between}
 use Rattle.fm_rule_facts.proofs.Summing.{total-set}
 use Rattle.fm_rule_facts.proofs.Gripping.{none_held}
 use Rattle.fm_rule_steps.proofs.Joining.{all_w, comes_both, caller_on, caller_comes, number_on, draw_on, draw_comes, no_page}
 use Rattle.fm_rule_steps.proofs.Splitting.{with_owners, views_set, there_before}
 use Rattle.fm_rule_facts.proofs.Seating.{knows_seats}
+use Rattle.fm_rule_facts.proofs.Working.{work_as}
 
 module _ (z : Shape) (ws : List ℕ) (vs : List View) (r : Rule z ws vs) (id : ℕ) (v : View) (other : ℕ) (w : View) (at : get_elem? vs id ≡ some v)
     (ne : ¬ (other ≡ id)) (at' : get_elem? (set vs id (gather v w)) other ≡ some w) (l : v.live ≡ true) (free : v.number ≡ no_number)

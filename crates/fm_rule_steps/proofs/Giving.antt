@@ -8,7 +8,6 @@ use Rattle.std.specs.Int.{bit_at}
 use Rattle.std.proofs.lemmas.Nat.Bits.{bit_at-lt, bit_at_or, bit_at-pow_same, bit_at-pow_other}
 use Rattle.fm_words.specs.declared.shape.Shape.{Shape}
 use Rattle.fm_words.specs.Places.{at as place_at, slot_bits as bits_place}
-use Rattle.fm_rule_facts.proofs.Keeping.{work_with}
 use Rattle.fm_rule_facts.specs.declared.step.Step.TheVariants.{GivesSlot}
 use Rattle.fm_rule_facts.specs.Hands.{nothing, retired, HasSlot, IsTaker}
 use Rattle.fm_rule_facts.specs.Views.{View}
@@ -23,6 +22,7 @@ use Rattle.fm_rule_steps.proofs.Knowing.{own}
 use Rattle.fm_rule_steps.proofs.Staying.{same_but, sweeps_still, numbers_stay, number_stays}
 use Rattle.fm_rule_steps.proofs.Plain.{Made}
 use Rattle.fm_rule_facts.proofs.Leaving.{bits_moved}
+use Rattle.fm_rule_facts.proofs.Working.{work_with}
 
 module _ (z : Shape) (me : ℕ) (v : View) (l : v.live ≡ true) (s : ℕ) (hand : v.hand ≡ retired s) (ws : List ℕ) (vs : List View) (r : Rule z ws vs)
     (at : get_elem? vs me ≡ some v) where

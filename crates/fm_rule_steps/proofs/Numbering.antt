@@ -22,7 +22,7 @@ use Rattle.fm_rule_facts.proofs.Groups.{bit_here, bit_else, or_here, or_else}
 use Rattle.fm_rule_facts.proofs.Looking.{wants_in}
 use Rattle.fm_rule_facts.proofs.Gone.{NoSlots, none_founded}
 use Rattle.fm_rule_facts.proofs.Founds.{NoneDrawn}
-use Rattle.fm_rule_facts.proofs.Keeping.{gathered_all, work_as}
+use Rattle.fm_rule_facts.proofs.Keeping.{gathered_all}
 use Rattle.fm_rule_facts.proofs.Sessions.{caller_is}
 use Rattle.fm_rule_facts.proofs.Shown.{shows_same, shows_numbers, shows_term}
 use Rattle.fm_rule_facts.proofs.Ruling.{AreLooked, page_like, keeps_with}
@@ -30,6 +30,7 @@ use Rattle.fm_rule_steps.proofs.Knowing.{own}
 use Rattle.fm_rule_steps.proofs.Staying.{slots_still, sweeps_still}
 use Rattle.fm_rule_steps.proofs.Plain.{Made}
 use Rattle.fm_rule_facts.proofs.Leaving.{callers_stay, numbers_left, pages_left}
+use Rattle.fm_rule_facts.proofs.Working.{work_as}
 
 module _ (z : Shape) (me : ℕ) (v : View) (l : v.live ≡ true) (ws : List ℕ) (vs : List View) (r : Rule z ws vs) (at : get_elem? vs me ≡ some v) where
   abbrev mine : Owns z r.history r.memory r.machine r.owners me v

@@ -18,8 +18,9 @@ use Rattle.fm_rule_facts.proofs.Looking.{looked_on, looked_bare}
 use Rattle.fm_rule_facts.proofs.Founds.{counted_bare}
 use Rattle.fm_rule_facts.specs.Gone.{IsFounded}
 use Rattle.fm_rule_facts.proofs.Gone.{founded_bare}
-use Rattle.fm_rule_facts.proofs.Keeping.{stays_somewhere, work_as}
+use Rattle.fm_rule_facts.proofs.Keeping.{stays_somewhere}
 use Rattle.fm_rule_facts.proofs.Summing.{total-set, total-snoc}
+use Rattle.fm_rule_facts.proofs.Working.{work_as}
 
 at_end : {A : Type 0} (l : List A) (a b : A) (j : ℕ) → get_elem? (l ++ a ∷ []) j ≡ some b → (get_elem? l j ≡ some b) ⊎ ((j ≡ length l) × (a ≡ b))
 at_end [] a b zero e = inr (refl, some-injective a b e)

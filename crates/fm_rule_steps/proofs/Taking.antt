@@ -14,7 +14,6 @@ use Rattle.fm_words.specs.Sessions.{session_word}
 use Rattle.fm_base.specs.Finds.{is_page, Find, TakesSlot as Taking}
 use Rattle.fm_base_machine.specs.Functions.{put}
 use Rattle.fm_base_machine.proofs.Putting.{put_here, put_else}
-use Rattle.fm_rule_facts.proofs.Keeping.{work_with}
 use Rattle.fm_rule_facts.specs.declared.step.Step.TheVariants.{TakesSlot, LearnsGeneration}
 use Rattle.fm_rule_facts.specs.Hands.{nothing, taken, learnt, HasSlot, IsTaker, hand_taken}
 use Rattle.fm_rule_facts.specs.Gone.{FoundBy}
@@ -34,6 +33,7 @@ use Rattle.fm_rule_steps.proofs.Knowing.{own}
 use Rattle.fm_rule_steps.proofs.Staying.{same_but, sweeps_still, numbers_stay, number_stays}
 use Rattle.fm_rule_steps.proofs.Plain.{Made}
 use Rattle.fm_rule_facts.proofs.Leaving.{calls_moved, bits_moved}
+use Rattle.fm_rule_facts.proofs.Working.{work_with}
 
 module _ (z : Shape) (me : ℕ) (v : View) (l : v.live ≡ true) (ws : List ℕ) (vs : List View) (r : Rule z ws vs) (at : get_elem? vs me ≡ some v) where
   abbrev mine : Owns z r.history r.memory r.machine r.owners me v
