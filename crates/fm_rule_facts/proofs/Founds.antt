@@ -1,5 +1,5 @@
 -- What views know of numbers: what draws found, and the terms of callers.
-use Rattle.std.proofs.Common.{◌≡◌, ℕ, ◌≤◌, true, false, List, [], ◌∷◌, ◌++◌, length, set, sym, ap, ◌∙◌, subst, arith, inl, inr, ⊎_elim, Option, Some, None}
+use Rattle.std.proofs.Common.{◌≡◌, ℕ, ◌≤◌, true, false, List, [], ◌++◌, length, set, sym, ap, ◌∙◌, subst, arith, inl, inr, ⊎_elim, Option, Some, None}
 use Rattle.std.proofs.lemmas.List.{append-nil}
 use mathlib.Core.Option.{some}
 use lib.ListN.{get_elem?}
@@ -8,7 +8,7 @@ use Rattle.fm_base.specs.declared.caller.Caller.{Caller}
 use Rattle.fm_base.specs.Calls.{Entry}
 use Rattle.fm_base.specs.Finds.{Find, FindStep, Gathered, is_draw, is_slot, is_page, is_number}
 use Rattle.fm_rule_facts.specs.Views.{View, In, HasFind, all_gathered, brought}
-use Rattle.fm_rule_facts.specs.Splits.{as_gathered, gather}
+use Rattle.fm_rule_facts.specs.Splits.{gather}
 use Rattle.fm_rule_facts.specs.Steps.{none_noted, note_of, note_draw}
 use Rattle.fm_rule_facts.specs.Hands.{drawn_by}
 use Rattle.fm_rule_facts.specs.Facts.{WasDrawn, IsWithin, IsCounted}

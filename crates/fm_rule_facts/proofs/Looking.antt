@@ -1,5 +1,5 @@
 -- Finds of the word 0 of number bits stay true.
-use Rattle.std.proofs.Common.{◌≡◌, ℕ, zero, suc, ◌≤◌, true, false, List, [], ◌∷◌, ◌++◌, length, sym, refl, ap, ◌∙◌, subst, arith, inl, inr, ⊎_elim}
+use Rattle.std.proofs.Common.{◌≡◌, ℕ, zero, suc, ◌≤◌, true, false, List, [], ◌∷◌, ◌++◌, length, sym, refl, ap, ◌∙◌, subst, arith, inr, ⊎_elim}
 use Rattle.std.proofs.lemmas.List.{append-nil}
 use mathlib.Core.Option.{some}
 use lib.ListN.{get_elem?}
@@ -9,7 +9,7 @@ use Rattle.fm_base.specs.Calls.{Entry}
 use Rattle.fm_base.specs.Finds.{Find, Gathered, is_number}
 use Rattle.fm_rule_facts.specs.Hands.{number_taken, number_learnt, most_draws, HasNumberIn}
 use Rattle.fm_rule_facts.specs.Views.{View, In, prefix, all_gathered, brought}
-use Rattle.fm_rule_facts.specs.Splits.{as_gathered, gather}
+use Rattle.fm_rule_facts.specs.Splits.{gather}
 use Rattle.fm_rule_facts.specs.Facts.{Memory, Owners, WasDrawn, Somewhere, WantsNumber, IsUsed, used, wanted, full, HasLooked, LookedBy, IsLooked, IsLoose, Rule}
 use Rattle.fm_rule_facts.specs.Moves.{told}
 use Rattle.fm_rule_facts.proofs.Handing.{hand_owner}

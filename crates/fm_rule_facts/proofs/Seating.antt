@@ -5,7 +5,6 @@ use Rattle.fm_base.specs.declared.caller.Caller.{Caller}
 use Rattle.fm_base.specs.Calls.{Entry}
 use Rattle.fm_base.specs.Finds.{Gathered}
 use Rattle.fm_base_machine.specs.Functions.{Machine}
-use Rattle.fm_rule_facts.specs.Hands.{number_drawn}
 use Rattle.fm_rule_facts.specs.Views.{View}
 use Rattle.fm_rule_facts.specs.Facts.{Memory, Owners, WasDrawn, IsGathered, HasNumberInHand, Owns, Knows}
 use Rattle.fm_rule_facts.proofs.Handing.{hand_owners, hand_owner}

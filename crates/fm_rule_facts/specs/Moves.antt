@@ -8,10 +8,10 @@ use Rattle.fm_base.specs.declared.arena_id.ArenaId.{ArenaId}
 use Rattle.fm_base.specs.Calls.{Call, Read, Write, SwapIf, Add, End, Lend, Back, Entry}
 use Rattle.fm_base.specs.Histories.{made_by}
 use Rattle.fm_rule_facts.specs.Loans.{loans_of, Loan, loan_of, loans_by, IsFree, HasPart}
-use Rattle.fm_base.specs.Finds.{Find, Gathered, Close, Sweep, is_draw}
+use Rattle.fm_base.specs.Finds.{Find, Gathered, is_draw}
 use Rattle.fm_base_machine.specs.Functions.{Fresh, Closes, Over, Machine, moved, MayBy, reply_by, Stage}
 use Rattle.std.specs.Int.{bit_at}
-use Rattle.fm_rule_facts.specs.Hands.{nothing, IsTaker, number_drawn, HasNumberIn, last_term, most_draws}
+use Rattle.fm_rule_facts.specs.Hands.{nothing, number_drawn, HasNumberIn, last_term, most_draws}
 use Rattle.fm_rule_facts.specs.declared.step.Step.{Step}
 use Rattle.fm_rule_facts.specs.declared.step.Step.TheVariants.{Visits, Draws, Holds, Backs, TakesSlot, ReadsMap, Maps, Allocates, SweepsGiven, SweepsMap, LearnsTerm}
 use Rattle.fm_rule_facts.specs.Views.{Met, View, In, IsSound, IsBusy, all_gathered, HasFind, HasAllDrawn, given_of, limit_of}
@@ -20,7 +20,7 @@ use Rattle.fm_rule_facts.specs.Words.{own_word, alive_holds}
 use Rattle.fm_rule_facts.specs.Holds.{grips, holds_of, all_holds}
 use Rattle.fm_rule_facts.specs.Gone.{IsTakenBy, OpenedBy}
 use Rattle.fm_base_machine.specs.Steps.{moved_by}
-use Rattle.fm_rule_facts.specs.Facts.{Memory, free, shut, IsStanding, IsAt, HasPages, HasPage, Owners, IsClosing, IsSweeping, IsOnce, HasInHand, HasClose, HasSweep, KeepsSlot, Begins, Rule, bit_of, KeepsNumber, WantsNumber, IsSpent, IsFreeNumber, HasNumberInHand, Berth}
+use Rattle.fm_rule_facts.specs.Facts.{Memory, free, shut, IsStanding, IsAt, HasPage, Owners, HasClose, HasSweep, KeepsSlot, Begins, Rule, bit_of, KeepsNumber, WantsNumber, IsSpent, IsFreeNumber, HasNumberInHand, Berth}
 
 -- entries of one caller that the functions allow
 abbrev pub MayMake : ℕ → Machine → Caller → List Entry → Type 0

@@ -1,10 +1,9 @@
 -- The steps that claim a page by its bit, and give back one that wasn't mapped.
-use Rattle.std.proofs.Common.{◌≡◌, ◌≢◌, ◌⊎◌, ℕ, ◌^◌, ◌<◌, ◌==◌, Bool, true, false, if◌then◌else◌, List, [], ◌∷◌, length, get_or, bit_or, sym, refl, ap, ◌∙◌, subst, arith, inl, inr, ⊎_elim, ◌/◌, ◌%◌}
+use Rattle.std.proofs.Common.{◌≡◌, ◌≢◌, ◌⊎◌, ℕ, ◌^◌, ◌<◌, ◌==◌, Bool, true, false, if◌then◌else◌, List, [], ◌∷◌, length, get_or, bit_or, sym, refl, ap, ◌∙◌, subst, inl, inr, ⊎_elim, ◌/◌, ◌%◌}
 use mathlib.Core.Option.{some}
 use lib.ListN.{get_elem?}
 use prog.Atomic.{either}
 use Rattle.std.specs.Int.{bit_at}
-use Rattle.std.proofs.lemmas.Nat.Bits.{bit_at-lt}
 use Rattle.fm_words.specs.declared.shape.Shape.{Shape}
 use Rattle.fm_words.specs.Bits.{IsWithout}
 use Rattle.fm_words.specs.Places.{at as place_at, page_bits as bits_place, page_groups}
@@ -26,8 +25,8 @@ use Rattle.fm_rule_facts.specs.Moves.{MayStep}
 use Rattle.fm_rule_facts.proofs.Founds.{note_none_drawn, note_no_number}
 use Rattle.fm_rule_facts.proofs.Moving.{pages_take}
 use Rattle.fm_rule_facts.proofs.Returning.{pages_give}
-use Rattle.fm_rule_facts.proofs.Shown.{shows_same, shows_page_bits}
-use Rattle.fm_rule_facts.proofs.Ruling.{page_by, page_like, AreLooked, unlooked}
+use Rattle.fm_rule_facts.proofs.Shown.{shows_page_bits}
+use Rattle.fm_rule_facts.proofs.Ruling.{page_by, AreLooked, unlooked}
 use Rattle.fm_rule_steps.proofs.Reading.{by_bit}
 use Rattle.fm_rule_steps.proofs.Knowing.{own}
 use Rattle.fm_rule_steps.proofs.Plain.{Made}

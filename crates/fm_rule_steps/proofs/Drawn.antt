@@ -9,7 +9,7 @@ use Rattle.fm_base.specs.Calls.{Entry}
 use Rattle.fm_base.specs.Histories.{made_by}
 use Rattle.fm_base.specs.Finds.{Find, Gathered}
 use Rattle.fm_rule_facts.specs.Views.{View, In, all_gathered}
-use Rattle.fm_rule_facts.specs.Facts.{Memory, Owners, HasGathered, IsGathered, IsOnce, Owns, Knows, Rule, WasDrawn, next_of, IsUndrawn, HasNumberInHand}
+use Rattle.fm_rule_facts.specs.Facts.{Memory, Owners, HasGathered, IsOnce, Owns, Knows, Rule, WasDrawn, next_of, IsUndrawn, HasNumberInHand}
 use Rattle.fm_base.specs.declared.caller.Caller.{Caller}
 use Rattle.fm_rule_facts.specs.Hands.{Number, no_number, number_taken, number_learnt, number_drawn, number_left, number_joined, HasNumberIn, most_draws}
 use Rattle.fm_rule_facts.proofs.Handing.{hand_view}

@@ -23,7 +23,7 @@ use Rattle.fm_rule_facts.specs.Gone.{IsFounded}
 use Rattle.fm_rule_facts.proofs.Ruling.{page_like}
 use Rattle.fm_rule_facts.proofs.Gone.{founded_bare}
 use Rattle.fm_rule_facts.proofs.Founds.{counted_bare}
-use Rattle.fm_rule_facts.proofs.Keeping.{stays_somewhere, gathered_all, in_left, in_right}
+use Rattle.fm_rule_facts.proofs.Keeping.{stays_somewhere, in_left, in_right}
 use Rattle.fm_rule_facts.proofs.Summing.{total-set, total-snoc}
 use Rattle.fm_rule_facts.proofs.Gripping.{none_held}
 use Rattle.fm_rule_steps.proofs.Splitting.{with_owners, views_set, views_on, on_longer}

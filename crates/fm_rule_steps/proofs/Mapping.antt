@@ -23,8 +23,8 @@ use Rattle.fm_rule_facts.specs.Moves.{LearnsMap, MayStep}
 use Rattle.fm_rule_facts.proofs.Founds.{NoneDrawn, NoDraw, no_draw, note_no_draw}
 use Rattle.fm_rule_facts.proofs.Sessions.{standing_known, ended_apart, unstanding}
 use Rattle.fm_rule_facts.proofs.Moving.{pages_map, no_part, claimed_free, read_mapped}
-use Rattle.fm_rule_facts.proofs.Shown.{shows_same, shows_map}
-use Rattle.fm_rule_facts.proofs.Ruling.{page_by, page_like}
+use Rattle.fm_rule_facts.proofs.Shown.{shows_map}
+use Rattle.fm_rule_facts.proofs.Ruling.{page_by}
 use Rattle.fm_rule_facts.proofs.Keeping.{set_there}
 use Rattle.fm_rule_steps.proofs.Reading.{eqb_true, eqb_false, none_read, page_read, map_below}
 use Rattle.fm_rule_steps.proofs.Knowing.{own, given_now}

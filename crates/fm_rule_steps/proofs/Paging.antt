@@ -1,5 +1,5 @@
 -- A step on page bits or map words, by a pass that isn't sweeping: it keeps the rule where it keeps the facts of pages.
-use Rattle.std.proofs.Common.{◌≡◌, ℕ, ◌+◌, true, List, length, set, sym, refl, ap, ◌∙◌, subst, inl, inr, Option, get_or, [], Some}
+use Rattle.std.proofs.Common.{◌≡◌, ℕ, ◌+◌, true, List, length, set, sym, refl, ap, ◌∙◌, subst, inr, Option, get_or, [], Some}
 use mathlib.Core.Option.{some}
 use lib.ListN.{get_elem?}
 use Rattle.fm_words.specs.declared.shape.Shape.{Shape}

@@ -1,5 +1,5 @@
 -- Steps that leave closes and hands as they are.
-use Rattle.std.proofs.Common.{◌≡◌, ◌≢◌, ℕ, true, List, ◌++◌, length, set, sym, refl, ap, ◌∙◌, subst, inl, inr, Some, ◌/◌, ◌%◌, [], Option}
+use Rattle.std.proofs.Common.{◌≡◌, ◌≢◌, ℕ, true, List, length, set, sym, refl, ap, ◌∙◌, subst, inl, inr, Some, ◌/◌, ◌%◌, [], Option}
 use mathlib.Core.Option.{some}
 use lib.ListN.{get_elem?}
 use Rattle.fm_words.specs.declared.shape.Shape.{Shape}
@@ -13,7 +13,7 @@ use Rattle.std.specs.Int.{bit_at}
 use Rattle.fm_rule_facts.specs.Hands.{Hand, IsTaker}
 use Rattle.fm_rule_facts.specs.Views.{View, In, limit_of}
 use Rattle.fm_rule_facts.specs.Facts.{Memory, free, shut, Shows, World, IsOnce, Owners, HasInHand, HasClose, Owns, Rule, IsAt, IsLone, HasSwept, HasPages, Work, Session, Pages}
-use Rattle.fm_rule_facts.specs.Moves.{MayMake, NoEnd, StaysEnded, Moved, Same, KeepsCloses, KeepsSlots, KeepsHolds, Gives, MayLend, PagesMoved, KeepsHand}
+use Rattle.fm_rule_facts.specs.Moves.{MayMake, NoEnd, StaysEnded, Moved, Same, KeepsCloses, KeepsSlots, KeepsHolds, Gives, MayLend, PagesMoved}
 use Rattle.fm_rule_facts.proofs.Keeping.{closing_on, sweeping_on}
 use Rattle.fm_rule_facts.proofs.Frame.{was_over}
 use Rattle.fm_rule_facts.proofs.Founds.{NoneDrawn, NoDraw}

@@ -1,18 +1,16 @@
 -- Steps that leave the words, the machine and their own view: they look, or they make an entry that moves nothing.
-use Rattle.std.proofs.Common.{◌≡◌, ℕ, List, [], length, get_or, sym, refl, ap, ◌∙◌, subst, true, ◌+◌}
+use Rattle.std.proofs.Common.{◌≡◌, ℕ, List, [], length, get_or, refl, true}
 use mathlib.Core.Option.{some}
 use lib.ListN.{get_elem?}
 use Rattle.fm_words.specs.declared.shape.Shape.{Shape}
 use Rattle.fm_base.specs.declared.arena_id.ArenaId.{ArenaId}
 use Rattle.fm_base.specs.Calls.{Entry}
 use Rattle.fm_base.specs.Finds.{Find}
-use Rattle.fm_base_machine.specs.Functions.{Machine}
 use Rattle.fm_base_machine.specs.Steps.{moved_by}
-use Rattle.fm_rule_facts.specs.Loans.{Loan, loans_of, loans_after}
+use Rattle.fm_rule_facts.specs.Loans.{loans_of, loans_after}
 use Rattle.fm_rule_facts.specs.Views.{View, In, limit_of}
-use Rattle.fm_rule_facts.specs.Holds.{holds_of, all_holds}
 use Rattle.fm_rule_facts.specs.Steps.{none_noted}
-use Rattle.fm_rule_facts.specs.Facts.{Pages, World, Rule}
+use Rattle.fm_rule_facts.specs.Facts.{Rule}
 use Rattle.fm_rule_facts.specs.Gone.{FoundBy}
 use Rattle.fm_rule_facts.specs.Moves.{MayMake, MayLend, NoEnd}
 use Rattle.fm_rule_facts.proofs.Founds.{NoneDrawn, NoDraw, no_draw}
@@ -20,9 +18,7 @@ use Rattle.fm_rule_facts.proofs.Gone.{none_founded}
 use Rattle.fm_rule_facts.proofs.Ruling.{AreLooked, unlooked}
 use Rattle.fm_rule_facts.proofs.Shown.{shows_same}
 use Rattle.fm_rule_steps.proofs.Knowing.{own}
-use Rattle.fm_rule_steps.proofs.Staying.{same_but}
 use Rattle.fm_rule_steps.proofs.Plain.{Made, plain_with, memory_left, view_left, words_left}
-use Rattle.fm_rule_facts.proofs.Leaving.{stays_ended}
 
 module _ (z : Shape) (ws : List ℕ) (vs : List View) (r : Rule z ws vs) (me : ℕ) (v : View) (at : get_elem? vs me ≡ some v) (l : v.live ≡ true) (i : ℕ) where
   -- entries that move nothing and lend nothing

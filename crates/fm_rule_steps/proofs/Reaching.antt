@@ -9,11 +9,10 @@ use Rattle.fm_words.specs.Places.{at as place_at, page_word}
 use Rattle.fm_base.specs.declared.arena_id.ArenaId.{ArenaId}
 use Rattle.fm_base.specs.Calls.{Call, Read, Write, SwapIf, Add, Reply, Fine, Found, entry_of}
 use Rattle.fm_base.specs.Machine.{words_within}
-use Rattle.fm_base_machine.specs.Functions.{Over, Machine, put, put_at, moved, MayBy, reply_by}
+use Rattle.fm_base_machine.specs.Functions.{Over, put, put_at, moved, MayBy, reply_by}
 use Rattle.fm_base_machine.proofs.Putting.{put_else}
 use Rattle.fm_rule_facts.specs.declared.step.Step.TheVariants.{Loads, Stores, SwapsIf, Adds}
-use Rattle.fm_rule_facts.specs.Loans.{Loan, loans_by, loans_of}
-use Rattle.fm_rule_facts.specs.Holds.{holds_of, all_holds}
+use Rattle.fm_rule_facts.specs.Loans.{loans_by, loans_of}
 use Rattle.fm_rule_facts.specs.Steps.{part, entries, noted, acted, none_noted}
 use Rattle.fm_rule_facts.specs.Facts.{Memory, shut, IsStanding, IsAt, mapped, Pages, Shows, World, Rule}
 use Rattle.fm_rule_facts.specs.Pages.{IsMapped}
@@ -21,13 +20,12 @@ use Rattle.fm_rule_facts.specs.Parts.{mapping_of}
 use Rattle.fm_rule_facts.proofs.Moving.{mapped_lent}
 use Rattle.fm_rule_facts.proofs.Living.{pages_write}
 use Rattle.std.proofs.Math.Nat.{mod-lt, div-lt_iff_lt-mul}
-use Rattle.fm_rule_facts.specs.Moves.{Ends, LendsBy, StaysEnded, MayStep, MayStore}
+use Rattle.fm_rule_facts.specs.Moves.{Ends, LendsBy, MayStep, MayStore}
 use Rattle.fm_rule_facts.proofs.Sessions.{standing_known, standing_shown, ended_apart}
 use Rattle.fm_rule_facts.proofs.Worlds.{world_word}
 use Rattle.fm_rule_facts.proofs.Shown.{shows_same, shows_cell}
 use Rattle.fm_rule_facts.proofs.Founds.{no_draw}
 use Rattle.fm_rule_steps.proofs.Knowing.{own, given_now}
-use Rattle.fm_rule_steps.proofs.Staying.{same_but}
 use Rattle.fm_rule_steps.proofs.Plain.{Made, plain, LeavesWords, memory_left, view_left, words_left}
 
 -- an arena has the words of its slot

@@ -15,7 +15,7 @@ use Rattle.fm_rule_facts.specs.Hands.{Hand, HasSlot, Number, no_number, number_t
 use Rattle.fm_rule_facts.proofs.Handing.{hand_on}
 use Rattle.fm_rule_facts.specs.Views.{View, In, limit_of, all_gathered, brought}
 use Rattle.fm_rule_facts.specs.Facts.{Memory, free, shut, Owners, HasInHand, HasSweep, KeepsSlot, Owns, Rule, WasDrawn, bit_of, next_of, IsLoose, KeepsNumber, HasNumberInHand, IsUndrawn}
-use Rattle.fm_rule_facts.specs.Moves.{StaysEnded, Moved, Same, KeepsSweeps, KeepsSlots, PagesMoved, KeepsPages, NumbersOn, KeepsHand}
+use Rattle.fm_rule_facts.specs.Moves.{Moved, Same, KeepsSweeps, KeepsSlots, KeepsPages, NumbersOn, KeepsHand}
 use Rattle.fm_rule_facts.proofs.Keeping.{silent_on, drawn_still, drawn_before}
 use Rattle.fm_rule_facts.specs.Parts.{Mapping, Swept}
 use Rattle.fm_rule_facts.proofs.Ruling.{page_like}

@@ -24,7 +24,7 @@ use Rattle.fm_rule_facts.proofs.Worlds.{world_pages}
 use Rattle.fm_rule_facts.proofs.Moving.{pages_unmap}
 use Rattle.fm_rule_facts.proofs.Living.{pages_wipe}
 use Rattle.fm_rule_facts.proofs.Returning.{pages_back}
-use Rattle.fm_rule_facts.proofs.Shown.{shows_same, shows_map, shows_cell, shows_page_bits}
+use Rattle.fm_rule_facts.proofs.Shown.{shows_map, shows_cell, shows_page_bits}
 use Rattle.fm_rule_facts.proofs.Groups.{set_here, set_else, page_group}
 use Rattle.fm_rule_steps.proofs.Closes.{once_advanced}
 use Rattle.fm_rule_steps.proofs.Reading.{eqb_true, eqb_false, none_read, page_read, map_below}
