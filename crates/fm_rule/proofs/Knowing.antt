@@ -17,6 +17,7 @@ use Rattle.fm_rule_steps.proofs.Closes.{Found, passed_of-found}
 use Rattle.fm_rule.specs.declared.pass.Part.{Part}
 use Rattle.std.proofs.lemmas.Nat.{div-mul-add, mod-mul-add}
 use Rattle.atomic_table.specs.Seated.{TableId}
+use Rattle.atomic_table.specs.Table.{Me}
 use Rattle.fm_rule.specs.declared.pool.Pool.{Pool}
 use Rattle.fm_rule.specs.Passes.{IsOf}
 use Rattle.fm_rule.specs.declared.seen.Seen.{Seen}
@@ -81,14 +82,15 @@ pub record IsOpen (pool : Pool) (now : View) (seat : Seat (Unit {0}) Seen) : Typ
   pub live : seat.me.0.live ≡ true
   pub met : seat.me.0.met ≡ []
 
-pub opened : (pool : Pool) {now : View} (seat : Seat (Unit {0}) Seen) {c : Caller} {i : Option ArenaId} {part : Part} {count : ℕ}
-    → homed (numbers_of seat.table_id) seat.me.0 ≡ now → IsOf pool now → Keeps c i part count seat.me → IsOpen pool now seat
-opened pool {now = now} seat is of k = record {
-  sees = record { is = is; of = of.1; sound = k.sound };
-  table = in_pool seat.table_id seat.me.0 now pool is of;
-  live = k.live;
-  met = k.met;
-}
+module _ {now : View} {c : Caller} {i : Option ArenaId} {part : Part} {count : ℕ} where
+  pub sees : {z : Shape} {home : List ℕ} {me : Me (Unit {0}) View} → homed home me.0 ≡ now → now.shape ≡ z → Keeps c i part count me
+      → Sees z now home me.0
+  sees is of k = record { is = is; of = of; sound = k.sound }
+
+  pub opened : {pool : Pool} {seat : Seat (Unit {0}) Seen} → homed (numbers_of seat.table_id) seat.me.0 ≡ now → IsOf pool now
+      → Keeps c i part count seat.me → IsOpen pool now seat
+  opened {pool = pool} {seat = seat} is of k =
+      record { sees = sees is of.1 k; table = in_pool seat.table_id seat.me.0 now pool is of; live = k.live; met = k.met }
 
 module _ {z : Shape} {now : View} {home : List ℕ} {v : View} (k : Sees z now home v) where
   -- what contracts say of the pass is true of the view in the table

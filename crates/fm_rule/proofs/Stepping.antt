@@ -11,12 +11,11 @@ use Rattle.fm_rule_facts.specs.Views.{View}
 use Rattle.fm_rule_facts.specs.Hands.{Number, number_after, drawn_by}
 use Rattle.fm_rule_facts.specs.Steps.{Stepped, draws, part, entries, noted}
 use Rattle.fm_rule_facts.specs.Moves.{LearnsCount, LearnsSlots, LearnsMap}
-use Rattle.fm_rule.specs.declared.pool.Pool.{Pool}
+use Rattle.fm_rule.specs.declared.pass.Part.{Part}
 use Rattle.fm_rule.specs.declared.seen.Seen.{Seen}
 use Rattle.fm_rule.specs.Acts.{Acted}
-use Rattle.fm_rule.specs.Views.{homed, numbers_of}
+use Rattle.fm_rule.specs.Views.{homed, numbers_of, Keeps}
 use Rattle.fm_rule.proofs.Allowed.{leaves, stepped}
-use Rattle.fm_rule.proofs.Knowing.{IsOpen}
 
 -- what a step makes of a view: the view after, the entries, and what is noted
 abbrev pub Outcome : Type 0
@@ -37,24 +36,23 @@ pub draws_steady : (e : ℕ) (home : List ℕ) (v : View) (x : ℕ) → IsSteady
 unfolding part entries noted
 draws_steady e home v x = λ j. (homed_draws (drawn_by v.number e x) (number_after v.number e x) e x home v j, entries (Draws e) v x, noted (Draws e) v x)
 
-module _ {pool : Pool} {now : View} {old : Seat (Unit {0}) Seen} (k : IsOpen pool now old) where
+module _ {now : View} {c : Caller} {i : Option ArenaId} {part' : Part} {count : ℕ} {old : Seat (Unit {0}) Seen} where
   -- the step of the views in the table is one of the views that contracts see
-  pub step_stepped : (s : Step) {x : ℕ} {new : Seat (Unit {0}) Seen} → Acted old new s x → IsSteady s (numbers_of old.table_id) old.me.0 x
+  pub step_stepped : {new : Seat (Unit {0}) Seen} (s : Step) {x : ℕ} → homed (numbers_of old.table_id) old.me.0 ≡ now → Keeps c i part' count old.me
+      → Acted old new s x → IsSteady s (numbers_of old.table_id) old.me.0 x
       → Stepped now (homed (numbers_of new.table_id) new.me.0) (part s now x) (entries s now x) (noted s now x)
-  step_stepped s {x = x} {new = new} a steady =
+  step_stepped {new = new} s {x = x} is k a steady =
       let v = old.me.0 in
       let home = numbers_of old.table_id in
       let made = stepped home v (part s v x) new.me.0 (entries s v x) (noted s v x) (leaves s v x).same k.met a.tells.gives in
       subst (λ (y : View × List ℕ). Stepped y.0 (homed y.1 new.me.0) (part s y.0 x) (entries s y.0 x) (noted s y.0 x))
-      (λ j. (k.sees.is j, sym (ap numbers_of a.table) j))
+      (λ j. (is j, sym (ap numbers_of a.table) j))
       (subst (λ (y : Outcome). Stepped (homed home v) (homed home new.me.0) y.0 y.1 y.2) steady made)
 
-  -- what is said of the view in the table is true of the one that contracts see
-  pub outer : (P : View → Type 0) → P (homed (numbers_of old.table_id) old.me.0) → P now
-  outer P h = subst P k.sees.is h
-
-  pub count_learnt : {x : ℕ} → LearnsCount old.me.0 x → LearnsCount now x
-  count_learnt {x = x} l = outer (λ (y : View). LearnsCount y x) (record {
+-- what is learnt is true of the view that contracts see
+module _ {now v : View} {home : List ℕ} (is : homed home v ≡ now) {x : ℕ} where
+  pub count_learnt : LearnsCount v x → LearnsCount now x
+  count_learnt l = subst (λ (y : View). LearnsCount y x) is (record {
     some = l.some;
     few = l.few;
     whole = l.whole;
@@ -62,9 +60,9 @@ module _ {pool : Pool} {now : View} {old : Seat (Unit {0}) Seen} (k : IsOpen poo
     later = l.later;
   })
 
-  pub slots_learnt : {x : ℕ} → LearnsSlots old.me.0 x → LearnsSlots now x
-  slots_learnt {x = x} l = outer (λ (y : View). LearnsSlots y x) (record { some = l.some; low = l.low; idle = l.idle; busy = l.busy })
+  pub slots_learnt : LearnsSlots v x → LearnsSlots now x
+  slots_learnt l = subst (λ (y : View). LearnsSlots y x) is (record { some = l.some; low = l.low; idle = l.idle; busy = l.busy })
 
-  pub map_learnt : {a : ArenaId} {i x : ℕ} {home : List ℕ} {w : View} → LearnsMap old.me.0 a i x w → LearnsMap now a i x (homed home w)
-  map_learnt {a = a} {i = i} {x = x} {home = home} {w = w} l =
-      outer (λ (y : View). LearnsMap y a i x (homed home w)) (record { given = l.given; none = l.none; low = l.low })
+  pub map_learnt : {a : ArenaId} {i : ℕ} {home' : List ℕ} {w : View} → LearnsMap v a i x w → LearnsMap now a i x (homed home' w)
+  map_learnt {a = a} {i = i} {home' = home'} {w = w} l =
+      subst (λ (y : View). LearnsMap y a i x (homed home' w)) is (record { given = l.given; none = l.none; low = l.low })

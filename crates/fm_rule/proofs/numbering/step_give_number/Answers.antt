@@ -8,11 +8,13 @@ use Rattle.fm_rule.proofs.Stepping.{step_stepped}
 use Rattle.fm_rule.proofs.numbering.step_give_number.Goals as goal
 
 pub or_as-requires-clause-can : goal.or_as-requires-clause-can
-or_as-requires-clause-can c = can_give_number (opened c.args.pool.now c.pass.inside.seat c.pass.view_is c.requires.of c.pass.invariant) c.requires.left c.requires.fits c.number_bits_place-place.ensures c.bit-one.ensures
+or_as-requires-clause-can c =
+    can_give_number (opened c.pass.view_is c.requires.of c.pass.invariant)
+    c.requires.left c.requires.fits c.number_bits_place-place.ensures c.bit-one.ensures
 
 pub invariant_of-pass : goal.invariant_of-pass
 invariant_of-pass c = step_keeps c.pass.invariant c.or_as.ensures tt
 
 pub returns : goal.returns
 unfolding part entries noted
-returns c = step_stepped (opened c.args.pool.now c.pass.inside.seat c.pass.view_is c.requires.of c.pass.invariant) (GivesNumber c.args.number) c.or_as.ensures refl
+returns c = step_stepped (GivesNumber c.args.number) c.pass.view_is c.pass.invariant c.or_as.ensures refl

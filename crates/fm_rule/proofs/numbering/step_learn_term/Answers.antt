@@ -8,14 +8,16 @@ use Rattle.fm_rule.proofs.Stepping.{step_stepped}
 use Rattle.fm_rule.proofs.numbering.step_learn_term.Goals as goal
 
 pub load_as-requires-clause-can : goal.load_as-requires-clause-can
-load_as-requires-clause-can c = can_learn_term (opened c.args.pool.now c.pass.inside.seat c.pass.view_is c.requires.of c.pass.invariant) c.requires.taken c.requires.fits c.term_place-place.ensures
+load_as-requires-clause-can c =
+    can_learn_term (opened c.pass.view_is c.requires.of c.pass.invariant)
+    c.requires.taken c.requires.fits c.term_place-place.ensures
 
 pub invariant_of-pass : goal.invariant_of-pass
 invariant_of-pass c = step_keeps c.pass.invariant c.load_as.ensures tt
 
 pub returns-clause-stepped : goal.returns-clause-stepped
 unfolding part entries noted
-returns-clause-stepped c = step_stepped (opened c.args.pool.now c.pass.inside.seat c.pass.view_is c.requires.of c.pass.invariant) (LearnsTerm c.args.number) c.load_as.ensures refl
+returns-clause-stepped c = step_stepped (LearnsTerm c.args.number) c.pass.view_is c.pass.invariant c.load_as.ensures refl
 
 pub returns-clause-term : goal.returns-clause-term
 returns-clause-term c = c.load_as.ensures.tells.learns

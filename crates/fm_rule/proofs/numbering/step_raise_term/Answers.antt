@@ -8,11 +8,13 @@ use Rattle.fm_rule.proofs.Stepping.{step_stepped}
 use Rattle.fm_rule.proofs.numbering.step_raise_term.Goals as goal
 
 pub store_as-requires-clause-can : goal.store_as-requires-clause-can
-store_as-requires-clause-can c = can_raise_term (opened c.args.pool.now c.pass.inside.seat c.pass.view_is c.requires.of c.pass.invariant) c.requires.joined c.requires.fits c.term_place-place.ensures (ap (λ (n : ℕ). n + 1) c.from-next.ensures)
+store_as-requires-clause-can c =
+    can_raise_term (opened c.pass.view_is c.requires.of c.pass.invariant)
+    c.requires.joined c.requires.fits c.term_place-place.ensures (ap (λ (n : ℕ). n + 1) c.from-next.ensures)
 
 pub invariant_of-pass : goal.invariant_of-pass
 invariant_of-pass c = step_keeps c.pass.invariant c.store_as.ensures tt
 
 pub returns : goal.returns
 unfolding part entries noted
-returns c = step_stepped (opened c.args.pool.now c.pass.inside.seat c.pass.view_is c.requires.of c.pass.invariant) (RaisesTerm c.args.caller.number) c.store_as.ensures refl
+returns c = step_stepped (RaisesTerm c.args.caller.number) c.pass.view_is c.pass.invariant c.store_as.ensures refl

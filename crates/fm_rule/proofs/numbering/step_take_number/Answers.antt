@@ -11,11 +11,13 @@ pub number_bits_place-place-requires-clause-place : goal.number_bits_place-place
 number_bits_place-place-requires-clause-place c = group_of_low c.args.pool.now.shape _ _ c.requires.fits
 
 pub exchange_as-requires-clause-can : goal.exchange_as-requires-clause-can
-exchange_as-requires-clause-can c = can_take_number (opened c.args.pool.now c.pass.inside.seat c.pass.view_is c.requires.of c.pass.invariant) c.requires.none c.requires.few c.requires.fits c.without_bit-next.ensures c.number_bits_place-place.ensures
+exchange_as-requires-clause-can c =
+    can_take_number (opened c.pass.view_is c.requires.of c.pass.invariant)
+    c.requires.none c.requires.few c.requires.fits c.without_bit-next.ensures c.number_bits_place-place.ensures
 
 pub invariant_of-pass : goal.invariant_of-pass
 invariant_of-pass c = step_keeps c.pass.invariant c.exchange_as.ensures tt
 
 pub returns : goal.returns
 unfolding part entries noted
-returns c = step_stepped (opened c.args.pool.now c.pass.inside.seat c.pass.view_is c.requires.of c.pass.invariant) (TakesNumber c.args.group c.args.expected c.args.bit) c.exchange_as.ensures refl
+returns c = step_stepped (TakesNumber c.args.group c.args.expected c.args.bit) c.pass.view_is c.pass.invariant c.exchange_as.ensures refl

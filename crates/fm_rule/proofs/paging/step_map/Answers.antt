@@ -1,31 +1,36 @@
-use Rattle.std.proofs.Common.{refl, arith, ◌≤◌}
+use Rattle.std.proofs.Common.{refl, subst, arith, ◌≤◌}
 use Rattle.fm_rule_facts.specs.Views.{View}
 use Rattle.fm_rule_facts.specs.declared.step.Step.TheVariants.{Maps}
 use Rattle.fm_rule_facts.specs.Steps.{part, entries, noted}
-use Rattle.fm_rule.proofs.Knowing.{opened, inside_slot, page_in_hand, valid}
+use Rattle.fm_rule.proofs.Knowing.{opened, sees, inside_slot, page_in_hand, valid}
 use Rattle.fm_rule.proofs.Making.{can_map}
 use Rattle.fm_rule.proofs.Keeping.{step_keeps}
-use Rattle.fm_rule.proofs.Stepping.{step_stepped, outer}
+use Rattle.fm_rule.proofs.Stepping.{step_stepped}
 use Rattle.fm_rule.proofs.paging.step_map.Goals as goal
 
 pub map_place-place-requires-clause-valid : goal.map_place-place-requires-clause-valid
-map_place-place-requires-clause-valid c = valid (opened c.args.pool.now c.pass.inside.seat c.pass.view_is c.requires.of c.pass.invariant).sees
+map_place-place-requires-clause-valid c = valid (sees c.pass.view_is c.requires.of.1 c.pass.invariant)
 
 pub map_place-place-requires-clause-place : goal.map_place-place-requires-clause-place
-map_place-place-requires-clause-place c = (inside_slot (opened c.args.pool.now c.pass.inside.seat c.pass.view_is c.requires.of c.pass.invariant).sees c.requires.inside, c.requires.low)
+map_place-place-requires-clause-place c = (inside_slot (sees c.pass.view_is c.requires.of.1 c.pass.invariant) c.requires.inside, c.requires.low)
 
 pub map_word-new-requires : goal.map_word-new-requires
-map_word-new-requires c = let few = (valid (opened c.args.pool.now c.pass.inside.seat c.pass.view_is c.requires.of c.pass.invariant).sees).pages.1 in let l = page_in_hand (opened c.args.pool.now c.pass.inside.seat c.pass.view_is c.requires.of c.pass.invariant).sees c.requires.page in omega arith
+map_word-new-requires c =
+    let few = (valid (sees c.pass.view_is c.requires.of.1 c.pass.invariant)).pages.1 in
+    let l = page_in_hand (sees c.pass.view_is c.requires.of.1 c.pass.invariant) c.requires.page in
+    omega arith
 
 pub exchange_as-requires-clause-can : goal.exchange_as-requires-clause-can
-exchange_as-requires-clause-can c = can_map (opened c.args.pool.now c.pass.inside.seat c.pass.view_is c.requires.of c.pass.invariant) c.requires.inside c.requires.low c.requires.page c.map_place-place.ensures c.map_word-new.ensures.word
+exchange_as-requires-clause-can c =
+    can_map (opened c.pass.view_is c.requires.of c.pass.invariant)
+    c.requires.inside c.requires.low c.requires.page c.map_place-place.ensures c.map_word-new.ensures.word
 
 pub invariant_of-pass : goal.invariant_of-pass
 invariant_of-pass c = step_keeps c.pass.invariant c.exchange_as.ensures tt
 
 pub returns-clause-stepped : goal.returns-clause-stepped
 unfolding part entries noted
-returns-clause-stepped c = step_stepped (opened c.args.pool.now c.pass.inside.seat c.pass.view_is c.requires.of c.pass.invariant) (Maps c.args.id c.args.index c.args.page) c.exchange_as.ensures refl
+returns-clause-stepped c = step_stepped (Maps c.args.id c.args.index c.args.page) c.pass.view_is c.pass.invariant c.exchange_as.ensures refl
 
 pub returns-clause-low : goal.returns-clause-low
-returns-clause-low c = outer (opened c.args.pool.now c.pass.inside.seat c.pass.view_is c.requires.of c.pass.invariant) (λ (x : View). c.exchange_as.result ≤ x.shape.pages) c.exchange_as.ensures.tells.learns
+returns-clause-low c = subst (λ (x : View). c.exchange_as.result ≤ x.shape.pages) c.pass.view_is c.exchange_as.ensures.tells.learns

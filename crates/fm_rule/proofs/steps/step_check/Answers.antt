@@ -1,21 +1,23 @@
 use Rattle.std.proofs.Common.{refl}
 use Rattle.fm_rule_facts.specs.declared.step.Step.TheVariants.{Checks}
 use Rattle.fm_rule_facts.specs.Steps.{part, entries, noted}
-use Rattle.fm_rule.proofs.Knowing.{opened, fits}
+use Rattle.fm_rule.proofs.Knowing.{opened, sees, fits}
 use Rattle.fm_rule.proofs.Making.{can_check}
 use Rattle.fm_rule.proofs.Keeping.{check_keeps}
 use Rattle.fm_rule.proofs.Stepping.{step_stepped}
 use Rattle.fm_rule.proofs.steps.step_check.Goals as goal
 
 pub session_place-place-requires : goal.session_place-place-requires
-session_place-place-requires c = (fits (opened c.args.pool.now c.pass.inside.seat c.pass.view_is c.requires.of c.pass.invariant).sees c.args.id c.requires.known).slot
+session_place-place-requires c = (fits (sees c.pass.view_is c.requires.of.1 c.pass.invariant) c.args.id c.requires.known).slot
 
 pub load_as-word-requires-clause-can : goal.load_as-word-requires-clause-can
-load_as-word-requires-clause-can c = can_check (opened c.args.pool.now c.pass.inside.seat c.pass.view_is c.requires.of c.pass.invariant) c.requires.outside c.requires.marked c.requires.known c.requires.may c.session_place-place.ensures
+load_as-word-requires-clause-can c =
+    can_check (opened c.pass.view_is c.requires.of c.pass.invariant)
+    c.requires.outside c.requires.marked c.requires.known c.requires.may c.session_place-place.ensures
 
 pub invariant_of-pass : goal.invariant_of-pass
 invariant_of-pass c = check_keeps c.pass.invariant c.load_as-word.ensures c.is_alive-pass-inside.ensures
 
 pub returns : goal.returns
 unfolding part entries noted
-returns c = step_stepped (opened c.args.pool.now c.pass.inside.seat c.pass.view_is c.requires.of c.pass.invariant) (Checks c.args.id) c.load_as-word.ensures refl
+returns c = step_stepped (Checks c.args.id) c.pass.view_is c.pass.invariant c.load_as-word.ensures refl

@@ -8,11 +8,11 @@ use Rattle.fm_rule.proofs.Stepping.{step_stepped}
 use Rattle.fm_rule.proofs.steps.step_load.Goals as goal
 
 pub load_as-requires-clause-can : goal.load_as-requires-clause-can
-load_as-requires-clause-can c = can_load (opened c.args.pool.now c.pass.inside.seat c.pass.view_is c.requires.of c.pass.invariant) c.requires.act c.requires.place
+load_as-requires-clause-can c = can_load (opened c.pass.view_is c.requires.of c.pass.invariant) c.requires.act c.requires.place
 
 pub invariant_of-pass : goal.invariant_of-pass
 invariant_of-pass c = step_keeps c.pass.invariant c.load_as.ensures tt
 
 pub returns : goal.returns
 unfolding part entries noted
-returns c = step_stepped (opened c.args.pool.now c.pass.inside.seat c.pass.view_is c.requires.of c.pass.invariant) (Loads c.args.word) c.load_as.ensures refl
+returns c = step_stepped (Loads c.args.word) c.pass.view_is c.pass.invariant c.load_as.ensures refl

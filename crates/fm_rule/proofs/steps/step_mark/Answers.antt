@@ -8,11 +8,13 @@ use Rattle.fm_rule.proofs.Stepping.{step_stepped}
 use Rattle.fm_rule.proofs.steps.step_mark.Goals as goal
 
 pub store_as-requires-clause-can : goal.store_as-requires-clause-can
-store_as-requires-clause-can c = can_mark (opened c.args.pool.now c.pass.inside.seat c.pass.view_is c.requires.of c.pass.invariant) c.requires.outside c.pass.invariant.caller c.mark_place-place.ensures c.mark_of.ensures
+store_as-requires-clause-can c =
+    can_mark (opened c.pass.view_is c.requires.of c.pass.invariant)
+    c.requires.outside c.pass.invariant.caller c.mark_place-place.ensures c.mark_of.ensures
 
 pub invariant_of-pass : goal.invariant_of-pass
 invariant_of-pass c = step_keeps c.pass.invariant c.store_as.ensures tt
 
 pub returns : goal.returns
 unfolding part entries noted
-returns c = step_stepped (opened c.args.pool.now c.pass.inside.seat c.pass.view_is c.requires.of c.pass.invariant) (Marks c.args.id) c.store_as.ensures refl
+returns c = step_stepped (Marks c.args.id) c.pass.view_is c.pass.invariant c.store_as.ensures refl

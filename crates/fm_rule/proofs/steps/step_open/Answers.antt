@@ -1,25 +1,30 @@
 use Rattle.std.proofs.Common.{ap, refl, arith, ◌≡◌}
 use Rattle.fm_base.specs.declared.caller.Caller.{Caller}
 use Rattle.fm_rule_facts.specs.Steps.{part, entries, noted}
-use Rattle.fm_rule.proofs.Knowing.{opened, slot_in_hand, valid, number_below}
+use Rattle.fm_rule.proofs.Knowing.{opened, sees, slot_in_hand, valid, number_below}
 use Rattle.fm_rule.proofs.Making.{can_open}
 use Rattle.fm_rule.proofs.Keeping.{step_keeps}
 use Rattle.fm_rule.proofs.Stepping.{step_stepped}
 use Rattle.fm_rule.proofs.steps.step_open.Goals as goal
 
 pub session_place-place-requires : goal.session_place-place-requires
-session_place-place-requires c = slot_in_hand (opened c.args.pool.now c.pass.inside.seat c.pass.view_is c.requires.of c.pass.invariant).sees c.requires.hand refl
+session_place-place-requires c = slot_in_hand (sees c.pass.view_is c.requires.of.1 c.pass.invariant) c.requires.hand refl
 
 pub alive_word-requires-clause-owner : goal.alive_word-requires-clause-owner
-alive_word-requires-clause-owner c = let n = number_below (opened c.args.pool.now c.pass.inside.seat c.pass.view_is c.requires.of c.pass.invariant).sees in let p = (valid (opened c.args.pool.now c.pass.inside.seat c.pass.view_is c.requires.of c.pass.invariant).sees).passes.1 in
-    let e : c.pass.inside.caller.number ≡ c.pass.inside.seat.me.0.caller.number = ap (λ (d : Caller). d.number) c.pass.invariant.caller in omega arith
+alive_word-requires-clause-owner c =
+    let n = number_below (sees c.pass.view_is c.requires.of.1 c.pass.invariant) in
+    let p = (valid (sees c.pass.view_is c.requires.of.1 c.pass.invariant)).passes.1 in
+    let e : c.pass.inside.caller.number ≡ c.pass.inside.seat.me.0.caller.number = ap (λ (d : Caller). d.number) c.pass.invariant.caller in
+    omega arith
 
 pub store_as-requires-clause-can : goal.store_as-requires-clause-can
-store_as-requires-clause-can c = can_open (opened c.args.pool.now c.pass.inside.seat c.pass.view_is c.requires.of c.pass.invariant) c.requires.hand c.pass.invariant.caller c.session_place-place.ensures c.alive_word.ensures
+store_as-requires-clause-can c =
+    can_open (opened c.pass.view_is c.requires.of c.pass.invariant)
+    c.requires.hand c.pass.invariant.caller c.session_place-place.ensures c.alive_word.ensures
 
 pub invariant_of-pass : goal.invariant_of-pass
 invariant_of-pass c = step_keeps c.pass.invariant c.store_as.ensures tt
 
 pub returns-clause-stepped : goal.returns-clause-stepped
 unfolding part entries noted
-returns-clause-stepped c = step_stepped (opened c.args.pool.now c.pass.inside.seat c.pass.view_is c.requires.of c.pass.invariant) _ c.store_as.ensures refl
+returns-clause-stepped c = step_stepped _ c.pass.view_is c.pass.invariant c.store_as.ensures refl

@@ -8,11 +8,11 @@ use Rattle.fm_rule.proofs.Stepping.{step_stepped}
 use Rattle.fm_rule.proofs.steps.step_store.Goals as goal
 
 pub store_as-requires-clause-can : goal.store_as-requires-clause-can
-store_as-requires-clause-can c = can_store (opened c.args.pool.now c.pass.inside.seat c.pass.view_is c.requires.of c.pass.invariant) c.requires.act c.requires.place c.ranges.v.fits
+store_as-requires-clause-can c = can_store (opened c.pass.view_is c.requires.of c.pass.invariant) c.requires.act c.requires.place c.ranges.v.fits
 
 pub invariant_of-pass : goal.invariant_of-pass
 invariant_of-pass c = step_keeps c.pass.invariant c.store_as.ensures tt
 
 pub returns : goal.returns
 unfolding part entries noted
-returns c = step_stepped (opened c.args.pool.now c.pass.inside.seat c.pass.view_is c.requires.of c.pass.invariant) (Stores c.args.word c.args.v) c.store_as.ensures refl
+returns c = step_stepped (Stores c.args.word c.args.v) c.pass.view_is c.pass.invariant c.store_as.ensures refl

@@ -8,11 +8,11 @@ use Rattle.fm_rule.proofs.Stepping.{step_stepped}
 use Rattle.fm_rule.proofs.steps.step_unmark.Goals as goal
 
 pub store_as-requires-clause-can : goal.store_as-requires-clause-can
-store_as-requires-clause-can c = can_unmark (opened c.args.pool.now c.pass.inside.seat c.pass.view_is c.requires.of c.pass.invariant) c.pass.invariant.caller c.mark_place-place.ensures
+store_as-requires-clause-can c = can_unmark (opened c.pass.view_is c.requires.of c.pass.invariant) c.pass.invariant.caller c.mark_place-place.ensures
 
 pub invariant_of-pass : goal.invariant_of-pass
 invariant_of-pass c = unmark_keeps c.pass.invariant c.store_as.ensures
 
 pub returns : goal.returns
 unfolding part entries noted
-returns c = step_stepped (opened c.args.pool.now c.pass.inside.seat c.pass.view_is c.requires.of c.pass.invariant) Unmarks c.store_as.ensures refl
+returns c = step_stepped Unmarks c.pass.view_is c.pass.invariant c.store_as.ensures refl

@@ -1,4 +1,4 @@
-use Rattle.std.proofs.Common.{refl, ◌≡◌}
+use Rattle.std.proofs.Common.{refl, subst, ◌≡◌}
 use Rattle.fm_rule_facts.specs.Views.{View}
 use Rattle.fm_rule_facts.specs.Words.{own_word}
 use Rattle.fm_rule_facts.specs.declared.step.Step.TheVariants.{Visits}
@@ -6,18 +6,18 @@ use Rattle.fm_rule_facts.specs.Steps.{part, entries, noted}
 use Rattle.fm_rule.proofs.Knowing.{opened}
 use Rattle.fm_rule.proofs.Making.{can_visit}
 use Rattle.fm_rule.proofs.Keeping.{step_keeps}
-use Rattle.fm_rule.proofs.Stepping.{step_stepped, outer}
+use Rattle.fm_rule.proofs.Stepping.{step_stepped}
 use Rattle.fm_rule.proofs.steps.step_visit.Goals as goal
 
 pub load_as-requires-clause-can : goal.load_as-requires-clause-can
-load_as-requires-clause-can c = can_visit (opened c.args.pool.now c.pass.inside.seat c.pass.view_is c.requires.of c.pass.invariant) c.requires.close c.requires.low c.mark_place-place.ensures
+load_as-requires-clause-can c = can_visit (opened c.pass.view_is c.requires.of c.pass.invariant) c.requires.close c.requires.low c.mark_place-place.ensures
 
 pub invariant_of-pass : goal.invariant_of-pass
 invariant_of-pass c = step_keeps c.pass.invariant c.load_as.ensures tt
 
 pub returns-clause-stepped : goal.returns-clause-stepped
 unfolding part entries noted
-returns-clause-stepped c = step_stepped (opened c.args.pool.now c.pass.inside.seat c.pass.view_is c.requires.of c.pass.invariant) (Visits c.args.id c.args.k) c.load_as.ensures refl
+returns-clause-stepped c = step_stepped (Visits c.args.id c.args.k) c.pass.view_is c.pass.invariant c.load_as.ensures refl
 
 pub returns-clause-own : goal.returns-clause-own
-returns-clause-own c = outer (opened c.args.pool.now c.pass.inside.seat c.pass.view_is c.requires.of c.pass.invariant) (λ (x : View). c.args.k ≡ x.caller.number → c.load_as.result ≡ own_word x.mark) c.load_as.ensures.tells.learns
+returns-clause-own c = subst (λ (x : View). c.args.k ≡ x.caller.number → c.load_as.result ≡ own_word x.mark) c.pass.view_is c.load_as.ensures.tells.learns

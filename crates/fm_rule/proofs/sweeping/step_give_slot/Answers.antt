@@ -1,21 +1,26 @@
 use Rattle.std.proofs.Common.{refl, arith}
 use Rattle.fm_rule_facts.specs.declared.step.Step.TheVariants.{GivesSlot}
 use Rattle.fm_rule_facts.specs.Steps.{part, entries, noted}
-use Rattle.fm_rule.proofs.Knowing.{opened, slot_in_hand, valid}
+use Rattle.fm_rule.proofs.Knowing.{opened, sees, slot_in_hand, valid}
 use Rattle.fm_rule.proofs.Making.{can_give}
 use Rattle.fm_rule.proofs.Keeping.{step_keeps}
 use Rattle.fm_rule.proofs.Stepping.{step_stepped}
 use Rattle.fm_rule.proofs.sweeping.step_give_slot.Goals as goal
 
 pub bit-bits-requires : goal.bit-bits-requires
-bit-bits-requires c = let few = (valid (opened c.args.pool.now c.pass.inside.seat c.pass.view_is c.requires.of c.pass.invariant).sees).slots.1 in let l = slot_in_hand (opened c.args.pool.now c.pass.inside.seat c.pass.view_is c.requires.of c.pass.invariant).sees c.requires.retired refl in omega arith
+bit-bits-requires c =
+    let few = (valid (sees c.pass.view_is c.requires.of.1 c.pass.invariant)).slots.1 in
+    let l = slot_in_hand (sees c.pass.view_is c.requires.of.1 c.pass.invariant) c.requires.retired refl in
+    omega arith
 
 pub or_as-requires-clause-can : goal.or_as-requires-clause-can
-or_as-requires-clause-can c = can_give (opened c.args.pool.now c.pass.inside.seat c.pass.view_is c.requires.of c.pass.invariant) c.requires.retired c.slot_bits_place-place.ensures c.bit-bits.ensures
+or_as-requires-clause-can c =
+    can_give (opened c.pass.view_is c.requires.of c.pass.invariant)
+    c.requires.retired c.slot_bits_place-place.ensures c.bit-bits.ensures
 
 pub invariant_of-pass : goal.invariant_of-pass
 invariant_of-pass c = step_keeps c.pass.invariant c.or_as.ensures tt
 
 pub returns : goal.returns
 unfolding part entries noted
-returns c = step_stepped (opened c.args.pool.now c.pass.inside.seat c.pass.view_is c.requires.of c.pass.invariant) (GivesSlot c.args.slot) c.or_as.ensures refl
+returns c = step_stepped (GivesSlot c.args.slot) c.pass.view_is c.pass.invariant c.or_as.ensures refl

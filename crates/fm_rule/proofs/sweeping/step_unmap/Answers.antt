@@ -1,24 +1,26 @@
 use Rattle.std.proofs.Common.{refl}
 use Rattle.fm_rule_facts.specs.declared.step.Step.TheVariants.{Unmaps}
 use Rattle.fm_rule_facts.specs.Steps.{part, entries, noted}
-use Rattle.fm_rule.proofs.Knowing.{opened, swept_fits, valid}
+use Rattle.fm_rule.proofs.Knowing.{opened, sees, swept_fits, valid}
 use Rattle.fm_rule.proofs.Making.{can_unmap}
 use Rattle.fm_rule.proofs.Keeping.{step_keeps}
 use Rattle.fm_rule.proofs.Stepping.{step_stepped}
 use Rattle.fm_rule.proofs.sweeping.step_unmap.Goals as goal
 
 pub map_place-place-requires-clause-valid : goal.map_place-place-requires-clause-valid
-map_place-place-requires-clause-valid c = valid (opened c.args.pool.now c.pass.inside.seat c.pass.view_is c.requires.of c.pass.invariant).sees
+map_place-place-requires-clause-valid c = valid (sees c.pass.view_is c.requires.of.1 c.pass.invariant)
 
 pub map_place-place-requires-clause-place : goal.map_place-place-requires-clause-place
-map_place-place-requires-clause-place c = ((swept_fits (opened c.args.pool.now c.pass.inside.seat c.pass.view_is c.requires.of c.pass.invariant).sees c.requires.sweep).slot, c.requires.low)
+map_place-place-requires-clause-place c = ((swept_fits (sees c.pass.view_is c.requires.of.1 c.pass.invariant) c.requires.sweep).slot, c.requires.low)
 
 pub store_as-requires-clause-can : goal.store_as-requires-clause-can
-store_as-requires-clause-can c = can_unmap (opened c.args.pool.now c.pass.inside.seat c.pass.view_is c.requires.of c.pass.invariant) c.args.id c.requires.sweep c.requires.low c.requires.named c.map_place-place.ensures
+store_as-requires-clause-can c =
+    can_unmap (opened c.pass.view_is c.requires.of c.pass.invariant)
+    c.args.id c.requires.sweep c.requires.low c.requires.named c.map_place-place.ensures
 
 pub invariant_of-pass : goal.invariant_of-pass
 invariant_of-pass c = step_keeps c.pass.invariant c.store_as.ensures tt
 
 pub returns : goal.returns
 unfolding part entries noted
-returns c = step_stepped (opened c.args.pool.now c.pass.inside.seat c.pass.view_is c.requires.of c.pass.invariant) (Unmaps c.args.id c.args.index c.args.page) c.store_as.ensures refl
+returns c = step_stepped (Unmaps c.args.id c.args.index c.args.page) c.pass.view_is c.pass.invariant c.store_as.ensures refl

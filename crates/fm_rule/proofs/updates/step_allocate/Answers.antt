@@ -3,27 +3,30 @@ use Rattle.fm_base.proofs.Growing.{power_pos}
 use Rattle.fm_rule_facts.specs.Views.{View}
 use Rattle.fm_rule_facts.specs.declared.step.Step.TheVariants.{Allocates}
 use Rattle.fm_rule_facts.specs.Steps.{part, entries, noted}
-use Rattle.fm_rule.proofs.Knowing.{opened, inner, inside_slot}
+use Rattle.fm_rule.proofs.Knowing.{opened, sees, inner, inside_slot}
 use Rattle.fm_rule.proofs.Making.{can_allocate}
 use Rattle.fm_rule.proofs.Keeping.{step_keeps}
 use Rattle.fm_rule.proofs.Stepping.{step_stepped}
 use Rattle.fm_rule.proofs.updates.step_allocate.Goals as goal
 
 pub given_place-place-requires : goal.given_place-place-requires
-given_place-place-requires c = inside_slot (opened c.args.pool.now c.pass.inside.seat c.pass.view_is c.requires.of c.pass.invariant).sees c.requires.inside
+given_place-place-requires c = inside_slot (sees c.pass.view_is c.requires.of.1 c.pass.invariant) c.requires.inside
 
 pub given_next-next-requires : goal.given_next-next-requires
 given_next-next-requires c = power_pos c.args.align c.requires.power
 
 pub exchange_as-requires-clause-can : goal.exchange_as-requires-clause-can
-exchange_as-requires-clause-can c = can_allocate (opened c.args.pool.now c.pass.inside.seat c.pass.view_is c.requires.of c.pass.invariant) c.requires.inside c.requires.power c.requires.parts c.given_place-place.ensures c.limit.ensures c.given_next-next.ensures
+exchange_as-requires-clause-can c =
+    can_allocate (opened c.pass.view_is c.requires.of c.pass.invariant)
+    c.requires.inside c.requires.power c.requires.parts c.given_place-place.ensures c.limit.ensures c.given_next-next.ensures
 
 pub invariant_of-pass : goal.invariant_of-pass
 invariant_of-pass c = step_keeps c.pass.invariant c.exchange_as.ensures tt
 
 pub returns-clause-stepped : goal.returns-clause-stepped
 unfolding part entries noted
-returns-clause-stepped c = step_stepped (opened c.args.pool.now c.pass.inside.seat c.pass.view_is c.requires.of c.pass.invariant) (Allocates c.args.given c.args.size c.args.align) c.exchange_as.ensures refl
+returns-clause-stepped c = step_stepped (Allocates c.args.given c.args.size c.args.align) c.pass.view_is c.pass.invariant c.exchange_as.ensures refl
 
 pub returns-clause-count : goal.returns-clause-count
-returns-clause-count c = c.exchange_as.ensures.tells.learns c.args.id (inner (opened c.args.pool.now c.pass.inside.seat c.pass.view_is c.requires.of c.pass.invariant).sees (λ (x : View). x.inside ≡ Some c.args.id) c.requires.inside)
+returns-clause-count c =
+    c.exchange_as.ensures.tells.learns c.args.id (inner (sees c.pass.view_is c.requires.of.1 c.pass.invariant) (λ (x : View). x.inside ≡ Some c.args.id) c.requires.inside)
