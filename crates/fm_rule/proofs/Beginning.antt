@@ -16,7 +16,7 @@ use Rattle.fm_rule_facts.specs.Splits.{first_view}
 use Rattle.fm_rule_facts.specs.Facts.{Rule}
 use Rattle.fm_rule_steps.proofs.First.{AreFree, AreLoose, slots_set, shows_blank, shows_pages, shows_group, first_rule, first_sound}
 use Rattle.fm_rule.specs.Beginning.{IsFull, AreFirst, IsBegun}
-use Rattle.fm_rule.proofs.Knowing.{numbers_below, page_bits_below}
+use Rattle.fm_rule.proofs.Knowing.{place_below}
 
 -- no word of these bits is set
 pub begun_none : (z : Shape) → IsValid z → IsBegun z (slots_set z) 0 0
@@ -62,13 +62,13 @@ module _ (z : Shape) (ws : List ℕ) (pages numbers : ℕ) (begun : IsBegun z ws
   pages_within g i low is =
       let n : ℕ = length ws in
       let long : n ≡ words z = begun.shows.wide in
-      let below : i < words z = page_bits_below z g i low is in omega arith
+      let below : i < words z = place_below z (page_bits g) low is in omega arith
 
   pub numbers_within : (g i : ℕ) → g < groups z → i ≡ at z (number_bits g) → i < length ws
   numbers_within g i low is =
       let n : ℕ = length ws in
       let long : n ≡ words z = begun.shows.wide in
-      let below : i < words z = numbers_below z g i low is in omega arith
+      let below : i < words z = place_below z (number_bits g) low is in omega arith
 
 -- ---- where all are set, the words keep the rule
 

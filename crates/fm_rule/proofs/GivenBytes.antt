@@ -16,7 +16,7 @@ use Rattle.fm_base_bytes.proofs.Words.{length-bytes_in, get_or-bytes_in}
 use Rattle.fm_rule_facts.specs.Views.{Fits, span, limit_of}
 use Rattle.fm_words.specs.Maps.{map_word}
 use Rattle.std.proofs.Math.Nat.{mod-lt}
-use Rattle.fm_rule.proofs.Knowing.{map_below, page_below}
+use Rattle.fm_rule.proofs.Knowing.{place_below}
 use Rattle.fm_rule.specs.Finishing.{FinishedView, IsFinished}
 use Rattle.fm_rule.specs.GivenBytes.{HasBytes, given_bytes, state_of}
 
@@ -76,9 +76,9 @@ stands f i a has k l y same size is =
       page = s.page;
       low = s.low;
       in_page = mod-lt (k / 8) i.valid.page_words.0;
-      map_low = λ p e. map_below z a.slot (k / 8 / z.page_words) p has.fits.slot s.part e;
+      map_low = λ p e. place_below z (map a.slot (k / 8 / z.page_words)) (has.fits.slot, s.part) e;
       map_is = λ p e. ap (λ (n : ℕ). get_or f.words n 0) e ∙ s.named;
-      page_low = λ p e. page_below z s.page (k / 8 % z.page_words) p s.low (mod-lt (k / 8) i.valid.page_words.0) e;
+      page_low = λ p e. place_below z (page_word s.page (k / 8 % z.page_words)) (s.low, mod-lt (k / 8) i.valid.page_words.0) e;
       word = λ p e. ap (λ (n : ℕ). get_or f.words n 0) e ∙ sym s.word;
     } in
     subst (λ (x : Shape × ℕ). Stands f a k x.0 x.1) (λ j. (sym same j, sym (is ∙ ap (λ (x : Shape). x.page_words) same) j)) base

@@ -16,7 +16,8 @@ use Rattle.fm_rule_facts.specs.Hands.{Number, no_number, number_joined, number_d
 use Rattle.fm_rule_facts.specs.Steps.{part, entries, noted}
 use Rattle.fm_rule_facts.specs.Facts.{Begins}
 use Rattle.fm_rule.specs.declared.pass.Part.{Part}
-use Rattle.fm_rule.proofs.Allowed.{part_on, sound_homed, all_of_in}
+use Rattle.fm_rule.proofs.Allowed.{sound_with, sound_homed, all_of_in}
+use Rattle.fm_rule.proofs.Keeping.{part_on}
 use Rattle.fm_rule_facts.specs.Moves.{Gives, Tells}
 use Rattle.fm_rule_facts.proofs.Keeping.{none_added}
 use Rattle.fm_rule.specs.Views.{homed, Keeps}
@@ -29,36 +30,8 @@ use Rattle.fm_rule.specs.declared.pool.Pool.{Pool}
 
 -- (a pass that drew isn't known to be whole)
 pub left_sound : (v : View) → v.whole ≡ false → IsSound v → IsSound (drawn_left v)
-left_sound v not_whole s = record {
-  valid = s.valid;
-  limit = s.limit;
-  legal = s.legal;
-  lent = s.lent;
-  number = s.number;
-  inside = s.inside;
-  outside = s.outside;
-  fits = s.fits;
-  hand = s.hand;
-  swept = λ c i. let o = s.swept c i in record { known = o.known; life = o.life; empty = o.empty };
-  loans = s.loans;
-  unlent = s.unlent;
-  covered = s.covered;
-  reads = s.reads;
-  own_pages = s.own_pages;
-  swept_page = s.swept_page;
-  few_left = s.few_left;
-  held = s.held;
-  own_handles = s.own_handles;
-  none_left = s.none_left;
-  drawn = λ n e. absurd (cc);
-  few = s.few;
-  knows = s.knows;
-  all_drawn = λ w. let h = s.all_drawn w in record { first = h.first; others = h.others };
-  one_each = s.one_each;
-  others = s.others;
-  term = s.term;
-  numbers_gone = λ w. absurd (let q : false ≡ true = sym not_whole ∙ w in cc);
-}
+left_sound v not_whole s =
+    sound_with v.home no_number v s (λ c e. absurd (cc)) (λ w. absurd (let q : false ≡ true = sym not_whole ∙ w in cc))
 
 -- a view without holds and handles has none of any sort
 none_gripped : (a : ArenaId) (b : Bool) → ¬ (In a (if b then [] else []))

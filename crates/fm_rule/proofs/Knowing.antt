@@ -1,23 +1,27 @@
 -- What a pass of a pool knows at the call of a step.
-use Rattle.std.proofs.Common.{◌≡◌, ℕ, ◌+◌, ◌-◌, ◌*◌, ◌/◌, ◌%◌, ◌^◌, ◌<◌, ◌≤◌, List, [], ◌∷◌, inl, refl, Some, None, sym, ap, ◌∙◌, subst, arith}
+use Rattle.std.proofs.Common.{◌≡◌, ℕ, ◌+◌, ◌-◌, ◌*◌, ◌/◌, ◌%◌, ◌^◌, ◌<◌, ◌≤◌, List, [], ◌∷◌, inl, true, refl, Option, Some, sym, ap, ◌∙◌, subst, arith}
 use Rattle.fm_words.specs.declared.shape.Shape.{Shape}
 use Rattle.fm_words.specs.Shapes.{IsValid}
-use Rattle.fm_words.specs.Places.{at, draw, slot_bits, page_bits, page_groups, map, page_word, mark, session, given, number_bits, term, groups, words, front}
+use Rattle.fm_words.specs.Places.{Place, IsPlace, at, page_word, groups, words}
 use Rattle.fm_words.proofs.Tables.{at-within, words-le}
+use Rattle.atomic_table.specs.declared.shared.Seat.{Seat}
+use Rattle.fm_base.specs.declared.caller.Caller.{Caller}
 use Rattle.fm_base.specs.declared.arena_id.ArenaId.{ArenaId}
 use Rattle.fm_rule_facts.specs.Hands.{Hand, HasSlot}
 use Rattle.fm_rule_facts.specs.Views.{View, Fits, In, IsKnown, IsOver, IsSound}
 use Rattle.fm_rule_facts.specs.Closes.{passed_of}
-use Rattle.fm_rule_facts.specs.Steps.{CanReach, HasPlace, AreAllGiven, number_at, CanDraw, can_draw, can_look}
+use Rattle.fm_rule_facts.specs.Steps.{HasPlace, number_at, CanDraw, can_draw, can_look}
 use Rattle.fm_rule_facts.specs.Parts.{wiping, mapping_of}
 use Rattle.std.proofs.Math.Nat.{mod-lt}
-use Rattle.fm_rule_steps.proofs.Closes.{passed_of-found}
+use Rattle.fm_rule_steps.proofs.Closes.{Found, passed_of-found}
 use Rattle.fm_rule.specs.declared.pass.Part.{Part}
 use Rattle.std.proofs.lemmas.Nat.{div-mul-add, mod-mul-add}
 use Rattle.atomic_table.specs.Seated.{TableId}
+use Rattle.atomic_table.specs.Table.{Me}
 use Rattle.fm_rule.specs.declared.pool.Pool.{Pool}
 use Rattle.fm_rule.specs.Passes.{IsOf}
-use Rattle.fm_rule.specs.Views.{homed, numbers_of, IsPart}
+use Rattle.fm_rule.specs.declared.seen.Seen.{Seen}
+use Rattle.fm_rule.specs.Views.{homed, numbers_of, IsPart, Keeps}
 
 -- ---- the table
 
@@ -39,23 +43,8 @@ in_pool t v now pool is of = one_table t pool.table.shared.table_id (ap (λ (x :
 
 -- ---- places
 
-pub mark_below : (z : Shape) (k i : ℕ) → k < z.passes → i ≡ at z (mark k) → i < words z
-mark_below z k i h e = subst (λ (n : ℕ). n < words z) (sym e) (at-within z (mark k) h)
-
-pub session_below : (z : Shape) (s i : ℕ) → s < z.slots → i ≡ at z (session s) → i < words z
-session_below z s i h e = subst (λ (n : ℕ). n < words z) (sym e) (at-within z (session s) h)
-
-pub given_below : (z : Shape) (s i : ℕ) → s < z.slots → i ≡ at z (given s) → i < words z
-given_below z s i h e = subst (λ (n : ℕ). n < words z) (sym e) (at-within z (given s) h)
-
-pub draw_below : (z : Shape) (i : ℕ) → i ≡ at z draw → i < words z
-draw_below z i e = subst (λ (n : ℕ). n < words z) (sym e) (at-within z draw tt)
-
-pub numbers_below : (z : Shape) (g i : ℕ) → g < groups z → i ≡ at z (number_bits g) → i < words z
-numbers_below z g i h e = subst (λ (n : ℕ). n < words z) (sym e) (at-within z (number_bits g) h)
-
-pub term_below : (z : Shape) (k i : ℕ) → k < z.passes → i ≡ at z (term k) → i < words z
-term_below z k i h e = subst (λ (n : ℕ). n < words z) (sym e) (at-within z (term k) h)
+pub place_below : (z : Shape) (p : Place) {i : ℕ} → IsPlace z p → i ≡ at z p → i < words z
+place_below z p h e = subst (λ (n : ℕ). n < words z) (sym e) (at-within z p h)
 
 -- the word and the bit of a number
 pub group_low : (z : Shape) (n : ℕ) → n < z.passes → n / 64 < groups z
@@ -67,21 +56,6 @@ group_of_low z g bit h = let p : ℕ = z.passes in let l : g * 64 + bit < p = h 
 pub at_number : (n : ℕ) → n ≡ number_at (n / 64) (n % 64)
 at_number n = omega arith
 
-pub bits_below : (z : Shape) (i : ℕ) → i ≡ at z slot_bits → i < words z
-bits_below z i e = subst (λ (n : ℕ). n < words z) (sym e) (at-within z slot_bits tt)
-
-pub front_below : (z : Shape) (i : ℕ) → i ≡ at z front → i < words z
-front_below z i e = subst (λ (n : ℕ). n < words z) (sym e) (at-within z front tt)
-
-pub page_bits_below : (z : Shape) (g i : ℕ) → g < page_groups z → i ≡ at z (page_bits g) → i < words z
-page_bits_below z g i h e = subst (λ (n : ℕ). n < words z) (sym e) (at-within z (page_bits g) h)
-
-pub map_below : (z : Shape) (s k i : ℕ) → s < z.slots → k < z.reach → i ≡ at z (map s k) → i < words z
-map_below z s k i h l e = subst (λ (n : ℕ). n < words z) (sym e) (at-within z (map s k) (h, l))
-
-pub page_below : (z : Shape) (q w i : ℕ) → q < z.pages → w < z.page_words → i ≡ at z (page_word q w) → i < words z
-page_below z q w i h l e = subst (λ (n : ℕ). n < words z) (sym e) (at-within z (page_word q w) (h, l))
-
 -- a table is small
 pub words_small : (z : Shape) → IsValid z → words z < 2 ^ 32
 words_small z v = let h = words-le z v in omega arith
@@ -91,90 +65,111 @@ pub record WordPlace (z : Shape) (v : View) (word place : ℕ) : Type 0 where
   pub page : ℕ
   pub read : In (mapping_of (word / z.page_words) page) v.reads
   pub is : place ≡ at z (page_word page (word % z.page_words))
-  pub low : place < words z
+  pub low : (page < z.pages) × (word % z.page_words < z.page_words)
 
 -- ---- a pass of a pool
 
-module _ (now v : View) (home : List ℕ) (z : Shape) (is : homed home v ≡ now) (of : now.shape ≡ z) where
-  pub shape_is : v.shape ≡ z
-  shape_is = ap (λ (x : View). x.shape) is ∙ of
+-- a sound pass of the pool that the numbers tell, which contracts see as `now`: the table has its view v
+pub record Sees (z : Shape) (now : View) (home : List ℕ) (v : View) : Type 0 where
+  pub is : homed home v ≡ now
+  pub of : now.shape ≡ z
+  pub sound : IsSound v
 
-  pub is_outside : now.inside ≡ None → v.inside ≡ None
-  is_outside e = ap (λ (x : View). x.inside) is ∙ e
+-- a pass of the pool whose seat is open
+pub record IsOpen (pool : Pool) (now : View) (seat : Seat (Unit {0}) Seen) : Type 0 where
+  pub sees : Sees pool.shape now (numbers_of seat.table_id) seat.me.0
+  pub table : seat.table_id ≡ pool.table.shared.table_id
+  pub live : seat.me.0.live ≡ true
+  pub met : seat.me.0.met ≡ []
+
+module _ {now : View} {c : Caller} {i : Option ArenaId} {part : Part} {count : ℕ} where
+  pub sees : {z : Shape} {home : List ℕ} {me : Me (Unit {0}) View} → homed home me.0 ≡ now → now.shape ≡ z → Keeps c i part count me
+      → Sees z now home me.0
+  sees is of k = record { is = is; of = of; sound = k.sound }
+
+  pub opened : {pool : Pool} {seat : Seat (Unit {0}) Seen} → homed (numbers_of seat.table_id) seat.me.0 ≡ now → IsOf pool now
+      → Keeps c i part count seat.me → IsOpen pool now seat
+  opened {pool = pool} {seat = seat} is of k =
+      record { sees = sees is of.1 k; table = in_pool seat.table_id seat.me.0 now pool is of; live = k.live; met = k.met }
+
+module _ {z : Shape} {now : View} {home : List ℕ} {v : View} (k : Sees z now home v) where
+  -- what contracts say of the pass is true of the view in the table
+  pub inner : (P : View → Type 0) → P now → P (homed home v)
+  inner P h = subst P (sym k.is) h
+
+  pub shape_is : v.shape ≡ z
+  shape_is = ap (λ (x : View). x.shape) k.is ∙ k.of
+
+  -- and what is said of its shape of the pool's
+  pub in_shape : (P : Shape → Type 0) → P v.shape → P z
+  in_shape P h = subst P shape_is h
 
   pub knows : (a : ArenaId) → IsKnown now a → IsKnown v a
-  knows a k = subst (λ (x : View). IsKnown x a) (sym is) k
+  knows a known = inner (λ (x : View). IsKnown x a) known
 
-  pub reaches : (w : ℕ) → CanReach now w → CanReach v w
-  reaches w k = let y = subst (λ (x : View). CanReach x w) (sym is) k in record { id = y.id; inside = y.inside; given = y.given }
+  pub fits : (a : ArenaId) → IsKnown now a → Fits z a
+  fits a known = in_shape (λ (x : Shape). Fits x a) (k.sound.fits a (knows a known))
 
-  pub all_swept : (a : ArenaId) (k w : ℕ) → AreAllGiven now a k w → AreAllGiven v a k w
-  all_swept a k w g = subst (λ (x : View). AreAllGiven x a k w) (sym is) g
+  pub valid : IsValid z
+  valid = in_shape IsValid k.sound.valid
 
-  module _ (sound : IsSound v) where
-    pub fits : (a : ArenaId) → IsKnown now a → Fits z a
-    fits a k = subst (λ (x : Shape). Fits x a) shape_is (sound.fits a (knows a k))
+  pub owner_below : (a : ArenaId) → IsKnown now a → a.owner < 4096
+  owner_below a known = let f = (fits a known).owner in let p = valid.passes.1 in omega arith
 
-    pub valid : IsValid z
-    valid = subst IsValid shape_is sound.valid
+  pub number_below : v.caller.number < z.passes
+  number_below = in_shape (λ (x : Shape). v.caller.number < x.passes) k.sound.number
 
-    pub owner_below : (a : ArenaId) → IsKnown now a → a.owner < 4096
-    owner_below a k = let f = (fits a k).owner in let p = valid.passes.1 in omega arith
+  -- the slot in its hand is one of the pool's
+  pub slot_in_hand : {s : ℕ} {hand : Hand} → now.hand ≡ hand → HasSlot s hand → s < z.slots
+  slot_in_hand {s = s} h i =
+      in_shape (λ (x : Shape). s < x.slots) (k.sound.hand s (subst (HasSlot s) (sym (ap (λ (x : View). x.hand) k.is ∙ h)) i))
 
-    pub number_below : v.caller.number < z.passes
-    number_below = subst (λ (x : Shape). v.caller.number < x.passes) shape_is sound.number
-
-    -- the slot in its hand is one of the pool's
-    pub slot_in_hand : (s : ℕ) (hand : Hand) → now.hand ≡ hand → HasSlot s hand → s < z.slots
-    slot_in_hand s hand h i =
-        subst (λ (x : Shape). s < x.slots) shape_is (sound.hand s (subst (HasSlot s) (sym (ap (λ (x : View). x.hand) is ∙ h)) i))
+  module _ {a : ArenaId} {step : ℕ} (at : passed_of now.sweeps a ≡ Some step) where
+    found : Found a step v.sweeps
+    found = passed_of-found v.sweeps a step (ap (λ (x : View). passed_of x.sweeps a) k.is ∙ at)
 
     -- an arena that it sweeps fits the pool
-    pub swept_fits : (a : ArenaId) (k : ℕ) → passed_of now.sweeps a ≡ Some k → Fits z a
-    swept_fits a k at =
-        let f = passed_of-found v.sweeps a k (ap (λ (x : View). passed_of x.sweeps a) is ∙ at) in
-        subst (λ (b : ArenaId). Fits z b) f.arena
-        (subst (λ (x : Shape). Fits x f.walk.arena) shape_is (sound.fits f.walk.arena (sound.swept f.walk f.there).known))
+    pub swept_fits : Fits z a
+    swept_fits =
+        let f = found in
+        subst (λ (b : ArenaId). Fits z b) f.arena (in_shape (λ (x : Shape). Fits x f.walk.arena) (k.sound.fits f.walk.arena (k.sound.swept f.walk f.there).known))
 
     -- and is over
-    pub swept_over : (a : ArenaId) (k : ℕ) → passed_of now.sweeps a ≡ Some k → IsOver v a
-    swept_over a k at =
-        let f = passed_of-found v.sweeps a k (ap (λ (x : View). passed_of x.sweeps a) is ∙ at) in
-        subst (IsOver v) f.arena (sound.swept f.walk f.there)
+    pub swept_over : IsOver v a
+    swept_over = let f = found in subst (IsOver v) f.arena (k.sound.swept f.walk f.there)
 
-    -- the arena that it is inside has a slot
-    pub inside_slot : (a : ArenaId) → now.inside ≡ Some a → a.slot < z.slots
-    inside_slot a i =
-        let here : v.inside ≡ Some a = ap (λ (x : View). x.inside) is ∙ i in
-        let k : IsKnown v a = Rattle.fm_base.proofs.Placing.there_by_way _ _ _ (sound.inside a here) in
-        (subst (λ (x : Shape). Fits x a) shape_is (sound.fits a k)).slot
+  -- the arena that it is inside has a slot
+  pub inside_slot : {a : ArenaId} → now.inside ≡ Some a → a.slot < z.slots
+  inside_slot {a = a} i =
+      let here : v.inside ≡ Some a = ap (λ (x : View). x.inside) k.is ∙ i in
+      let known : IsKnown v a = Rattle.fm_base.proofs.Placing.there_by_way _ _ _ (k.sound.inside a here) in
+      (in_shape (λ (x : Shape). Fits x a) (k.sound.fits a known)).slot
 
-    -- where a word stands of the arena that it is inside
-    pub word_place : (word place : ℕ) → HasPlace now word place → WordPlace z v word place
-    word_place word place h =
-        let y = subst (λ (x : View). HasPlace x word place) (sym is) h in
-        let here : place ≡ at z (page_word y.page (word % z.page_words)) = y.is ∙ ap (λ (x : Shape). at x (page_word y.page (word % x.page_words))) shape_is in
-        let page : y.page < z.pages = subst (λ (x : Shape). y.page < x.pages) shape_is y.low in
-        record {
-          page = y.page;
-          read = subst (λ (x : Shape). In (mapping_of (word / x.page_words) y.page) v.reads) shape_is y.read;
-          is = here;
-          low = subst (λ (n : ℕ). n < words z) (sym here) (at-within z (page_word y.page (word % z.page_words)) (page, mod-lt word valid.page_words.0));
-        }
+  -- where a word stands of the arena that it is inside
+  pub word_place : {word place : ℕ} → HasPlace now word place → WordPlace z v word place
+  word_place {word = word} {place = place} h =
+      let y = inner (λ (x : View). HasPlace x word place) h in
+      record {
+        page = y.page;
+        read = in_shape (λ (x : Shape). In (mapping_of (word / x.page_words) y.page) v.reads) y.read;
+        is = y.is ∙ ap (λ (x : Shape). at x (page_word y.page (word % x.page_words))) shape_is;
+        low = (in_shape (λ (x : Shape). y.page < x.pages) y.low, mod-lt word valid.page_words.0);
+      }
 
-    -- the page in its hand is one of the pool's
-    pub page_in_hand : (p : ℕ) → now.pages ≡ p ∷ [] → p < z.pages
-    page_in_hand p e =
-        subst (λ (x : Shape). p < x.pages) shape_is (sound.own_pages p (subst (In p) (sym (ap (λ (x : View). x.pages) is ∙ e)) (inl refl)))
+  -- the page in its hand is one of the pool's
+  pub page_in_hand : {p : ℕ} → now.pages ≡ p ∷ [] → p < z.pages
+  page_in_hand {p = p} e =
+      in_shape (λ (x : Shape). p < x.pages) (k.sound.own_pages p (subst (In p) (sym (ap (λ (x : View). x.pages) k.is ∙ e)) (inl refl)))
 
-    -- and that of its sweep
-    pub page_in_sweep : (a : ArenaId) (i p w : ℕ) → now.swept ≡ wiping a i p w → p < z.pages
-    page_in_sweep a i p w e = subst (λ (x : Shape). p < x.pages) shape_is (sound.swept_page a i p w (ap (λ (x : View). x.swept) is ∙ e))
+  -- and that of its sweep
+  pub page_in_sweep : {a : ArenaId} {i p w : ℕ} → now.swept ≡ wiping a i p w → p < z.pages
+  page_in_sweep {a = a} {i = i} {p = p} {w = w} e =
+      in_shape (λ (x : Shape). p < x.pages) (k.sound.swept_page a i p w (ap (λ (x : View). x.swept) k.is ∙ e))
 
 -- what it may draw is the same in every pool
-pub can_draw_in : (now v : View) (home : List ℕ) (e : ℕ) → homed home v ≡ now → CanDraw now e → CanDraw v e
-can_draw_in now v home e is (can_draw n k h) = can_draw n k (ap (λ (x : View). x.number) is ∙ h)
-can_draw_in now v home e is (can_look h z) = can_look (ap (λ (x : View). x.number) is ∙ h) z
+pub can_draw_in : {z : Shape} {now : View} {home : List ℕ} {v : View} {e : ℕ} → Sees z now home v → CanDraw now e → CanDraw v e
+can_draw_in k (can_draw n t h) = can_draw n t (ap (λ (x : View). x.number) k.is ∙ h)
+can_draw_in k (can_look h z) = can_look (ap (λ (x : View). x.number) k.is ∙ h) z
 
 -- ---- places that are known
 

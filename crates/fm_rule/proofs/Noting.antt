@@ -13,7 +13,8 @@ use Rattle.fm_rule_facts.specs.Handles.{last_if, giving_by, word_given, back_wor
 use Rattle.fm_rule_facts.specs.Splits.{met}
 use Rattle.fm_rule_facts.specs.Steps.{Stepped, part, entries, noted, none_noted}
 use Rattle.fm_rule.specs.declared.pass.Part.{Part}
-use Rattle.fm_rule.proofs.Allowed.{part_on, stepped, still_counted, alike_none}
+use Rattle.fm_rule.proofs.Allowed.{all_same, stepped}
+use Rattle.fm_rule.proofs.Keeping.{keeps_on}
 use Rattle.fm_rule_facts.specs.Moves.{Gives, Tells}
 use Rattle.fm_rule_steps.proofs.First.{two_words}
 use Rattle.fm_rule.specs.Views.{homed, Keeps}
@@ -50,25 +51,13 @@ pub meet_stepped : (now v n u w : View) (home home' : List ℕ) (x : ℕ) → ho
     → Stepped now (homed home' w) now [] none_noted
 meet_stepped now v n u w home home' x is stays m e t =
     subst (λ (y : View × List ℕ). Stepped y.0 (homed y.1 w) y.0 [] none_noted) (λ j. (is j, sym stays j))
-    (stepped home v v w [] none_noted (alike_none v) m (met_gives v n w x (subst (λ (y : View). Tells Looks y x w) e t)))
+    (stepped home v v w [] none_noted (all_same v) m (met_gives v n w x (subst (λ (y : View). Tells Looks y x w) e t)))
 
-pub meet_keeps : (c : Caller) (i : Option ArenaId) (part' : Part) (count : ℕ) (v n u w : View) (held held' : List (ℕ × Unit {0})) (x : ℕ)
+pub meet_keeps : {c : Caller} {i : Option ArenaId} {part' : Part} {count : ℕ} {v u w : View} {held held' : List (ℕ × Unit {0})} {x : ℕ} (n : View)
     → Keeps c i part' count (v, held)
     → u ≡ met v n → Tells Looks u x w → held' ≡ held → Keeps c i part' count (w, held')
-meet_keeps c i part' count v n u w held held' x k e t h =
-    let g = met_gives v n w x (subst (λ (y : View). Tells Looks y x w) e t) in
-    let inside : w.inside ≡ v.inside = ap (λ (y : View). y.inside) g.is in
-    let shape : w.shape ≡ v.shape = ap (λ (y : View). y.shape) g.is in
-    record {
-      live = ap (λ (y : View). y.live) g.is ∙ k.live;
-      caller = k.caller ∙ sym (ap (λ (y : View). y.caller) g.is);
-      inside = k.inside ∙ sym inside;
-      part_is = λ l. part_on v w part' shape (λ x j. subst (In x) (sym (ap (λ (y : View). y.reads) g.is)) j) (k.part_is l);
-      met = ap (λ (y : View). y.met) g.is;
-      counted = still_counted count v w k.counted k.met (ap (λ (y : View). y.gathered) g.is);
-      sound = g.sound;
-      empty = h ∙ k.empty;
-    }
+meet_keeps {v = v} {w = w} {x = x} n k e t h =
+    keeps_on k (all_same v) refl (λ y j. j) (met_gives v n w x (subst (λ (y : View). Tells Looks y x w) e t)) h
 
 -- ---- session words
 

@@ -1,35 +1,29 @@
-use Rattle.std.proofs.Common.{ap, sym, subst}
-use Rattle.fm_rule_facts.specs.Views.{View, In}
-use Rattle.fm_rule.specs.Views.{numbers_of}
-use Rattle.fm_rule.proofs.Knowing.{in_pool, session_below, knows, fits, owner_below}
-use Rattle.fm_rule.proofs.Making.{may_back}
-use Rattle.fm_rule.proofs.Stepping.{back_stepped}
-use Rattle.fm_rule.proofs.Keeping.{back_keeps}
+use Rattle.std.proofs.Common.{refl}
+use Rattle.fm_rule_facts.specs.declared.step.Step.TheVariants.{Backs}
+use Rattle.fm_rule_facts.specs.Steps.{part, entries, noted}
+use Rattle.fm_rule.proofs.Knowing.{opened, sees, fits, owner_below}
+use Rattle.fm_rule.proofs.Making.{can_back}
+use Rattle.fm_rule.proofs.Keeping.{step_keeps}
+use Rattle.fm_rule.proofs.Stepping.{step_stepped}
 use Rattle.fm_rule.proofs.holding.step_back.Goals as goal
 
 pub session_place-place-requires : goal.session_place-place-requires
-session_place-place-requires c = (fits _ c.pass.inside.seat.me.0 _ _ c.pass.view_is c.requires.of.1 c.pass.invariant.sound c.args.id c.requires.known).slot
+session_place-place-requires c = (fits (sees c.pass.view_is c.requires.of.1 c.pass.invariant) c.args.id c.requires.known).slot
 
 pub back_word-next-requires : goal.back_word-next-requires
-back_word-next-requires c = owner_below _ c.pass.inside.seat.me.0 _ _ c.pass.view_is c.requires.of.1 c.pass.invariant.sound c.args.id c.requires.known
+back_word-next-requires c = owner_below (sees c.pass.view_is c.requires.of.1 c.pass.invariant) c.args.id c.requires.known
 
 pub exchange_as-requires-clause-can : goal.exchange_as-requires-clause-can
-exchange_as-requires-clause-can c = record {
-  table = in_pool _ c.pass.inside.seat.me.0 _ c.args.pool.now c.pass.view_is c.requires.of;
-  place = session_below _ _ _
-      (fits _ c.pass.inside.seat.me.0 _ _ c.pass.view_is c.requires.of.1 c.pass.invariant.sound c.args.id c.requires.known).slot c.session_place-place.ensures;
-  may = (let has = subst (λ (x : View). In c.args.id x.handles) (sym c.pass.view_is) c.requires.handle in
-      may_back _ _ c.pass.inside.seat.me.0 c.pass.invariant.live _ c.args.id c.args.word _
-      (knows _ c.pass.inside.seat.me.0 _ _ c.pass.view_is c.requires.of.1 c.args.id c.requires.known)
-      c.requires.automatic has c.session_place-place.ensures c.back_word-next.ensures);
-}
+exchange_as-requires-clause-can c =
+    can_back (opened c.pass.view_is c.requires.of c.pass.invariant)
+    c.requires.known c.requires.handle c.requires.automatic c.session_place-place.ensures c.back_word-next.ensures
 
 pub invariant_of-pass : goal.invariant_of-pass
-invariant_of-pass c = back_keeps _ _ _ _ _ _ _ _ c.pass.invariant c.exchange_as.ensures.slots c.args.id c.args.word _ c.exchange_as.ensures.tells
+invariant_of-pass c = step_keeps c.pass.invariant c.exchange_as.ensures tt
+
+pub returns-clause-stepped : goal.returns-clause-stepped
+unfolding part entries noted
+returns-clause-stepped c = step_stepped (Backs c.args.id c.args.word) c.pass.view_is c.pass.invariant c.exchange_as.ensures refl
 
 pub returns-clause-alive : goal.returns-clause-alive
 returns-clause-alive c = c.exchange_as.ensures.tells.learns
-
-pub returns-clause-stepped : goal.returns-clause-stepped
-returns-clause-stepped c =
-    back_stepped _ _ _ _ _ c.pass.view_is (ap numbers_of c.exchange_as.ensures.table) c.pass.invariant.met c.args.id c.args.word _ c.exchange_as.ensures.tells

@@ -1,45 +1,37 @@
-use Rattle.std.proofs.Common.{ap, ◌∙◌, arith}
+use Rattle.std.proofs.Common.{ap, refl, arith}
 use Rattle.fm_words.specs.declared.shape.Shape.{Shape}
-use Rattle.fm_rule_facts.specs.Views.{View}
-use Rattle.fm_rule.specs.Views.{numbers_of}
-use Rattle.fm_rule.proofs.Knowing.{in_pool, map_below, shape_is, inside_slot, valid}
-use Rattle.fm_rule.proofs.Making.{may_read_map}
-use Rattle.fm_rule.proofs.Stepping.{read_map_stepped, map_learnt}
+use Rattle.fm_rule_facts.specs.declared.step.Step.TheVariants.{ReadsMap}
+use Rattle.fm_rule_facts.specs.Steps.{part, entries, noted}
+use Rattle.fm_rule.proofs.Knowing.{opened, sees, inside_slot, valid, shape_is}
+use Rattle.fm_rule.proofs.Making.{can_read_map}
 use Rattle.fm_rule.proofs.Keeping.{read_map_keeps}
+use Rattle.fm_rule.proofs.Stepping.{step_stepped, map_learnt}
 use Rattle.fm_rule.proofs.paging.step_read_map.Goals as goal
 
-pub map_place-place-requires-clause-place : goal.map_place-place-requires-clause-place
-map_place-place-requires-clause-place c =
-    ((inside_slot _ c.pass.inside.seat.me.0 _ _ c.pass.view_is c.requires.of.1 c.pass.invariant.sound c.args.id c.requires.inside), c.requires.low)
-
 pub map_place-place-requires-clause-valid : goal.map_place-place-requires-clause-valid
-map_place-place-requires-clause-valid c = valid _ c.pass.inside.seat.me.0 _ _ c.pass.view_is c.requires.of.1 c.pass.invariant.sound
+map_place-place-requires-clause-valid c = valid (sees c.pass.view_is c.requires.of.1 c.pass.invariant)
+
+pub map_place-place-requires-clause-place : goal.map_place-place-requires-clause-place
+map_place-place-requires-clause-place c = (inside_slot (sees c.pass.view_is c.requires.of.1 c.pass.invariant) c.requires.inside, c.requires.low)
 
 pub load_as-word-requires-clause-can : goal.load_as-word-requires-clause-can
-load_as-word-requires-clause-can c = record {
-  table = in_pool _ c.pass.inside.seat.me.0 _ c.args.pool.now c.pass.view_is c.requires.of;
-  place = map_below _ _ _ _ (inside_slot _ c.pass.inside.seat.me.0 _ _ c.pass.view_is c.requires.of.1 c.pass.invariant.sound c.args.id c.requires.inside)
-      c.requires.low c.map_place-place.ensures;
-  may = may_read_map _ _ c.pass.inside.seat.me.0 c.pass.invariant.live _ c.args.id c.args.index
-      (shape_is _ c.pass.inside.seat.me.0 _ _ c.pass.view_is c.requires.of.1)
-      (ap (λ (x : View). x.inside) c.pass.view_is ∙ c.requires.inside) c.requires.low c.map_place-place.ensures;
-}
+load_as-word-requires-clause-can c =
+    can_read_map (opened c.pass.view_is c.requires.of c.pass.invariant)
+    c.requires.inside c.requires.low c.map_place-place.ensures
+
+pub invariant_of-pass : goal.invariant_of-pass
+invariant_of-pass c = read_map_keeps c.pass.invariant _ _ c.load_as-word.ensures (shape_is (sees c.pass.view_is c.requires.of.1 c.pass.invariant)) c.part_of-pass-inside.ensures.none
+    c.part_of-pass-inside.ensures.some
+
+pub returns-clause-stepped : goal.returns-clause-stepped
+unfolding part entries noted
+returns-clause-stepped c = step_stepped (ReadsMap c.args.id c.args.index) c.pass.view_is c.pass.invariant c.load_as-word.ensures refl
 
 pub part_of-pass-inside-requires : goal.part_of-pass-inside-requires
 part_of-pass-inside-requires c =
     let low = c.load_as-word.ensures.tells.learns.low in
-    let sh = ap (λ (x : Shape). x.pages) (shape_is _ c.pass.inside.seat.me.0 _ _ c.pass.view_is c.requires.of.1) in omega arith
-
-pub invariant_of-pass : goal.invariant_of-pass
-invariant_of-pass c =
-    read_map_keeps _ _ _ _ c.pass.inside.seat.me.0 _ _ _ c.pass.invariant c.load_as-word.ensures.slots c.args.id c.args.index _ _ _ c.load_as-word.ensures.tells
-    (shape_is _ c.pass.inside.seat.me.0 _ _ c.pass.view_is c.requires.of.1) c.part_of-pass-inside.ensures.none c.part_of-pass-inside.ensures.some
+    let sh = ap (λ (x : Shape). x.pages) (shape_is (sees c.pass.view_is c.requires.of.1 c.pass.invariant)) in
+    omega arith
 
 pub returns-clause-map : goal.returns-clause-map
-returns-clause-map c =
-    map_learnt _ _ _ _ _ c.pass.view_is (ap numbers_of c.load_as-word.ensures.table) c.pass.invariant.met c.args.id c.args.index _ c.load_as-word.ensures.tells
-
-pub returns-clause-stepped : goal.returns-clause-stepped
-returns-clause-stepped c =
-    read_map_stepped _ _ _ _ _ c.pass.view_is
-    (ap numbers_of c.load_as-word.ensures.table) c.pass.invariant.met c.args.id c.args.index _ c.load_as-word.ensures.tells
+returns-clause-map c = map_learnt c.pass.view_is c.load_as-word.ensures.tells.learns

@@ -1,36 +1,29 @@
-use Rattle.std.proofs.Common.{ap, sym, subst}
-use Rattle.fm_base.specs.Arenas.{MayUse}
-use Rattle.fm_rule_facts.specs.Views.{View}
-use Rattle.fm_rule.specs.Views.{numbers_of}
-use Rattle.fm_rule.proofs.Knowing.{in_pool, session_below, knows, fits, owner_below}
-use Rattle.fm_rule.proofs.Making.{may_shut}
-use Rattle.fm_rule.proofs.Stepping.{shut_stepped}
-use Rattle.fm_rule.proofs.Keeping.{shut_keeps}
+use Rattle.std.proofs.Common.{refl}
+use Rattle.fm_rule_facts.specs.declared.step.Step.TheVariants.{Shuts}
+use Rattle.fm_rule_facts.specs.Steps.{part, entries, noted}
+use Rattle.fm_rule.proofs.Knowing.{opened, sees, fits, owner_below}
+use Rattle.fm_rule.proofs.Making.{can_shut}
+use Rattle.fm_rule.proofs.Keeping.{step_keeps}
+use Rattle.fm_rule.proofs.Stepping.{step_stepped}
 use Rattle.fm_rule.proofs.steps.step_shut.Goals as goal
 
 pub session_place-place-requires : goal.session_place-place-requires
-session_place-place-requires c = (fits _ c.pass.inside.seat.me.0 _ _ c.pass.view_is c.requires.of.1 c.pass.invariant.sound c.args.id c.requires.known).slot
+session_place-place-requires c = (fits (sees c.pass.view_is c.requires.of.1 c.pass.invariant) c.args.id c.requires.known).slot
 
 pub alive_word-alive-requires-clause-owner : goal.alive_word-alive-requires-clause-owner
-alive_word-alive-requires-clause-owner c =
-    owner_below _ c.pass.inside.seat.me.0 _ _ c.pass.view_is c.requires.of.1 c.pass.invariant.sound c.args.id c.requires.known
+alive_word-alive-requires-clause-owner c = owner_below (sees c.pass.view_is c.requires.of.1 c.pass.invariant) c.args.id c.requires.known
 
 pub closing_word-closing-requires : goal.closing_word-closing-requires
-closing_word-closing-requires c = owner_below _ c.pass.inside.seat.me.0 _ _ c.pass.view_is c.requires.of.1 c.pass.invariant.sound c.args.id c.requires.known
+closing_word-closing-requires c = owner_below (sees c.pass.view_is c.requires.of.1 c.pass.invariant) c.args.id c.requires.known
 
 pub exchange_as-requires-clause-can : goal.exchange_as-requires-clause-can
-exchange_as-requires-clause-can c = record {
-  table = in_pool _ c.pass.inside.seat.me.0 _ c.args.pool.now c.pass.view_is c.requires.of;
-  place = session_below _ _ _
-      (fits _ c.pass.inside.seat.me.0 _ _ c.pass.view_is c.requires.of.1 c.pass.invariant.sound c.args.id c.requires.known).slot c.session_place-place.ensures;
-  may = (let may = subst (λ (x : View). MayUse c.args.id x.caller) (sym c.pass.view_is) c.requires.may in
-      let known = knows _ c.pass.inside.seat.me.0 _ _ c.pass.view_is c.requires.of.1 c.args.id c.requires.known in
-      may_shut _ _ c.pass.inside.seat.me.0 c.pass.invariant.live _ c.args.id _ _ known may c.requires.by_hand.0 c.requires.by_hand.1
-      c.session_place-place.ensures c.alive_word-alive.ensures c.closing_word-closing.ensures);
-}
+exchange_as-requires-clause-can c =
+    can_shut (opened c.pass.view_is c.requires.of c.pass.invariant)
+    c.requires.known c.requires.may c.requires.by_hand c.session_place-place.ensures c.alive_word-alive.ensures c.closing_word-closing.ensures
 
 pub invariant_of-pass : goal.invariant_of-pass
-invariant_of-pass c = shut_keeps _ _ _ _ _ _ _ _ c.pass.invariant c.exchange_as.ensures.slots c.args.id _ c.exchange_as.ensures.tells
+invariant_of-pass c = step_keeps c.pass.invariant c.exchange_as.ensures tt
 
 pub returns : goal.returns
-returns c = shut_stepped _ _ _ _ _ c.pass.view_is (ap numbers_of c.exchange_as.ensures.table) c.pass.invariant.met c.args.id _ c.exchange_as.ensures.tells
+unfolding part entries noted
+returns c = step_stepped (Shuts c.args.id) c.pass.view_is c.pass.invariant c.exchange_as.ensures refl

@@ -1,28 +1,18 @@
-use Rattle.std.proofs.Common.{ap}
-use Rattle.fm_rule.specs.Views.{numbers_of}
-use Rattle.fm_rule.proofs.Knowing.{in_pool, WordPlace, reaches, word_place}
-use Rattle.fm_rule.proofs.Making.{may_store}
-use Rattle.fm_rule.proofs.Stepping.{store_stepped}
-use Rattle.fm_rule.proofs.Keeping.{store_keeps}
+use Rattle.std.proofs.Common.{refl}
+use Rattle.fm_rule_facts.specs.declared.step.Step.TheVariants.{Stores}
+use Rattle.fm_rule_facts.specs.Steps.{part, entries, noted}
+use Rattle.fm_rule.proofs.Knowing.{opened, fits}
+use Rattle.fm_rule.proofs.Making.{can_store}
+use Rattle.fm_rule.proofs.Keeping.{step_keeps}
+use Rattle.fm_rule.proofs.Stepping.{step_stepped}
 use Rattle.fm_rule.proofs.steps.step_store.Goals as goal
-use Rattle.fm_rule.proofs.steps.step_store.Goals.{After-pass}
-
-here : (c : After-pass) → WordPlace c.args.pool.now.shape c.pass.inside.seat.me.0 c.args.word c.args.place
-here c = word_place _ c.pass.inside.seat.me.0 _ _ c.pass.view_is c.requires.of.1 c.pass.invariant.sound c.args.word _ c.requires.place
 
 pub store_as-requires-clause-can : goal.store_as-requires-clause-can
-store_as-requires-clause-can c = record {
-  table = in_pool _ c.pass.inside.seat.me.0 _ c.args.pool.now c.pass.view_is c.requires.of;
-  place = (here (goal.at.store_as-requires-clause-can c).After-pass).low;
-  may = (let p = here (goal.at.store_as-requires-clause-can c).After-pass in
-      may_store _ _ c.pass.inside.seat.me.0 c.pass.invariant.live _ c.args.word
-      (reaches _ c.pass.inside.seat.me.0 _ _ c.pass.view_is c.requires.of.1 c.args.word c.requires.act) p c.args.v c.ranges.v.fits);
-}
+store_as-requires-clause-can c = can_store (opened c.pass.view_is c.requires.of c.pass.invariant) c.requires.act c.requires.place c.ranges.v.fits
 
 pub invariant_of-pass : goal.invariant_of-pass
-invariant_of-pass c = store_keeps _ _ _ _ _ _ _ _ c.pass.invariant c.store_as.ensures.slots c.args.word c.args.v _ c.store_as.ensures.tells
+invariant_of-pass c = step_keeps c.pass.invariant c.store_as.ensures tt
 
 pub returns : goal.returns
-returns c =
-    store_stepped _ _ _ _ _ c.pass.view_is (ap numbers_of c.store_as.ensures.table) c.pass.invariant.met c.args.word c.args.v _
-    c.store_as.ensures.tells
+unfolding part entries noted
+returns c = step_stepped (Stores c.args.word c.args.v) c.pass.view_is c.pass.invariant c.store_as.ensures refl

@@ -1,33 +1,26 @@
-use Rattle.std.proofs.Common.{ap, ◌∙◌}
-use Rattle.fm_rule_facts.specs.Views.{View}
-use Rattle.fm_rule_facts.specs.Closes.{passed_of}
-use Rattle.fm_rule.specs.Views.{numbers_of}
-use Rattle.fm_rule.proofs.Knowing.{in_pool, map_below, swept_fits, valid}
-use Rattle.fm_rule.proofs.Making.{may_unmap}
-use Rattle.fm_rule.proofs.Stepping.{unmap_stepped}
-use Rattle.fm_rule.proofs.Keeping.{unmap_keeps}
+use Rattle.std.proofs.Common.{refl}
+use Rattle.fm_rule_facts.specs.declared.step.Step.TheVariants.{Unmaps}
+use Rattle.fm_rule_facts.specs.Steps.{part, entries, noted}
+use Rattle.fm_rule.proofs.Knowing.{opened, sees, swept_fits, valid}
+use Rattle.fm_rule.proofs.Making.{can_unmap}
+use Rattle.fm_rule.proofs.Keeping.{step_keeps}
+use Rattle.fm_rule.proofs.Stepping.{step_stepped}
 use Rattle.fm_rule.proofs.sweeping.step_unmap.Goals as goal
 
 pub map_place-place-requires-clause-valid : goal.map_place-place-requires-clause-valid
-map_place-place-requires-clause-valid c = (valid _ c.pass.inside.seat.me.0 _ _ c.pass.view_is c.requires.of.1 c.pass.invariant.sound)
+map_place-place-requires-clause-valid c = valid (sees c.pass.view_is c.requires.of.1 c.pass.invariant)
 
 pub map_place-place-requires-clause-place : goal.map_place-place-requires-clause-place
-map_place-place-requires-clause-place c =
-    ((swept_fits _ c.pass.inside.seat.me.0 _ _ c.pass.view_is c.requires.of.1 c.pass.invariant.sound c.args.id _ c.requires.sweep).slot, c.requires.low)
+map_place-place-requires-clause-place c = ((swept_fits (sees c.pass.view_is c.requires.of.1 c.pass.invariant) c.requires.sweep).slot, c.requires.low)
 
 pub store_as-requires-clause-can : goal.store_as-requires-clause-can
-store_as-requires-clause-can c = record {
-  table = in_pool _ c.pass.inside.seat.me.0 _ c.args.pool.now c.pass.view_is c.requires.of;
-  place = map_below _ _ _ _ (swept_fits _ c.pass.inside.seat.me.0 _ _ c.pass.view_is c.requires.of.1 c.pass.invariant.sound c.args.id _
-      c.requires.sweep).slot c.requires.low c.map_place-place.ensures;
-  may = may_unmap _ _ c.pass.inside.seat.me.0 c.pass.invariant.live _ c.args.id c.args.index c.args.page
-      (ap (λ (x : View). passed_of x.sweeps c.args.id) c.pass.view_is ∙ c.requires.sweep) c.requires.low
-      (ap (λ (x : View). x.swept) c.pass.view_is ∙ c.requires.named) c.map_place-place.ensures;
-}
+store_as-requires-clause-can c =
+    can_unmap (opened c.pass.view_is c.requires.of c.pass.invariant)
+    c.args.id c.requires.sweep c.requires.low c.requires.named c.map_place-place.ensures
 
 pub invariant_of-pass : goal.invariant_of-pass
-invariant_of-pass c = unmap_keeps _ _ _ _ _ _ _ _ c.pass.invariant c.store_as.ensures.slots c.args.id c.args.index c.args.page _ c.store_as.ensures.tells
+invariant_of-pass c = step_keeps c.pass.invariant c.store_as.ensures tt
 
 pub returns : goal.returns
-returns c = unmap_stepped _ _ _ _ _ c.pass.view_is
-    (ap numbers_of c.store_as.ensures.table) c.pass.invariant.met c.args.id c.args.index c.args.page _ c.store_as.ensures.tells
+unfolding part entries noted
+returns c = step_stepped (Unmaps c.args.id c.args.index c.args.page) c.pass.view_is c.pass.invariant c.store_as.ensures refl

@@ -5,13 +5,13 @@ use Rattle.fm_base_bytes.specs.Words.{byte_of}
 use Rattle.fm_base.specs.Arenas.{State, word_in}
 use Rattle.fm_base.specs.declared.arena_id.ArenaId.{ArenaId}
 use Rattle.fm_words.specs.Places.{at, given as given_place}
-use Rattle.fm_rule.proofs.Knowing.{given_below as place_below}
+use Rattle.fm_rule.proofs.Knowing.{place_below}
 use Rattle.fm_rule.proofs.GivenBytes.{shape_in, finished_in, given_now, one_byte}
 use Rattle.fm_rule.proofs.finishing.Finished.collect.Goals as goal
 
 pub word-given-requires : goal.word-given-requires
 word-given-requires c =
-    place_below _ c.args.id.slot _ c.requires.fits.slot
+    place_below _ (given_place c.args.id.slot) c.requires.fits.slot
     (c.given_place.ensures ∙ ap (λ (x : Shape). at x (given_place c.args.id.slot)) (shape_in _ _ c.self.view_is))
 
 pub word_after-word-requires-clause-low : goal.word_after-word-requires-clause-low

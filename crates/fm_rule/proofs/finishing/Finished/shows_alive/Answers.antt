@@ -2,7 +2,7 @@ use Rattle.std.proofs.Common.{sym, ap, ◌∙◌, get_or, ℕ, subst}
 use Rattle.fm_words.specs.declared.shape.Shape.{Shape}
 use Rattle.fm_words.specs.Places.{at, session}
 use Rattle.fm_rule_facts.specs.Views.{Fits}
-use Rattle.fm_rule.proofs.Knowing.{session_below}
+use Rattle.fm_rule.proofs.Knowing.{place_below}
 use Rattle.fm_rule.proofs.GivenBytes.{shape_in, finished_in, alive_by, unalive_by, unfit_by}
 use Rattle.fm_rule.proofs.finishing.Finished.shows_alive.Goals as goal
 
@@ -17,7 +17,7 @@ pub word-word-requires : goal.word-word-requires
 word-word-requires c =
     let z = c.args.self.now.shape in
     let same = shape_in _ _ c.self.view_is in
-    session_below z c.args.id.slot _ (subst (λ (x : Shape). Fits x c.args.id) same (c.can_have.ensures.0 c.if-not-can_have.false)).slot
+    place_below z (session c.args.id.slot) (subst (λ (x : Shape). Fits x c.args.id) same (c.can_have.ensures.0 c.if-not-can_have.false)).slot
     (c.session_place.ensures ∙ ap (λ (x : Shape). at x (session c.args.id.slot)) same)
 
 pub returns-in-Some : goal.returns-in-Some

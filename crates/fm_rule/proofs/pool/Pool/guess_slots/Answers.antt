@@ -1,5 +1,6 @@
-use Rattle.fm_rule.proofs.Knowing.{bits_below}
+use Rattle.fm_words.specs.Places.{slot_bits}
+use Rattle.fm_rule.proofs.Knowing.{place_below}
 use Rattle.fm_rule.proofs.pool.Pool.guess_slots.Goals as goal
 
 pub peek-requires : goal.peek-requires
-peek-requires c = bits_below _ _ c.slot_bits_place.ensures
+peek-requires c = place_below _ slot_bits tt c.slot_bits_place.ensures

@@ -3,8 +3,8 @@ use Rattle.fm_rule_facts.specs.Views.{View}
 use Rattle.fm_rule_steps.proofs.Splitting.{meet_joins}
 use Rattle.fm_rule.specs.Passes.{GoesOnFrom}
 use Rattle.fm_rule.specs.Views.{NoteView, numbers_of}
-use Rattle.fm_rule.proofs.Knowing.{one_table, in_pool, front_below}
-use Rattle.fm_rule.proofs.Making.{may_look}
+use Rattle.fm_rule.proofs.Knowing.{one_table, in_pool}
+use Rattle.fm_rule.proofs.Making.{can_look}
 use Rattle.fm_rule.proofs.Noting.{some_words, meet_met, meet_stepped, meet_keeps}
 use Rattle.fm_rule.proofs.pool.Pool.meet.Goals as goal
 
@@ -18,15 +18,13 @@ join_seat-requires c = (
 )
 
 pub load_as-requires-clause-can : goal.load_as-requires-clause-can
-load_as-requires-clause-can c = record {
-  table = c.join_seat.ensures.0 ∙ in_pool _ c.pass.inside.seat.me.0 _ c.args.self.now c.pass.view_is c.requires.pass;
-  place = front_below _ _ c.front_place-place.ensures;
-  may = may_look _ _ _ ((λ j. (c.join_seat.ensures.2 j).0.live) ∙ c.pass.invariant.live) _;
-}
+load_as-requires-clause-can c =
+    can_look (c.join_seat.ensures.0 ∙ in_pool _ c.pass.inside.seat.me.0 _ c.args.self.now c.pass.view_is c.requires.pass)
+    ((λ j. (c.join_seat.ensures.2 j).0.live) ∙ c.pass.invariant.live) c.front_place-place.ensures
 
 pub invariant_of-pass : goal.invariant_of-pass
 invariant_of-pass c =
-    meet_keeps _ _ _ _ _ c.note.inside.seat.me.0 _ _ _ _ _ c.pass.invariant (λ j. (c.join_seat.ensures.2 j).0) c.load_as.ensures.tells
+    meet_keeps c.note.inside.seat.me.0 c.pass.invariant (λ j. (c.join_seat.ensures.2 j).0) c.load_as.ensures.tells
     (c.load_as.ensures.slots ∙ (λ j. (c.join_seat.ensures.2 j).1))
 
 pub returns-clause-stepped : goal.returns-clause-stepped
