@@ -15,7 +15,8 @@ use Rattle.fm_rule_facts.specs.Closes.{walk_of, passed_of, dropped}
 use Rattle.fm_rule_facts.specs.Steps.{Stepped, none_noted}
 use Rattle.fm_rule.specs.declared.pool.Pool.{Pool}
 use Rattle.fm_rule_calls.specs.Kept.{Goes, rest_of, HasEnded, HasNoWords}
-use Rattle.fm_rule_calls.proofs.Going.{goes_of, goes_then, no_draws, made_by-one, rest_is, hand_is, inside_is, mark_is, known_on, lasts_on}
+use Rattle.fm_rule_calls.proofs.Going.{goes_then, no_draws, made_by-one, rest_is, hand_is, inside_is, mark_is, known_on, lasts_on}
+use Rattle.fm_rule_calls.proofs.Onward.{goes_step}
 use Rattle.fm_rule_calls.proofs.Waiting.{Waited, waits_by, waits_on}
 use Rattle.fm_gate.specs.Makers.{Made, made_by_pass}
 use Rattle.fm_gate.specs.Needs.{IsOutside}
@@ -34,24 +35,8 @@ use Rattle.fm_close.proofs.Walks.{Finished, ends_so}
 goes_given : {p q : View} (a : ArenaId) (g : Giving) → Stepped p q (given_back a g p) (giving_entries a g p.caller) none_noted
     → Goes p q (giving_entries a g p.caller)
 goes_given a Missed s = waits_by s
-goes_given {p = p} a Kept s = goes_of s (record {
-  shape = refl;
-  home = refl;
-  caller = refl;
-  gathered = refl;
-  whole = refl;
-  number = refl;
-  inside = refl;
-}) (made_by-one p.caller (Unhold a) Fine) no_draws
-goes_given {p = p} a Last s = goes_of s (record {
-  shape = refl;
-  home = refl;
-  caller = refl;
-  gathered = refl;
-  whole = refl;
-  number = refl;
-  inside = refl;
-}) (made_by-one p.caller (Shut a) Fine) no_draws
+goes_given {p = p} a Kept s = goes_step s refl (made_by-one p.caller (Unhold a) Fine) no_draws
+goes_given {p = p} a Last s = goes_step s refl (made_by-one p.caller (Shut a) Fine) no_draws
 
 abbrev Exchanges : Bool → View → View → ArenaId → ℕ → Type 0
 Exchanges found p q a word =

@@ -16,7 +16,8 @@ use Rattle.fm_rule_facts.proofs.Ending.{all_given}
 use Rattle.fm_rule_steps.proofs.Closes.{passed_of-found}
 use Rattle.fm_rule.specs.declared.pool.Pool.{Pool}
 use Rattle.fm_rule.specs.Passes.{IsOf}
-use Rattle.fm_rule_calls.proofs.Going.{goes_of, goes_none, goes_then, no_draws, made_by-one}
+use Rattle.fm_rule_calls.proofs.Going.{goes_none, goes_then, no_draws, made_by-one}
+use Rattle.fm_rule_calls.proofs.Onward.{goes_step}
 use Rattle.fm_rule_calls.proofs.Unlent.{given_on}
 use Rattle.fm_close.specs.Does.{IsBack, AreBacks}
 use Rattle.fm_close.specs.Sweeps.{SweepsOn, PartTaken, PartsTaken}
@@ -35,15 +36,7 @@ sweeps_none {p = p} sound h = record { goes = goes_none sound; is = λ j. record
 sweeps_step : {p q : View} {own : List Entry} {s : Swept} {cs : List Sweep} → made_by p.caller own ≡ own → p.inside ≡ inside_after p.inside own
     → Steps p q own s cs → SweepsOn p q own s cs
 sweeps_step {p = p} {q = q} {own = own} {s = s} {cs = cs} made inside t = record {
-  goes = goes_of t (record {
-    shape = refl;
-    home = refl;
-    caller = refl;
-    gathered = refl;
-    whole = refl;
-    number = refl;
-    inside = inside;
-  }) made no_draws;
+  goes = goes_step t inside made no_draws;
   is = t.is_part ∙ (λ j. record p { seen = q.seen; finds = sym (ap (λ (x : View). x.finds) t.is_part) j; swept = s; sweeps = cs });
 }
 

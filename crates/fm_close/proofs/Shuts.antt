@@ -15,7 +15,8 @@ use Rattle.fm_rule_facts.specs.Steps.{Stepped, none_noted}
 use Rattle.fm_rule.specs.declared.pool.Pool.{Pool}
 use Rattle.fm_rule.specs.Passes.{IsOf}
 use Rattle.fm_rule_calls.specs.Kept.{Goes}
-use Rattle.fm_rule_calls.proofs.Going.{goes_of, goes_none, kept_none, made_by-one, no_draws, rest_is, hand_is, inside_is, mark_is, closes_is, sweeps_is, known_on, lasts_on}
+use Rattle.fm_rule_calls.proofs.Going.{goes_none, kept_none, made_by-one, no_draws, rest_is, hand_is, inside_is, mark_is, closes_is, sweeps_is, known_on, lasts_on}
+use Rattle.fm_rule_calls.proofs.Onward.{goes_step}
 use Rattle.fm_gate.specs.Makers.{Made, made_by_pass}
 use Rattle.fm_gate.specs.Needs.{IsOutside, CanVisit}
 use Rattle.fm_gate.proofs.Outside.{made_on, stands_outside, swept_is}
@@ -65,15 +66,7 @@ module _ {pool : Pool} {p q : View} {a : ArenaId} (word : ℕ) (can : CanVisit p
   shut_as reply e = subst (λ (x : Reply). Stepped p q (record p { closes = begun a x p.closes }) (entry_of p.caller (Shut a) x ∷ []) none_noted) e s
 
   shut_goes : (reply : Reply) → shut_found (alive_holds a word) ≡ reply → Goes p q (entry_of p.caller (Shut a) reply ∷ [])
-  shut_goes reply e = goes_of (shut_as reply e) (record {
-    shape = refl;
-    home = refl;
-    caller = refl;
-    gathered = refl;
-    whole = refl;
-    number = refl;
-    inside = refl;
-  }) (made_by-one p.caller (Shut a) reply) no_draws
+  shut_goes reply e = goes_step (shut_as reply e) refl (made_by-one p.caller (Shut a) reply) no_draws
 
   still_outside : (reply : Reply) → shut_found (alive_holds a word) ≡ reply → IsOutside pool q
   still_outside reply e = stands_outside (shut_goes reply e) can.outside.of can.outside.no_number (hand_is s ∙ can.outside.no_slot)

@@ -13,7 +13,8 @@ use Rattle.fm_rule_facts.specs.Steps.{Stepped, CanReach as HasGiven, HasPlace, n
 use Rattle.fm_rule.specs.declared.pool.Pool.{Pool}
 use Rattle.fm_rule.specs.Passes.{IsOf}
 use Rattle.fm_rule_calls.specs.Kept.{Goes, rest_of}
-use Rattle.fm_rule_calls.proofs.Going.{goes_of, goes_then, made_by-acted, no_draws, rest_is, hand_is, inside_is, mark_is, lasts_on}
+use Rattle.fm_rule_calls.proofs.Going.{goes_then, made_by-acted, no_draws, rest_is, hand_is, inside_is, mark_is, lasts_on}
+use Rattle.fm_rule_calls.proofs.Onward.{goes_step}
 use Rattle.fm_pages.specs.Places.{CanFind, Placed}
 use Rattle.fm_gate.specs.Needs.{CanReach, CanLeave}
 use Rattle.fm_gate.specs.Learnt.{AfterAct, AfterLeave}
@@ -51,15 +52,7 @@ found_here {p = p} e = record {
 -- It has read a map word.
 pub found_by : {p m : View} (reads : List Mapping) → Stepped p m (record p { reads = reads }) [] none_noted → Found p m
 found_by {p = p} {m = m} reads s =
-    let g : Goes p m [] = goes_of s (record {
-      shape = refl;
-      home = refl;
-      caller = refl;
-      gathered = refl;
-      whole = refl;
-      number = refl;
-      inside = refl;
-    }) refl no_draws in
+    let g : Goes p m [] = goes_step s refl refl no_draws in
     record {
       onward = λ q own h. goes_then g h;
       is = s.is_part ∙ (λ j. record p {
@@ -92,16 +85,7 @@ module _ {p m q : View} {f : ArenaId → Call} {reply : Reply} (is : IsAct f rep
     (s : Stepped m q m (acted m.inside m.caller f reply) none_noted) where
   pub act_goes : Goes p q (acted p.inside p.caller f reply)
   act_goes =
-      let g : Goes m q (acted m.inside m.caller f reply) = goes_of s (record {
-        shape = refl;
-        home = refl;
-        caller = refl;
-        gathered = refl;
-        whole = refl;
-        number = refl;
-        inside = inside_acted m.inside m.caller f reply is;
-      })
-      (made_by-acted m.inside m.caller f reply) no_draws in
+      let g : Goes m q (acted m.inside m.caller f reply) = goes_step s (inside_acted m.inside m.caller f reply is) (made_by-acted m.inside m.caller f reply) no_draws in
       subst (λ (x : View). Goes p q (acted x.inside x.caller f reply)) w.is (w.onward q (acted m.inside m.caller f reply) g)
 
   -- What is learnt of one act.
@@ -139,16 +123,7 @@ leaves_to (Some a) c = refl
 module _ {p q : View} (s : Stepped p q (record p { inside = None; mark = None }) (acted p.inside p.caller Leave Fine) none_noted) where
   -- To clear the mark is to leave the arena that the pass is inside.
   pub unmark_goes : Goes p q (acted p.inside p.caller Leave Fine)
-  unmark_goes = goes_of s (record {
-    shape = refl;
-    home = refl;
-    caller = refl;
-    gathered = refl;
-    whole = refl;
-    number = refl;
-    inside = leaves_to p.inside p.caller;
-  })
-      (made_by-acted p.inside p.caller Leave Fine) no_draws
+  unmark_goes = goes_step s (leaves_to p.inside p.caller) (made_by-acted p.inside p.caller Leave Fine) no_draws
 
   -- What is learnt of `leave`.
   pub after_leave : {pool : Pool} → CanLeave pool p → AfterLeave pool p q

@@ -15,7 +15,8 @@ use Rattle.fm_rule_facts.specs.Steps.{Stepped, none_noted}
 use Rattle.fm_rule_facts.proofs.Gripping.{holds_are, with_holds}
 use Rattle.fm_rule.specs.declared.pool.Pool.{Pool}
 use Rattle.fm_rule_calls.specs.Kept.{Goes, rest_of}
-use Rattle.fm_rule_calls.proofs.Going.{goes_of, goes_none, no_draws, made_by-one, rest_is, hand_is, inside_is, mark_is, known_on, lasts_on}
+use Rattle.fm_rule_calls.proofs.Going.{goes_none, no_draws, made_by-one, rest_is, hand_is, inside_is, mark_is, known_on, lasts_on}
+use Rattle.fm_rule_calls.proofs.Onward.{goes_step}
 use Rattle.fm_gate.specs.declared.held.Hold.{Hold as TheHold}
 use Rattle.fm_gate.specs.Makers.{made_by_pass}
 use Rattle.fm_gate.specs.Needs.{IsOutside, CanVisit, CanUnhold}
@@ -129,15 +130,7 @@ pub after_unhold : {pool : Pool} {p q : View} {hold : TheHold} → CanUnhold poo
     → Stepped p q (record p { holds = released hold.arena p.holds }) (entry_of p.caller (Unhold hold.arena) Fine ∷ []) none_noted
     → AfterUnhold pool p q hold.arena
 after_unhold {pool = pool} {p = p} {q = q} {hold = hold} can s =
-    let g : Goes p q (entry_of p.caller (Unhold hold.arena) Fine ∷ []) = goes_of s (record {
-      shape = refl;
-      home = refl;
-      caller = refl;
-      gathered = refl;
-      whole = refl;
-      number = refl;
-      inside = refl;
-    }) (made_by-one p.caller (Unhold hold.arena) Fine) no_draws in
+    let g : Goes p q (entry_of p.caller (Unhold hold.arena) Fine ∷ []) = goes_step s refl (made_by-one p.caller (Unhold hold.arena) Fine) no_draws in
     record {
       did = record { own = entry_of p.caller (Unhold hold.arena) Fine ∷ []; does = refl; goes = g; rest = rest_is s };
       outside = λ o. stands_outside g o.of o.no_number (hand_is s ∙ o.no_slot) (swept_is s ∙ o.no_part) (inside_is s ∙ o.outside) (mark_is s ∙ o.unmarked);
