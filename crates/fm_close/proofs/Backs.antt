@@ -35,8 +35,8 @@ use Rattle.fm_close.proofs.Walks.{Finished, ends_so}
 goes_given : {p q : View} (a : ArenaId) (g : Giving) → Stepped p q (given_back a g p) (giving_entries a g p.caller) none_noted
     → Goes p q (giving_entries a g p.caller)
 goes_given a Missed s = waits_by s
-goes_given {p = p} a Kept s = goes_step s refl (made_by-one p.caller (Unhold a) Fine) no_draws
-goes_given {p = p} a Last s = goes_step s refl (made_by-one p.caller (Shut a) Fine) no_draws
+goes_given {p = p} a Kept s = goes_step s refl refl (made_by-one p.caller (Unhold a) Fine) no_draws
+goes_given {p = p} a Last s = goes_step s refl refl (made_by-one p.caller (Shut a) Fine) no_draws
 
 abbrev Exchanges : Bool → View → View → ArenaId → ℕ → Type 0
 Exchanges found p q a word =

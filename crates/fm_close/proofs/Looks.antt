@@ -72,9 +72,9 @@ module _ {pool : Pool} {p q : View} {s : Shutting} (found : ℕ) (can : CanWalk 
       }
 
   goes_as : (v : closes.Visit) → visit_found p.shape s.arena s.next found ≡ v → Goes p q (visit_entries s.arena v p.caller)
-  goes_as closes.Inside e = goes_step (step_as closes.Inside e) refl refl (no_draw p s.arena s.next found)
-  goes_as closes.Next e = goes_step (step_as closes.Next e) refl refl (no_draw p s.arena s.next found)
-  goes_as closes.Ended e = goes_step (step_as closes.Ended e) refl (made_by-one p.caller (End s.arena) Fine) (no_draw p s.arena s.next found)
+  goes_as closes.Inside e = goes_step (step_as closes.Inside e) refl refl refl (no_draw p s.arena s.next found)
+  goes_as closes.Next e = goes_step (step_as closes.Next e) refl refl refl (no_draw p s.arena s.next found)
+  goes_as closes.Ended e = goes_step (step_as closes.Ended e) refl refl (made_by-one p.caller (End s.arena) Fine) (no_draw p s.arena s.next found)
 
   -- The arena has a slot of the pool.
   pub slot_low : s.arena.slot < 64

@@ -36,7 +36,7 @@ sweeps_none {p = p} sound h = record { goes = goes_none sound; is = λ j. record
 sweeps_step : {p q : View} {own : List Entry} {s : Swept} {cs : List Sweep} → made_by p.caller own ≡ own → p.inside ≡ inside_after p.inside own
     → Steps p q own s cs → SweepsOn p q own s cs
 sweeps_step {p = p} {q = q} {own = own} {s = s} {cs = cs} made inside t = record {
-  goes = goes_step t inside made no_draws;
+  goes = goes_step t refl inside made no_draws;
   is = t.is_part ∙ (λ j. record p { seen = q.seen; finds = sym (ap (λ (x : View). x.finds) t.is_part) j; swept = s; sweeps = cs });
 }
 

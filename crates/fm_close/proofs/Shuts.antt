@@ -66,7 +66,7 @@ module _ {pool : Pool} {p q : View} {a : ArenaId} (word : ℕ) (can : CanVisit p
   shut_as reply e = subst (λ (x : Reply). Stepped p q (record p { closes = begun a x p.closes }) (entry_of p.caller (Shut a) x ∷ []) none_noted) e s
 
   shut_goes : (reply : Reply) → shut_found (alive_holds a word) ≡ reply → Goes p q (entry_of p.caller (Shut a) reply ∷ [])
-  shut_goes reply e = goes_step (shut_as reply e) refl (made_by-one p.caller (Shut a) reply) no_draws
+  shut_goes reply e = goes_step (shut_as reply e) refl refl (made_by-one p.caller (Shut a) reply) no_draws
 
   still_outside : (reply : Reply) → shut_found (alive_holds a word) ≡ reply → IsOutside pool q
   still_outside reply e = stands_outside (shut_goes reply e) can.outside.of can.outside.no_number (hand_is s ∙ can.outside.no_slot)

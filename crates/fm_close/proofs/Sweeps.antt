@@ -41,10 +41,10 @@ abbrev pub Gives : View → View → Type 0
 Gives p q = Quiet p q (record p { hand = nothing })
 
 retire_goes : {p q : View} (a : ArenaId) → Retires p q a → Goes p q []
-retire_goes a s = goes_step s refl refl no_draws
+retire_goes a s = goes_step s refl refl refl no_draws
 
 give_goes : {p q : View} → Gives p q → Goes p q []
-give_goes s = goes_step s refl refl no_draws
+give_goes s = goes_step s refl refl refl no_draws
 
 -- ---- the count of given bytes is reset, once no part has a page
 

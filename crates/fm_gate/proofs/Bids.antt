@@ -88,7 +88,7 @@ module _ {pool : Pool} {o p q : View} (word bit found : ℕ) (b : Bidding pool o
   went_to : (hand : Hand) → hand_taken (takes word bit found) bit p.hand ≡ hand → Went o q hand
   went_to hand e =
       let t = step_to hand e in
-      let g : Goes p q [] = goes_step t refl refl (no_draw p word bit found) in
+      let g : Goes p q [] = goes_step t refl refl refl (no_draw p word bit found) in
       let is : q ≡ record p { seen = q.seen; finds = q.finds; hand = hand } =
       t.is_part ∙ ap (λ (fs : List Find). record p { seen = q.seen; finds = fs; hand = hand }) (sym (ap (λ (x : View). x.finds) t.is_part)) in
       ⊎_elim
@@ -170,8 +170,8 @@ pub opened_in : {p m q : View} {kind : Kind} {a : ArenaId} (slot generation : �
     → Stepped m q (record m { hand = nothing; handles = handles_with a m.handles }) (entry_of m.caller (Open a) Fine ∷ []) none_noted
     → a.kind ≡ kind → owner_of a ≡ m.caller → OpenedIn p q slot kind a
 opened_in {p = p} {m = m} {q = q} {kind = kind} {a = a} slot generation learns opens k o =
-    let g : Goes p m [] = goes_step learns refl refl no_draws in
-    let h : Goes m q (entry_of m.caller (Open a) Fine ∷ []) = goes_step opens refl (made_by-one m.caller (Open a) Fine) no_draws in
+    let g : Goes p m [] = goes_step learns refl refl refl no_draws in
+    let h : Goes m q (entry_of m.caller (Open a) Fine ∷ []) = goes_step opens refl refl (made_by-one m.caller (Open a) Fine) no_draws in
     let c : m.caller ≡ p.caller = g.same_caller in
     record {
       goes = goes_then g (subst (λ (x : Caller). Goes m q (entry_of x (Open a) Fine ∷ [])) c h);

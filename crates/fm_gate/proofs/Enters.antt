@@ -36,7 +36,7 @@ after_wrong_thread can s not_his = record {
 
 -- To publish a mark makes no entry.
 pub mark_goes : {p q : View} {a : ArenaId} → Stepped p q (record p { mark = Some a }) [] none_noted → Goes p q []
-mark_goes s = goes_step s refl refl no_draws
+mark_goes s = goes_step s refl refl refl no_draws
 
 module _ {pool : Pool} {p q r : View} {a : ArenaId} (word : ℕ) (can : CanVisit pool p a) (may : MayUse a p.caller)
     (marks : Stepped p q (record p { mark = Some a }) [] none_noted)
@@ -64,7 +64,7 @@ module _ {pool : Pool} {p q r : View} {a : ArenaId} (word : ℕ) (can : CanVisit
       (record q { inside = inside_found a (alive_holds a word); reads = [] }) (entry_of c (Enter a) (enter_found (alive_holds a word)) ∷ []) none_noted)
       n checks) in
       let out = ap (λ x. inside_after x own) (sym (marked.inside ∙ can.outside.outside)) in
-      goes_then marked (goes_step s (i ∙ out) (ap (λ c. made_by c own) n ∙ made_by-one p.caller (Enter a) (enter_found found)) no_draws)
+      goes_then marked (goes_step s refl (i ∙ out) (ap (λ c. made_by c own) n ∙ made_by-one p.caller (Enter a) (enter_found found)) no_draws)
 
   -- What is learnt where the arena was alive.
   pub after_alive : {holds : ℕ} → alive_holds a word ≡ Some holds → (u : Unit {0}) → AfterEnter pool p r a (Ok u)

@@ -55,7 +55,7 @@ module _ {o p q : View} (a : ArenaId) (word found : ℕ) (w : Waited o p) (s : E
   pub after_take : found ≡ word → (In a (grips a p) → alive_holds a found ≢ None) → AfterTake o q a word
   after_take e alive =
       let hit : Exchanges true p q a word = subst (λ (b : Bool). Exchanges b p q a word) (eq-eqb found word e) s in
-      let g : Goes p q (entry_of p.caller (Hold a) (reply_at a word) ∷ []) = goes_step hit refl (made_by-one p.caller (Hold a) (reply_at a word)) no_draws in
+      let g : Goes p q (entry_of p.caller (Hold a) (reply_at a word) ∷ []) = goes_step hit refl refl (made_by-one p.caller (Hold a) (reply_at a word)) no_draws in
       let same : p.caller ≡ o.caller = ap (λ (x : View). x.caller) w.is in
       record {
         goes = w.onward q (entry_of o.caller (Hold a) (reply_at a word) ∷ [])
