@@ -20,7 +20,7 @@ use Rattle.fm_rule_calls.proofs.Going.{goes_none, goes_then, no_draws, made_by-o
 use Rattle.fm_rule_calls.proofs.Onward.{goes_step}
 use Rattle.fm_rule_calls.proofs.Unlent.{given_on}
 use Rattle.fm_close.specs.Does.{IsBack, AreBacks}
-use Rattle.fm_close.specs.Sweeps.{SweepsOn, PartTaken, PartsTaken}
+use Rattle.fm_close.specs.Sweeps.{SweepsOn, SweepsPart, PartTaken, PartsTaken}
 use Rattle.fm_close.proofs.Closes.{passed_of-advanced, dropped-advanced}
 
 -- ---- steps in order
@@ -134,6 +134,11 @@ part_taken {p = p} {q = q} {r = r} {a = a} {page = page} t s =
       goes_on = subst (λ (y : Caller × List Sweep). SweepsOn p r (entry_of y.0 (Back page) Fine ∷ []) unread (advanced a y.1))
           (λ j. (caller_now t j, sweeps_now t j)) g;
     }
+
+-- The part is still the next one where the sweeps are as they were.
+pub part_still : {pool : Pool} {p q : View} {a : ArenaId} {part : ℕ} {s : Swept} → SweepsOn p q [] s p.sweeps → SweepsPart pool p a part
+    → SweepsPart pool q a part
+part_still {pool = pool} {a = a} {part = part} t h = record { of = of_still t pool h.of; sound = t.goes.sound; next = passed_still t a part h.next; low = h.low }
 
 -- ---- the parts in order
 

@@ -3,6 +3,7 @@ use Rattle.std.proofs.Common.{◌≡◌, ℕ, ◌<◌, ◌==◌, false, if◌the
 use Rattle.std.proofs.lemmas.Bool.Decides.{nat_tests}
 use Rattle.std.specs.Prelude.{Ok, Err}
 use Rattle.fm_base.specs.declared.arena_id.ArenaId.{ArenaId}
+use Rattle.fm_base.specs.declared.refusal.Refusal.{Refusal}
 use Rattle.fm_base.specs.declared.refusal.Refusal.TheVariants as refusal
 use Rattle.fm_base.specs.Arenas.{MayUse}
 use Rattle.fm_base.specs.Calls.{Shut, Reply, Fine, Closed, Held, Entry, entry_of}
@@ -24,11 +25,11 @@ use Rattle.fm_close.specs.Does as does
 use Rattle.fm_close.specs.Learnt.{AfterShut}
 use Rattle.fm_close.proofs.Closes.{passed_of-begun}
 
--- What is learnt where the kind isn't closed by hand: no step was made.
-pub after_kind : {pool : Pool} {p : View} {a : ArenaId} → CanVisit pool p a → IsSound p → ¬ (IsClosable a.kind)
-    → AfterShut pool p p a (Err (refusal.CannotClose a.kind))
-after_kind can s kind = record {
-  did = kept_none _ _ s (kind, refl, refl);
+-- What is learnt where no step was made.
+unmoved : {pool : Pool} {p : View} {a : ArenaId} {r : Refusal} → CanVisit pool p a → IsSound p → does.DoesShut (made_by_pass p) a (Err r) []
+    → AfterShut pool p p a (Err r)
+unmoved can s shuts = record {
+  did = kept_none _ _ s shuts;
   sweeps = refl;
   walks = tt;
   outside = can.outside;
@@ -37,18 +38,15 @@ after_kind can s kind = record {
   lasts = lasts_on (goes_none s);
 }
 
--- And where the pass may not use the arena.
+-- Where the kind isn't closed by hand,
+pub after_kind : {pool : Pool} {p : View} {a : ArenaId} → CanVisit pool p a → IsSound p → ¬ (IsClosable a.kind)
+    → AfterShut pool p p a (Err (refusal.CannotClose a.kind))
+after_kind can s kind = unmoved can s (kind, refl, refl)
+
+-- and where the pass may not use the arena.
 pub after_wrong_thread : {pool : Pool} {p : View} {a : ArenaId} → CanVisit pool p a → IsSound p → IsClosable a.kind → ¬ (MayUse a p.caller)
     → AfterShut pool p p a (Err refusal.WrongThread)
-after_wrong_thread can s kind not_his = record {
-  did = kept_none _ _ s (kind, not_his, refl);
-  sweeps = refl;
-  walks = tt;
-  outside = can.outside;
-  wrong_thread = λ e. refl;
-  cannot_close = λ k e. refl;
-  lasts = lasts_on (goes_none s);
-}
+after_wrong_thread can s kind not_his = unmoved can s (kind, not_his, refl)
 
 -- The pass is still one of its pool.
 pub shut_of : (pool : Pool) {p q : View} {cs : List Close} {own : List Entry} → Stepped p q (record p { closes = cs }) own none_noted → IsOf pool p

@@ -11,7 +11,7 @@ use Rattle.fm_rule_calls.specs.Kept.{Lasts, rest_of}
 use Rattle.fm_rule_calls.proofs.Going.{lasts_by, reached_by}
 use Rattle.fm_rule_calls.proofs.Sweeps.{no_sweeps}
 use Rattle.fm_gate.specs.Needs.{IsOutside}
-use Rattle.fm_gate.specs.Crews.{HasNothing, StandsOn, StandAtDraw, StandsAtNoPass, StandsAtLook, StandsAtGather, StandsAtMeeting, SeenIsKnown, NothingStays, NothingIsGathered, CrewStands}
+use Rattle.fm_gate.specs.Crews.{HasNothing, StandsOn, StandAtDraw, StandsAtGather, SeenIsKnown, NothingIsGathered, CrewStands}
 
 -- holds, handles, pages, closes and sweeps
 abbrev things_of : View → List ArenaId × List ArenaId × List ℕ × List Close × List Sweep
@@ -51,12 +51,6 @@ stands_by {pool = pool} {p = p} {q = q} more seen sound is number =
 asked_stands : {pool : Pool} {p q : View} {finds : List Find} → Asked p q finds no_number → IsSound q → StandsOn pool p q
 asked_stands a sound = stands_by a.more a.seen sound a.is (λ e. refl)
 
-at_no_pass : StandsAtNoPass
-at_no_pass pool p q d = asked_stands d.asked d.sound
-
-at_look : StandsAtLook
-at_look pool p q result d = asked_stands d.asked d.sound
-
 at_draw : StandAtDraw
 at_draw pool p q d of h =
     let giver : StandsOn pool p q = asked_stands h.asked h.giver_sound in
@@ -71,16 +65,10 @@ at_draw pool p q d of h =
 seen_is_known : SeenIsKnown
 seen_is_known pool other p o of sound on = lasts_by (reached_by on.0 on.1 (of.1 ∙ sym o.1) sound)
 
-gathers_stand : {pool : Pool} {p other q : View} → Gathers p other no_number q → StandsOn pool p q
-gathers_stand g = stands_by g.more g.seen g.sound g.is (λ e. refl)
-
 at_gather : StandsAtGather
 at_gather pool p other q of can g =
-    let stands : StandsOn pool p q = gathers_stand g in
+    let stands : StandsOn pool p q = stands_by g.more g.seen g.sound g.is (λ e. refl) in
     record { stands = stands; lasts = seen_is_known pool other q can.of (stands.of of) g.sound (g.rest, g.its_seen) }
-
-at_meeting : StandsAtMeeting
-at_meeting pool p q s = stands_by s.others (s.seen ∙ append-nil (p.seen ++ s.others)) s.sound s.is_part (λ e. e)
 
 -- What is told of a pass tells whether it has anything.
 pub nothing_told : (p q : View) → rest_of q ≡ rest_of p → HasNothing p → HasNothing q
@@ -88,9 +76,6 @@ nothing_told p q rest n = nothing_as (λ j. ((rest j).holds, (rest j).handles, (
   where
     sweeps : q.sweeps ≡ p.sweeps
     sweeps = no_sweeps p q rest n.no_sweep ∙ sym n.no_sweep
-
-nothing_stays : NothingStays
-nothing_stays p q own g = nothing_told p q
 
 can_gather : NothingIsGathered
 can_gather pool p o n = record {
@@ -109,11 +94,11 @@ can_gather pool p o n = record {
 pub stands : CrewStands
 stands = record {
   at_draw = at_draw;
-  at_no_pass = at_no_pass;
-  at_look = at_look;
+  at_no_pass = λ pool p q d. asked_stands d.asked d.sound;
+  at_look = λ pool p q result d. asked_stands d.asked d.sound;
   at_gather = at_gather;
-  at_meeting = at_meeting;
+  at_meeting = λ pool p q s. stands_by s.others (s.seen ∙ append-nil (p.seen ++ s.others)) s.sound s.is_part (λ e. e);
   seen = seen_is_known;
-  nothing = nothing_stays;
+  nothing = λ p q own g. nothing_told p q;
   can_gather = can_gather;
 }
