@@ -9,7 +9,7 @@ loop-part-init c = parts_none c.requires.sound c.requires.idle c.requires.begun
 pub take_back-requires-clause-part : goal.take_back-requires-clause-part
 take_back-requires-clause-part c =
     let t = c.loop-part.invariant in
-    let reach : c.shape.result.reach ≡ c.args.pool.now.shape.reach = ap (λ (z : Shape). z.reach) c.shape.ensures.shape in
+    let reach : c.shape-part-end.result.reach ≡ c.args.pool.now.shape.reach = ap (λ (z : Shape). z.reach) c.shape-part-end.ensures.shape in
     record { of = of_still t.goes_on c.args.pool.now c.requires.of; sound = t.goes_on.goes.sound; next = t.at; low = omega arith }
 
 pub take_back-requires-clause-gave : goal.take_back-requires-clause-gave
