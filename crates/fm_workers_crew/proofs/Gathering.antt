@@ -14,8 +14,6 @@ use Rattle.fm_rule_facts.specs.Splits.{as_gathered}
 use Rattle.fm_rule.specs.declared.pool.Pool.{Pool}
 use Rattle.fm_rule.specs.Draws.{CanGather, Gathers}
 use Rattle.fm_gate.specs.Needs.{IsOutside}
-use Rattle.fm_gate.specs.Crews.{HasNothing}
-use Rattle.fm_gate.proofs.Crews.{stands}
 use Rattle.fm_workers_crew.specs.declared.worker.Worker.{Worker}
 use Rattle.fm_workers_crew.specs.Crew.{IsIn}
 use Rattle.fm_workers_crew.specs.Rounds.{IsSpare, GatheredCrew, crew_of}
@@ -30,7 +28,18 @@ all_first P xs ys h = All-same P xs (take (length xs) (xs ++ ys)) (sym (take_at 
 
 -- A pass that was outside and spare can be gathered.
 pub can_gather : {pool : Pool} {d p : View} → p ≡ d → IsSpare pool d → IsOutside pool p → CanGather pool p
-can_gather {pool = pool} {p = p} e s o = stands.can_gather pool p o (subst HasNothing (sym e) s.nothing)
+can_gather {pool = pool} {d = d} {p = p} e s o = record {
+  of = o.of;
+  outside = o.outside;
+  unmarked = o.unmarked;
+  no_number = o.no_number;
+  no_slot = o.no_slot;
+  no_hold = ap (λ (v : View). v.holds) e ∙ s.no_hold;
+  no_handle = ap (λ (v : View). v.handles) e ∙ s.no_handle;
+  no_page = ap (λ (v : View). v.pages) e ∙ s.no_page;
+  no_close = ap (λ (v : View). v.closes) e ∙ s.no_close;
+  no_sweep = ap (λ (v : View). v.sweeps) e ∙ s.no_sweep;
+}
 
 pub in_still : {d now next : View} (more : List Entry) → next.shape ≡ now.shape → next.seen ≡ now.seen ++ more → made_by d.caller more ≡ [] → IsIn d now
     → IsIn d next

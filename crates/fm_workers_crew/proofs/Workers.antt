@@ -17,7 +17,7 @@ use Rattle.fm_rule.specs.Passes.{IsOf}
 use Rattle.fm_rule_calls.specs.Kept.{Lasts}
 use Rattle.fm_rule_calls.specs.Told.{view_of_pass}
 use Rattle.fm_rule_calls.proofs.Going.{reached_by, lasts_by}
-use Rattle.fm_gate.proofs.Crews.{nothing_told}
+use Rattle.fm_rule_calls.proofs.Sweeps.{no_sweeps}
 use Rattle.fm_arena.proofs.Lasting.{keeps}
 use Rattle.fm_workers_crew.specs.declared.worker.Worker.{Worker}
 use Rattle.fm_workers_crew.specs.Crew.{IsFresh, IsIn, AreDone, callers}
@@ -33,12 +33,16 @@ same_behind (x ∷ xs) ys zs e = same_behind xs ys zs (cc)
 -- ---- one worker
 
 spare_drawn : {pool : Pool} {old d : View} → IsOf pool old → IsDrawn old d → IsSpare pool d
-spare_drawn {pool = pool} of n = subst (IsSpare pool) (sym n.is) (record {
-  of = of;
-  outside = refl;
-  nothing = record { no_hold = refl; no_handle = refl; no_page = refl; no_close = refl; no_sweep = refl };
-  no_other = refl;
-})
+spare_drawn of n = record {
+  of = (ap (λ (v : View). v.home) n.is ∙ of.0, ap (λ (v : View). v.shape) n.is ∙ of.1);
+  outside = ap (λ (v : View). v.inside) n.is;
+  no_hold = ap (λ (v : View). v.holds) n.is;
+  no_handle = ap (λ (v : View). v.handles) n.is;
+  no_page = ap (λ (v : View). v.pages) n.is;
+  no_close = ap (λ (v : View). v.closes) n.is;
+  no_sweep = ap (λ (v : View). v.sweeps) n.is;
+  no_other = ap (λ (v : View). v.gathered) n.is;
+}
 
 -- It has nothing after its work either.
 spare_worked : {pool : Pool} {d e : View} {P : List Entry → Type 0} → IsSpare pool d → Did (view_of_pass d) (view_of_pass e) P → e.inside ≡ None
@@ -48,7 +52,11 @@ spare_worked {pool = pool} {d = d} {e = e} s k out =
     record {
       of = keeps.of pool d e (keeps.stays d e k.own k.makes) s.of;
       outside = out;
-      nothing = nothing_told d e rest s.nothing;
+      no_hold = ap (λ (r : Rest). r.holds) rest ∙ s.no_hold;
+      no_handle = ap (λ (r : Rest). r.handles) rest ∙ s.no_handle;
+      no_page = ap (λ (r : Rest). r.pages) rest ∙ s.no_page;
+      no_close = ap (λ (r : Rest). r.closes) rest ∙ s.no_close;
+      no_sweep = no_sweeps d e rest s.no_sweep;
       no_other = ap (λ (r : Rest). r.gathered) rest ∙ s.no_other;
     }
 

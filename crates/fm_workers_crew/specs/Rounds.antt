@@ -14,7 +14,6 @@ use Rattle.fm_rule_facts.specs.Splits.{view_of, as_gathered}
 use Rattle.fm_rule_calls.specs.Told.{view_of_pass}
 use Rattle.fm_rule.specs.declared.pool.Pool.{Pool}
 use Rattle.fm_rule.specs.Passes.{IsOf}
-use Rattle.fm_gate.specs.Crews.{HasNothing}
 use Rattle.fm_workers_crew.specs.declared.worker.Worker.{Worker}
 use Rattle.fm_workers_crew.specs.Crew.{DrewEach, IsFresh, IsIn, FoundNoNumber, callers}
 
@@ -43,7 +42,11 @@ pub record IsDrawn (old d : View) : Type 0 where
 pub record IsSpare (pool : Pool) (d : View) : Type 0 where
   pub of : IsOf pool d
   pub outside : d.inside ≡ None
-  pub nothing : HasNothing d
+  pub no_hold : d.holds ≡ []
+  pub no_handle : d.handles ≡ []
+  pub no_page : d.pages ≡ []
+  pub no_close : d.closes ≡ []
+  pub no_sweep : d.sweeps ≡ []
   pub no_other : d.gathered ≡ []
 
 module _ {T : Type 0} where
