@@ -9,7 +9,8 @@ use Rattle.fm_rule_facts.specs.Views.{View, limit_of}
 use Rattle.fm_rule_facts.specs.Steps.{Stepped, none_noted}
 use Rattle.fm_rule.specs.Passes.{GoesOnFrom}
 use Rattle.fm_rule_calls.specs.Kept.{Goes}
-use Rattle.fm_rule_calls.proofs.Going.{goes_of, no_draws, rest_is, inside_is, lasts_on}
+use Rattle.fm_rule_calls.proofs.Going.{rest_is, inside_is, lasts_on}
+use Rattle.fm_rule_calls.proofs.Waiting.{waits_by}
 use Rattle.fm_arena.specs.Learnt.{AfterMeet}
 
 -- From the beginning of a legal history to its end arenas and what they gave are never fewer.
@@ -24,15 +25,7 @@ grown limit seen later all is legal =
 -- What is learnt of `meet`.
 pub meets : {p q : View} {seen : List Entry} → Stepped p q p [] none_noted → GoesOnFrom seen q.seen → AfterMeet p q seen
 meets {p = p} {q = q} {seen = seen} s on =
-    let goes : Goes p q [] = goes_of s (record {
-      shape = refl;
-      home = refl;
-      caller = refl;
-      gathered = refl;
-      whole = refl;
-      number = refl;
-      inside = refl;
-    }) refl no_draws in
+    let goes : Goes p q [] = waits_by s in
     let g = grown (limit_of q.shape) seen on.0 q.seen on.1 goes.sound.legal in
     record {
       did = record { own = []; does = refl; goes = goes; rest = rest_is s };

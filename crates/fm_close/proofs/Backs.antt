@@ -15,7 +15,8 @@ use Rattle.fm_rule_facts.specs.Closes.{walk_of, passed_of, dropped}
 use Rattle.fm_rule_facts.specs.Steps.{Stepped, none_noted}
 use Rattle.fm_rule.specs.declared.pool.Pool.{Pool}
 use Rattle.fm_rule_calls.specs.Kept.{Goes, rest_of, HasEnded, HasNoWords}
-use Rattle.fm_rule_calls.proofs.Going.{goes_of, goes_then, no_draws, made_by-one, rest_is, hand_is, inside_is, mark_is, known_on, lasts_on}
+use Rattle.fm_rule_calls.proofs.Going.{goes_then, no_draws, made_by-one, rest_is, hand_is, inside_is, mark_is, known_on, lasts_on}
+use Rattle.fm_rule_calls.proofs.Onward.{goes_step}
 use Rattle.fm_rule_calls.proofs.Waiting.{Waited, waits_by, waits_on}
 use Rattle.fm_gate.specs.Makers.{Made, made_by_pass}
 use Rattle.fm_gate.specs.Needs.{IsOutside}
@@ -26,7 +27,7 @@ use Rattle.fm_close.specs.declared.shutting.Shutting.{Shutting}
 use Rattle.fm_close.specs.Does.{begun}
 use Rattle.fm_close.specs.Learnt.{CanGiveBack, AfterBack, AfterSpend, AfterGiveBack}
 use Rattle.fm_close.proofs.Closes.{passed_of-begun, dropped-begun}
-use Rattle.fm_close.proofs.Walks.{Finished, ends_so}
+use Rattle.fm_close.proofs.Walks.{Finished, ends_so, closed_goes, closed_left}
 
 -- ---- the exchanges
 
@@ -34,24 +35,8 @@ use Rattle.fm_close.proofs.Walks.{Finished, ends_so}
 goes_given : {p q : View} (a : ArenaId) (g : Giving) → Stepped p q (given_back a g p) (giving_entries a g p.caller) none_noted
     → Goes p q (giving_entries a g p.caller)
 goes_given a Missed s = waits_by s
-goes_given {p = p} a Kept s = goes_of s (record {
-  shape = refl;
-  home = refl;
-  caller = refl;
-  gathered = refl;
-  whole = refl;
-  number = refl;
-  inside = refl;
-}) (made_by-one p.caller (Unhold a) Fine) no_draws
-goes_given {p = p} a Last s = goes_of s (record {
-  shape = refl;
-  home = refl;
-  caller = refl;
-  gathered = refl;
-  whole = refl;
-  number = refl;
-  inside = refl;
-}) (made_by-one p.caller (Shut a) Fine) no_draws
+goes_given {p = p} a Kept s = goes_step s refl refl (made_by-one p.caller (Unhold a) Fine) no_draws
+goes_given {p = p} a Last s = goes_step s refl refl (made_by-one p.caller (Shut a) Fine) no_draws
 
 abbrev Exchanges : Bool → View → View → ArenaId → ℕ → Type 0
 Exchanges found p q a word =
@@ -151,19 +136,16 @@ pub after_ended : {pool : Pool} {p q r : View} {a : ArenaId} {s : Shutting} → 
     → AfterGiveBack pool p r a gave.Ended
 after_ended {p = p} {q = q} {r = r} {a = a} {s = s} automatic h w =
     let arena : s.arena ≡ a = ap (λ (x : Shutting). x.arena) h.did.does.0 in
-    let g : Goes p q (entry_of p.caller (Shut a) Fine ∷ []) = subst (λ (es : List Entry). Goes p q es) h.did.does.1 h.did.goes in
-    let end : Goes q r (entry_of p.caller (End a) Fine ∷ w.backs) =
-    subst (λ (x : Caller × ArenaId). Goes q r (entry_of x.0 (End x.1) Fine ∷ w.backs)) (λ j. (g.same_caller j, arena j)) w.goes in
-    let closes : q.closes ≡ walk_of a 0 ∷ p.closes = ap (λ (x : Rest). x.closes) h.did.rest in
-    let left : dropped s.arena q.closes ≡ p.closes = ap (λ (i : ArenaId). dropped i q.closes) arena ∙ (ap (dropped a) closes ∙ dropped-begun p.closes a) in
-    let all = goes_then g end in
+    let shut : Goes p q (entry_of p.caller (Shut a) Fine ∷ []) = subst (λ (es : List Entry). Goes p q es) h.did.does.1 h.did.goes in
+    let begun : q.closes ≡ walk_of a 0 ∷ p.closes = ap (λ (x : Rest). x.closes) h.did.rest in
+    let all = closed_goes arena shut begun w in
     record {
       did = record {
         own = entry_of p.caller (Shut a) Fine ∷ entry_of p.caller (End a) Fine ∷ w.backs;
         does = ends_so p.caller a q.caller w.backs w.are;
         goes = all;
         rest = w.rest ∙ (ap (λ (x : Rest). record x { closes = dropped s.arena q.closes }) h.did.rest
-            ∙ ap (λ (xs : List Close). record (rest_of p) { closes = xs; handles = released a p.handles }) left);
+            ∙ ap (λ (xs : List Close). record (rest_of p) { closes = xs; handles = released a p.handles }) (closed_left arena shut begun w));
       };
       ended = λ e. subst (HasEnded r) arena w.over;
       no_words = λ e. subst (HasNoWords r) arena w.no_words;

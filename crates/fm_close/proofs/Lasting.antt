@@ -135,27 +135,20 @@ through_by P but = record {
   at_give_back = λ pool p q id result s o a. but p q _ _ _ s a.did.goes a.did.rest o.no_slot a.outside.no_slot;
 }
 
-through : StandsThrough IsUnderWay
-unfolding StandsBut
-through = through_by IsUnderWay (λ p q own holds handles s g rest h k u. stands_by g (ap (λ (x : Rest). passed_of x.closes s.arena) rest) u)
-
 -- Holds and handles are no matter to sweeps.
 sweeps_but : (p q : View) (holds handles : List ArenaId) → rest_of q ≡ record (rest_of p) { holds = holds; handles = handles }
     → p.hand ≡ nothing → q.hand ≡ nothing → q.sweeps ≡ p.sweeps
 sweeps_but p q holds handles rest h k =
     same_sweeps p (record q { holds = p.holds; handles = p.handles }) (ap (λ (x : Rest). record x { holds = p.holds; handles = p.handles }) rest) h k
 
-ended_through : StandsThrough IsToSweep
-unfolding StandsBut
-ended_through = through_by IsToSweep (λ p q own holds handles s g rest h k u.
-    swept_by (sym (made_on g)) (ap (λ (cs : List Sweep). passed_of cs s.arena) (sweeps_but p q holds handles rest h k)) u)
-
 pub lasts : CloseLasts
+unfolding StandsBut
 lasts = record {
   stands = stands;
   beside = beside;
-  through = through;
+  through = through_by IsUnderWay (λ p q own holds handles s g rest h k u. stands_by g (ap (λ (x : Rest). passed_of x.closes s.arena) rest) u);
   ended = ended;
   ended_beside = ended_beside;
-  ended_through = ended_through;
+  ended_through = through_by IsToSweep (λ p q own holds handles s g rest h k u.
+      swept_by (sym (made_on g)) (ap (λ (cs : List Sweep). passed_of cs s.arena) (sweeps_but p q holds handles rest h k)) u);
 }

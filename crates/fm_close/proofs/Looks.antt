@@ -16,7 +16,8 @@ use Rattle.fm_rule_facts.specs.Steps.{Stepped, note_of, is_clear}
 use Rattle.fm_rule.specs.declared.pool.Pool.{Pool}
 use Rattle.fm_rule_calls.specs.Kept.{Goes, HasEnded}
 use Rattle.fm_rule_calls.specs.Told.{silent_view}
-use Rattle.fm_rule_calls.proofs.Going.{goes_of, made_by-one, NoDraws, rest_is, hand_is, inside_is, mark_is, closes_is, sweeps_is, known_on, lasts_on}
+use Rattle.fm_rule_calls.proofs.Going.{made_by-one, NoDraws, rest_is, hand_is, inside_is, mark_is, closes_is, sweeps_is, known_on, lasts_on}
+use Rattle.fm_rule_calls.proofs.Onward.{goes_step}
 use Rattle.fm_rule_calls.proofs.Telling.{silent_makes}
 use Rattle.fm_gate.specs.Needs.{IsOutside}
 use Rattle.fm_gate.proofs.Outside.{made_on, stands_outside, swept_is}
@@ -71,34 +72,9 @@ module _ {pool : Pool} {p q : View} {s : Shutting} (found : ℕ) (can : CanWalk 
       }
 
   goes_as : (v : closes.Visit) → visit_found p.shape s.arena s.next found ≡ v → Goes p q (visit_entries s.arena v p.caller)
-  goes_as closes.Inside e = goes_of (step_as closes.Inside e) (record {
-    shape = refl;
-    home = refl;
-    caller = refl;
-    gathered = refl;
-    whole = refl;
-    number = refl;
-    inside = refl;
-  }) refl (no_draw p s.arena s.next found)
-  goes_as closes.Next e = goes_of (step_as closes.Next e) (record {
-    shape = refl;
-    home = refl;
-    caller = refl;
-    gathered = refl;
-    whole = refl;
-    number = refl;
-    inside = refl;
-  }) refl (no_draw p s.arena s.next found)
-  goes_as closes.Ended e = goes_of (step_as closes.Ended e) (record {
-    shape = refl;
-    home = refl;
-    caller = refl;
-    gathered = refl;
-    whole = refl;
-    number = refl;
-    inside = refl;
-  })
-      (made_by-one p.caller (End s.arena) Fine) (no_draw p s.arena s.next found)
+  goes_as closes.Inside e = goes_step (step_as closes.Inside e) refl refl refl (no_draw p s.arena s.next found)
+  goes_as closes.Next e = goes_step (step_as closes.Next e) refl refl refl (no_draw p s.arena s.next found)
+  goes_as closes.Ended e = goes_step (step_as closes.Ended e) refl refl (made_by-one p.caller (End s.arena) Fine) (no_draw p s.arena s.next found)
 
   -- The arena has a slot of the pool.
   pub slot_low : s.arena.slot < 64

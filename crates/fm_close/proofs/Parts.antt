@@ -16,10 +16,11 @@ use Rattle.fm_rule_facts.proofs.Ending.{all_given}
 use Rattle.fm_rule_steps.proofs.Closes.{passed_of-found}
 use Rattle.fm_rule.specs.declared.pool.Pool.{Pool}
 use Rattle.fm_rule.specs.Passes.{IsOf}
-use Rattle.fm_rule_calls.proofs.Going.{goes_of, goes_none, goes_then, no_draws, made_by-one}
+use Rattle.fm_rule_calls.proofs.Going.{goes_none, goes_then, no_draws, made_by-one}
+use Rattle.fm_rule_calls.proofs.Onward.{goes_step}
 use Rattle.fm_rule_calls.proofs.Unlent.{given_on}
 use Rattle.fm_close.specs.Does.{IsBack, AreBacks}
-use Rattle.fm_close.specs.Sweeps.{SweepsOn, PartTaken, PartsTaken}
+use Rattle.fm_close.specs.Sweeps.{SweepsOn, SweepsPart, PartTaken, PartsTaken}
 use Rattle.fm_close.proofs.Closes.{passed_of-advanced, dropped-advanced}
 
 -- ---- steps in order
@@ -35,15 +36,7 @@ sweeps_none {p = p} sound h = record { goes = goes_none sound; is = λ j. record
 sweeps_step : {p q : View} {own : List Entry} {s : Swept} {cs : List Sweep} → made_by p.caller own ≡ own → p.inside ≡ inside_after p.inside own
     → Steps p q own s cs → SweepsOn p q own s cs
 sweeps_step {p = p} {q = q} {own = own} {s = s} {cs = cs} made inside t = record {
-  goes = goes_of t (record {
-    shape = refl;
-    home = refl;
-    caller = refl;
-    gathered = refl;
-    whole = refl;
-    number = refl;
-    inside = inside;
-  }) made no_draws;
+  goes = goes_step t refl inside made no_draws;
   is = t.is_part ∙ (λ j. record p { seen = q.seen; finds = sym (ap (λ (x : View). x.finds) t.is_part) j; swept = s; sweeps = cs });
 }
 
@@ -141,6 +134,11 @@ part_taken {p = p} {q = q} {r = r} {a = a} {page = page} t s =
       goes_on = subst (λ (y : Caller × List Sweep). SweepsOn p r (entry_of y.0 (Back page) Fine ∷ []) unread (advanced a y.1))
           (λ j. (caller_now t j, sweeps_now t j)) g;
     }
+
+-- The part is still the next one where the sweeps are as they were.
+pub part_still : {pool : Pool} {p q : View} {a : ArenaId} {part : ℕ} {s : Swept} → SweepsOn p q [] s p.sweeps → SweepsPart pool p a part
+    → SweepsPart pool q a part
+part_still {pool = pool} {a = a} {part = part} t h = record { of = of_still t pool h.of; sound = t.goes.sound; next = passed_still t a part h.next; low = h.low }
 
 -- ---- the parts in order
 

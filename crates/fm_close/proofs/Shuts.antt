@@ -3,6 +3,7 @@ use Rattle.std.proofs.Common.{◌≡◌, ℕ, ◌<◌, ◌==◌, false, if◌the
 use Rattle.std.proofs.lemmas.Bool.Decides.{nat_tests}
 use Rattle.std.specs.Prelude.{Ok, Err}
 use Rattle.fm_base.specs.declared.arena_id.ArenaId.{ArenaId}
+use Rattle.fm_base.specs.declared.refusal.Refusal.{Refusal}
 use Rattle.fm_base.specs.declared.refusal.Refusal.TheVariants as refusal
 use Rattle.fm_base.specs.Arenas.{MayUse}
 use Rattle.fm_base.specs.Calls.{Shut, Reply, Fine, Closed, Held, Entry, entry_of}
@@ -15,7 +16,8 @@ use Rattle.fm_rule_facts.specs.Steps.{Stepped, none_noted}
 use Rattle.fm_rule.specs.declared.pool.Pool.{Pool}
 use Rattle.fm_rule.specs.Passes.{IsOf}
 use Rattle.fm_rule_calls.specs.Kept.{Goes}
-use Rattle.fm_rule_calls.proofs.Going.{goes_of, goes_none, kept_none, made_by-one, no_draws, rest_is, hand_is, inside_is, mark_is, closes_is, sweeps_is, known_on, lasts_on}
+use Rattle.fm_rule_calls.proofs.Going.{goes_none, kept_none, made_by-one, no_draws, rest_is, hand_is, inside_is, mark_is, closes_is, sweeps_is, known_on, lasts_on}
+use Rattle.fm_rule_calls.proofs.Onward.{goes_step}
 use Rattle.fm_gate.specs.Makers.{Made, made_by_pass}
 use Rattle.fm_gate.specs.Needs.{IsOutside, CanVisit}
 use Rattle.fm_gate.proofs.Outside.{made_on, stands_outside, swept_is}
@@ -23,11 +25,11 @@ use Rattle.fm_close.specs.Does as does
 use Rattle.fm_close.specs.Learnt.{AfterShut}
 use Rattle.fm_close.proofs.Closes.{passed_of-begun}
 
--- What is learnt where the kind isn't closed by hand: no step was made.
-pub after_kind : {pool : Pool} {p : View} {a : ArenaId} → CanVisit pool p a → IsSound p → ¬ (IsClosable a.kind)
-    → AfterShut pool p p a (Err (refusal.CannotClose a.kind))
-after_kind can s kind = record {
-  did = kept_none _ _ s (kind, refl, refl);
+-- What is learnt where no step was made.
+unmoved : {pool : Pool} {p : View} {a : ArenaId} {r : Refusal} → CanVisit pool p a → IsSound p → does.DoesShut (made_by_pass p) a (Err r) []
+    → AfterShut pool p p a (Err r)
+unmoved can s shuts = record {
+  did = kept_none _ _ s shuts;
   sweeps = refl;
   walks = tt;
   outside = can.outside;
@@ -36,18 +38,15 @@ after_kind can s kind = record {
   lasts = lasts_on (goes_none s);
 }
 
--- And where the pass may not use the arena.
+-- Where the kind isn't closed by hand,
+pub after_kind : {pool : Pool} {p : View} {a : ArenaId} → CanVisit pool p a → IsSound p → ¬ (IsClosable a.kind)
+    → AfterShut pool p p a (Err (refusal.CannotClose a.kind))
+after_kind can s kind = unmoved can s (kind, refl, refl)
+
+-- and where the pass may not use the arena.
 pub after_wrong_thread : {pool : Pool} {p : View} {a : ArenaId} → CanVisit pool p a → IsSound p → IsClosable a.kind → ¬ (MayUse a p.caller)
     → AfterShut pool p p a (Err refusal.WrongThread)
-after_wrong_thread can s kind not_his = record {
-  did = kept_none _ _ s (kind, not_his, refl);
-  sweeps = refl;
-  walks = tt;
-  outside = can.outside;
-  wrong_thread = λ e. refl;
-  cannot_close = λ k e. refl;
-  lasts = lasts_on (goes_none s);
-}
+after_wrong_thread can s kind not_his = unmoved can s (kind, not_his, refl)
 
 -- The pass is still one of its pool.
 pub shut_of : (pool : Pool) {p q : View} {cs : List Close} {own : List Entry} → Stepped p q (record p { closes = cs }) own none_noted → IsOf pool p
@@ -65,15 +64,7 @@ module _ {pool : Pool} {p q : View} {a : ArenaId} (word : ℕ) (can : CanVisit p
   shut_as reply e = subst (λ (x : Reply). Stepped p q (record p { closes = begun a x p.closes }) (entry_of p.caller (Shut a) x ∷ []) none_noted) e s
 
   shut_goes : (reply : Reply) → shut_found (alive_holds a word) ≡ reply → Goes p q (entry_of p.caller (Shut a) reply ∷ [])
-  shut_goes reply e = goes_of (shut_as reply e) (record {
-    shape = refl;
-    home = refl;
-    caller = refl;
-    gathered = refl;
-    whole = refl;
-    number = refl;
-    inside = refl;
-  }) (made_by-one p.caller (Shut a) reply) no_draws
+  shut_goes reply e = goes_step (shut_as reply e) refl refl (made_by-one p.caller (Shut a) reply) no_draws
 
   still_outside : (reply : Reply) → shut_found (alive_holds a word) ≡ reply → IsOutside pool q
   still_outside reply e = stands_outside (shut_goes reply e) can.outside.of can.outside.no_number (hand_is s ∙ can.outside.no_slot)

@@ -14,7 +14,8 @@ use Rattle.fm_rule_facts.specs.Steps.{Stepped, none_noted}
 use Rattle.fm_rule_steps.proofs.Closes.{passed_of-found}
 use Rattle.fm_rule.specs.declared.pool.Pool.{Pool}
 use Rattle.fm_rule_calls.specs.Kept.{Goes, rest_of, slots_told, HasNoWords}
-use Rattle.fm_rule_calls.proofs.Going.{goes_of, goes_then, no_draws, lasts_on}
+use Rattle.fm_rule_calls.proofs.Going.{goes_then, no_draws, lasts_on}
+use Rattle.fm_rule_calls.proofs.Onward.{goes_step}
 use Rattle.fm_rule_calls.proofs.Unlent.{over_on, no_words_on, no_words_swept, has_ended}
 use Rattle.fm_gate.proofs.Outside.{stands_outside}
 use Rattle.fm_close.specs.declared.shutting.Shutting.{Shutting}
@@ -40,26 +41,10 @@ abbrev pub Gives : View → View → Type 0
 Gives p q = Quiet p q (record p { hand = nothing })
 
 retire_goes : {p q : View} (a : ArenaId) → Retires p q a → Goes p q []
-retire_goes a s = goes_of s (record {
-  shape = refl;
-  home = refl;
-  caller = refl;
-  gathered = refl;
-  whole = refl;
-  number = refl;
-  inside = refl;
-}) refl no_draws
+retire_goes a s = goes_step s refl refl refl no_draws
 
 give_goes : {p q : View} → Gives p q → Goes p q []
-give_goes s = goes_of s (record {
-  shape = refl;
-  home = refl;
-  caller = refl;
-  gathered = refl;
-  whole = refl;
-  number = refl;
-  inside = refl;
-}) refl no_draws
+give_goes s = goes_step s refl refl refl no_draws
 
 -- ---- the count of given bytes is reset, once no part has a page
 

@@ -140,32 +140,38 @@ finished {p = p} {q = q} {r = r} {s = s} {t = t} a is none w z =
       outside = z.outside;
     }
 
+-- From the shut of the arena to the end of its sweep: its Shut and its End then, and the close is gone
+module _ {pool : Pool} {p q r : View} {a i : ArenaId} (arena : i ≡ a) (shut : Goes p q (entry_of p.caller (Shut a) Fine ∷ []))
+    (begun : q.closes ≡ walk_of a 0 ∷ p.closes) (w : Finished pool q r i) where
+  pub closed_goes : Goes p r (entry_of p.caller (Shut a) Fine ∷ entry_of p.caller (End a) Fine ∷ w.backs)
+  closed_goes = goes_then shut (subst (λ (x : Caller × ArenaId). Goes q r (entry_of x.0 (End x.1) Fine ∷ w.backs)) (λ j. (shut.same_caller j, arena j)) w.goes)
+
+  pub closed_left : dropped i q.closes ≡ p.closes
+  closed_left = ap (λ (x : ArenaId). dropped x q.closes) arena ∙ (ap (dropped a) begun ∙ dropped-begun p.closes a)
+
 -- What is learnt where all marks were visited, and the arena was swept.
 pub after_walk : {pool : Pool} {p q r : View} {a : ArenaId} {s : Shutting} (u : Unit {0}) → AfterShut pool p q a (Ok s) → Finished pool q r s.arena
     → AfterClose pool p r a (Ok u)
 after_walk {p = p} {q = q} {r = r} {a = a} {s = s} u h w =
     let does = h.did.does in
     let arena : s.arena ≡ a = ap (λ (x : Shutting). x.arena) does.2 in
-    let g : Goes p q (entry_of p.caller (Shut a) Fine ∷ []) = subst (λ (es : List Entry). Goes p q es) does.3 h.did.goes in
-    let end : Goes q r (entry_of p.caller (End a) Fine ∷ w.backs) =
-    subst (λ (x : Caller × ArenaId). Goes q r (entry_of x.0 (End x.1) Fine ∷ w.backs)) (λ j. (g.same_caller j, arena j)) w.goes in
-    let closes : q.closes ≡ walk_of a 0 ∷ p.closes = ap (λ (x : Rest). x.closes) h.did.rest in
-    let left : dropped s.arena q.closes ≡ p.closes = ap (λ (i : ArenaId). dropped i q.closes) arena ∙ (ap (dropped a) closes ∙ dropped-begun p.closes a) in
-    let all = goes_then g end in
+    let shut : Goes p q (entry_of p.caller (Shut a) Fine ∷ []) = subst (λ (es : List Entry). Goes p q es) does.3 h.did.goes in
+    let begun : q.closes ≡ walk_of a 0 ∷ p.closes = ap (λ (x : Rest). x.closes) h.did.rest in
+    let goes = closed_goes arena shut begun w in
     record {
       did = record {
         own = entry_of p.caller (Shut a) Fine ∷ entry_of p.caller (End a) Fine ∷ w.backs;
         does = (does.0, does.1, ends_so p.caller a q.caller w.backs w.are);
-        goes = all;
+        goes = goes;
         rest = w.rest ∙ (ap (λ (x : Rest). record x { closes = dropped s.arena q.closes }) h.did.rest
-            ∙ ap (λ (xs : List Close). record (rest_of p) { closes = xs }) left);
+            ∙ ap (λ (xs : List Close). record (rest_of p) { closes = xs }) (closed_left arena shut begun w));
       };
       ended = subst (HasEnded r) arena w.over;
       no_words = subst (HasNoWords r) arena w.no_words;
       outside = w.outside;
       wrong_thread = λ e. absurd (cc);
       cannot_close = λ k e. absurd (cc);
-      lasts = lasts_on all;
+      lasts = lasts_on goes;
     }
 
 refused_does : (m : Made) (a : ArenaId) (refusal : Refusal) (own : List Entry) → DoesShut m a (Err refusal) own

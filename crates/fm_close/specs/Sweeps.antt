@@ -1,11 +1,13 @@
 -- What a pass does as it sweeps an arena that it ended.
-use Rattle.std.specs.Prelude.{◌≡◌, ℕ, List, Some}
+use Rattle.std.specs.Prelude.{◌≡◌, ◌<◌, ℕ, List, Some}
 use Rattle.fm_base.specs.declared.arena_id.ArenaId.{ArenaId}
 use Rattle.fm_base.specs.Calls.{Entry}
 use Rattle.fm_base.specs.Finds.{Sweep}
 use Rattle.fm_rule_facts.specs.Parts.{Swept, unread}
-use Rattle.fm_rule_facts.specs.Views.{View}
+use Rattle.fm_rule_facts.specs.Views.{View, IsSound}
 use Rattle.fm_rule_facts.specs.Closes.{passed_of, advanced, dropped}
+use Rattle.fm_rule.specs.declared.pool.Pool.{Pool}
+use Rattle.fm_rule.specs.Passes.{IsOf}
 use Rattle.fm_rule_calls.specs.Kept.{Goes}
 use Rattle.fm_close.specs.Does.{AreBacks}
 
@@ -13,6 +15,13 @@ use Rattle.fm_close.specs.Does.{AreBacks}
 pub record SweepsOn (old new : View) (own : List Entry) (swept : Swept) (sweeps : List Sweep) : Type 0 where
   pub goes : Goes old new own
   pub is : new ≡ record old { seen = new.seen; finds = new.finds; swept = swept; sweeps = sweeps }
+
+-- the pass sweeps the arena, and this part is the next one
+pub record SweepsPart (pool : Pool) (p : View) (id : ArenaId) (part : ℕ) : Type 0 where
+  pub of : IsOf pool p
+  pub sound : IsSound p
+  pub next : passed_of p.sweeps id ≡ Some part
+  pub low : part < pool.shape.reach
 
 -- the next part of the arena has no page any more
 pub record PartTaken (old new : View) (id : ArenaId) : Type 0 where

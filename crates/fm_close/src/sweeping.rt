@@ -4,7 +4,7 @@ ghost use Rattle.fm_rule_facts.specs.Views.{IsSound, given_of};
 ghost use Rattle.fm_rule_facts.specs.Closes.{passed_of};
 ghost use Rattle.fm_rule.specs.Passes.{IsOf};
 ghost use Rattle.fm_close.specs.Learnt.{AfterSweep, CanSweep};
-ghost use Rattle.fm_close.specs.Sweeps.{SweepsOn, PartTaken, PartsTaken};
+ghost use Rattle.fm_close.specs.Sweeps.{SweepsOn, SweepsPart, PartTaken, PartsTaken};
 
 use crate::shutting::Shutting;
 use fm_base::ArenaId;
@@ -54,10 +54,7 @@ fn take_pages_back(pool: &Pool, pass: &mut Pass, id: ArenaId, given: u64)
 
 /// Takes back the page of this part of the arena, where it has one.
 fn take_back(pool: &Pool, pass: &mut Pass, id: ArenaId, part: u32, given: u64)
-    requires of { IsOf pool.now pass.old }
-    requires sound { IsSound pass.old }
-    requires sweep { passed_of pass.old.sweeps id ≡ Some part }
-    requires low { part < pool.now.shape.reach }
+    requires part { SweepsPart pool.now pass.old id part }
     requires idle { pass.old.swept ≡ unread }
     requires gave { given_of pass.old id ≡ given }
     ensures { PartTaken pass.old pass.new id }
@@ -87,10 +84,7 @@ fn given_words(given: u64, part: u32, size: u32) -> u32
 
 /// Makes the first words of the page 0, so many of them.
 fn wipe(pool: &Pool, pass: &mut Pass, id: ArenaId, part: u32, page: u32, words: u32)
-    requires of { IsOf pool.now pass.old }
-    requires sound { IsSound pass.old }
-    requires sweep { passed_of pass.old.sweeps id ≡ Some part }
-    requires low { part < pool.now.shape.reach }
+    requires part { SweepsPart pool.now pass.old id part }
     requires begun { pass.old.swept ≡ wiping id part page 0 }
     requires few { words ≤ pool.now.shape.page_words }
     ensures { SweepsOn pass.old pass.new [] (wiping id part page words) pass.old.sweeps }

@@ -2,21 +2,23 @@
 use Rattle.std.proofs.Common.{◌≡◌, ℕ, ◌/◌, ◌%◌, ◌<◌, List, [], refl, ap, sym, ◌∙◌, subst, ⊎_elim, Option, Some, None, inl}
 use Rattle.fm_base.specs.declared.caller.Caller.{Caller}
 use Rattle.fm_base.specs.declared.arena_id.ArenaId.{ArenaId}
-use Rattle.fm_base.specs.Calls.{Call, Leave, Reply, Fine, Entry}
+use Rattle.fm_base.specs.Calls.{Call, Leave, Reply, Fine}
 use Rattle.fm_base.specs.View.{inside_after, inside_next}
 use Rattle.fm_base.specs.Does.{DoesAct}
 use Rattle.fm_words.specs.declared.shape.Shape.{Shape}
 use Rattle.fm_words.specs.Places.{at, page_word}
 use Rattle.fm_rule_facts.specs.Parts.{Mapping, mapping_of}
 use Rattle.fm_rule_facts.specs.Views.{View, In}
-use Rattle.fm_rule_facts.specs.Steps.{Stepped, CanReach as HasGiven, HasPlace, none_noted, acted}
+use Rattle.fm_rule_facts.specs.Steps.{Stepped, HasPlace, none_noted, acted}
 use Rattle.fm_rule.specs.declared.pool.Pool.{Pool}
 use Rattle.fm_rule.specs.Passes.{IsOf}
 use Rattle.fm_rule_calls.specs.Kept.{Goes, rest_of}
-use Rattle.fm_rule_calls.proofs.Going.{goes_of, goes_then, made_by-acted, no_draws, rest_is, hand_is, inside_is, mark_is, lasts_on}
+use Rattle.fm_rule_calls.proofs.Going.{goes_then, made_by-acted, no_draws, rest_is, hand_is, inside_is, mark_is, lasts_on}
+use Rattle.fm_rule_calls.proofs.Onward.{goes_step}
 use Rattle.fm_pages.specs.Places.{CanFind, Placed}
 use Rattle.fm_gate.specs.Needs.{CanReach, CanLeave}
 use Rattle.fm_gate.specs.Learnt.{AfterAct, AfterLeave}
+use Rattle.fm_gate.specs.Reaching.{Found, Reached}
 use Rattle.fm_gate.proofs.Outside.{swept_is, stands_outside, stands_inside}
 
 -- The call neither comes into an arena nor leaves one
@@ -32,11 +34,6 @@ does_act i id c f reply e = subst (λ (x : Option ArenaId). DoesAct x c f reply 
 
 -- ---- an act
 
--- The pass has come from p to m without entries, and has read no more than map words: where it goes from there it goes from p
-pub record Found (p m : View) : Type 0 where
-  pub onward : (q : View) (own : List Entry) → Goes m q own → Goes p q own
-  pub is : m ≡ record p { seen = m.seen; finds = m.finds; reads = m.reads }
-
 -- It has made no step.
 pub found_here : {p m : View} → m ≡ p → Found p m
 found_here {p = p} e = record {
@@ -49,17 +46,9 @@ found_here {p = p} e = record {
 }
 
 -- It has read a map word.
-pub found_by : {p m : View} (reads : List Mapping) → Stepped p m (record p { reads = reads }) [] none_noted → Found p m
+found_by : {p m : View} (reads : List Mapping) → Stepped p m (record p { reads = reads }) [] none_noted → Found p m
 found_by {p = p} {m = m} reads s =
-    let g : Goes p m [] = goes_of s (record {
-      shape = refl;
-      home = refl;
-      caller = refl;
-      gathered = refl;
-      whole = refl;
-      number = refl;
-      inside = refl;
-    }) refl no_draws in
+    let g : Goes p m [] = goes_step s refl refl refl no_draws in
     record {
       onward = λ q own h. goes_then g h;
       is = s.is_part ∙ (λ j. record p {
@@ -70,7 +59,7 @@ found_by {p = p} {m = m} reads s =
     }
 
 -- Where a word was found.
-pub found_word : {p m : View} {word place : ℕ} → Placed p m word place → Found p m
+found_word : {p m : View} {word place : ℕ} → Placed p m word place → Found p m
 found_word {p = p} {m = m} at = ⊎_elim
     (λ (e : m ≡ p). found_here e)
     (λ (s : (reads : List Mapping) × Stepped p m (record p { reads = reads }) [] none_noted). found_by s.0 s.1)
@@ -81,27 +70,21 @@ pub can_find : {pool : Pool} {p : View} {word : ℕ} → CanReach pool p word �
 can_find r = record { id = r.id; inside = r.inside.inside; part = inl r.given }
 
 -- and be reached where it was found.
-pub found_reach : {pool : Pool} {p m : View} {word place : ℕ} → CanReach pool p word → Placed p m word place → HasGiven m word
-found_reach r at = at.reach (record { id = r.id; inside = r.inside.inside; given = r.given })
-
--- It is still one of its pool.
-pub found_of : (pool : Pool) {p m : View} → Found p m → IsOf pool p → IsOf pool m
-found_of pool w of = subst (λ (x : View). IsOf pool x) (sym w.is) of
+pub reached : {pool : Pool} {p m : View} {word place : ℕ} → CanReach pool p word → Placed p m word place → Reached pool p m word place
+reached {pool = pool} r at =
+    let w = found_word at in
+    record {
+      found = w;
+      of = subst (λ (x : View). IsOf pool x) (sym w.is) r.inside.of;
+      given = at.reach (record { id = r.id; inside = r.inside.inside; given = r.given });
+      place = at.place;
+    }
 
 module _ {p m q : View} {f : ArenaId → Call} {reply : Reply} (is : IsAct f reply) (w : Found p m)
     (s : Stepped m q m (acted m.inside m.caller f reply) none_noted) where
   pub act_goes : Goes p q (acted p.inside p.caller f reply)
   act_goes =
-      let g : Goes m q (acted m.inside m.caller f reply) = goes_of s (record {
-        shape = refl;
-        home = refl;
-        caller = refl;
-        gathered = refl;
-        whole = refl;
-        number = refl;
-        inside = inside_acted m.inside m.caller f reply is;
-      })
-      (made_by-acted m.inside m.caller f reply) no_draws in
+      let g : Goes m q (acted m.inside m.caller f reply) = goes_step s refl (inside_acted m.inside m.caller f reply is) (made_by-acted m.inside m.caller f reply) no_draws in
       subst (λ (x : View). Goes p q (acted x.inside x.caller f reply)) w.is (w.onward q (acted m.inside m.caller f reply) g)
 
   -- What is learnt of one act.
@@ -139,16 +122,7 @@ leaves_to (Some a) c = refl
 module _ {p q : View} (s : Stepped p q (record p { inside = None; mark = None }) (acted p.inside p.caller Leave Fine) none_noted) where
   -- To clear the mark is to leave the arena that the pass is inside.
   pub unmark_goes : Goes p q (acted p.inside p.caller Leave Fine)
-  unmark_goes = goes_of s (record {
-    shape = refl;
-    home = refl;
-    caller = refl;
-    gathered = refl;
-    whole = refl;
-    number = refl;
-    inside = leaves_to p.inside p.caller;
-  })
-      (made_by-acted p.inside p.caller Leave Fine) no_draws
+  unmark_goes = goes_step s refl (leaves_to p.inside p.caller) (made_by-acted p.inside p.caller Leave Fine) no_draws
 
   -- What is learnt of `leave`.
   pub after_leave : {pool : Pool} → CanLeave pool p → AfterLeave pool p q

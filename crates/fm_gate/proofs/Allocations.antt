@@ -31,15 +31,17 @@ nothing r = Err r
 
 -- ---- refused before the arena is entered
 
-pub after_bad : {pool : Pool} {p : View} {a : ArenaId} {size align : ℕ} → CanAllocate pool p a → IsSound p → ¬ (IsPower align)
-    → AfterAllocate pool p p a size align (Err refusal.BadAlignment)
-after_bad {p = p} can s n = record {
-  did = record { own = []; does = (n, refl); goes = goes_none s; rest = refl };
+-- What is learnt where no step was made.
+unmoved : {pool : Pool} {p : View} {a : ArenaId} {size align : ℕ} {r : Refusal} → CanAllocate pool p a → IsSound p
+    → DoesAllocate p.caller a size align (Err r) [] → err r ≢ err refusal.Closed → r ≢ refusal.Memory → err r ≢ err refusal.PoolFull
+    → FullExactly p a size align (Err r) → AfterAllocate pool p p a size align (Err r)
+unmoved can s does no_close never some exact = record {
+  did = record { own = []; does = does; goes = goes_none s; rest = refl };
   gives = tt;
-  held = λ i e. absurd (cc);
-  never = λ e. absurd (cc);
-  no_page = λ e. absurd (cc);
-  exact = λ w c s. tt;
+  held = λ i. no_close;
+  never = never;
+  no_page = λ e. absurd (some e);
+  exact = λ w c n. exact;
   lends = λ e i loan. absurd i;
   bad_alignment = λ e. refl;
   wrong_thread = λ e. refl;
@@ -47,21 +49,13 @@ after_bad {p = p} can s n = record {
   lasts = lasts_on (goes_none s);
 }
 
+pub after_bad : {pool : Pool} {p : View} {a : ArenaId} {size align : ℕ} → CanAllocate pool p a → IsSound p → ¬ (IsPower align)
+    → AfterAllocate pool p p a size align (Err refusal.BadAlignment)
+after_bad can s n = unmoved can s (n, refl) (λ e. absurd (cc)) (λ e. absurd (cc)) (λ e. absurd (cc)) tt
+
 pub after_not_his : {pool : Pool} {p : View} {a : ArenaId} {size align : ℕ} → CanAllocate pool p a → IsSound p → IsPower align → ¬ (MayUse a p.caller)
     → AfterAllocate pool p p a size align (Err refusal.WrongThread)
-after_not_his can s power n = record {
-  did = record { own = []; does = (power, n, refl); goes = goes_none s; rest = refl };
-  gives = tt;
-  held = λ i e. absurd (cc);
-  never = λ e. absurd (cc);
-  no_page = λ e. absurd (cc);
-  exact = λ w c s. tt;
-  lends = λ e i loan. absurd i;
-  bad_alignment = λ e. refl;
-  wrong_thread = λ e. refl;
-  outside = can.visit.outside;
-  lasts = lasts_on (goes_none s);
-}
+after_not_his can s power n = unmoved can s (power, n, refl) (λ e. absurd (cc)) (λ e. absurd (cc)) (λ e. absurd (cc)) tt
 
 -- What is learnt where the arena couldn't be entered.
 pub after_no_entrance : {pool : Pool} {p q : View} {a : ArenaId} {size align : ℕ} (r : Refusal) → IsPower align → AfterEnter pool p q a (Err r)
@@ -138,37 +132,24 @@ keeps : Entry → Bool
 keeps e = not (is_loan e.call)
 
 -- What is left of a visit in which loans came first.
-visit_loans : (c : Caller) (a : ArenaId) (lends acts : List Entry) → All (LendsTo c a) lends
-    → but_loans (entry_of c (Enter a) Fine ∷ (lends ++ acts) ++ entry_of c (Leave a) Fine ∷ [])
+visit_so : (c : Caller) (a : ArenaId) (lends acts : List Entry) {own : List Entry} → All (LendsTo c a) lends → own ≡ lends ++ acts
+    → but_loans (entry_of c (Enter a) Fine ∷ own ++ entry_of c (Leave a) Fine ∷ [])
     ≡ entry_of c (Enter a) Fine ∷ but_loans acts ++ entry_of c (Leave a) Fine ∷ []
 unfolding keeps
-visit_loans c a lends acts h =
+visit_so c a lends acts h is =
     let left : List Entry = entry_of c (Leave a) Fine ∷ [] in
-    ap (λ (es : List Entry). entry_of c (Enter a) Fine ∷ es)
+    ap (λ (es : List Entry). but_loans (entry_of c (Enter a) Fine ∷ es ++ left)) is ∙ ap (λ (es : List Entry). entry_of c (Enter a) Fine ∷ es)
     (filter-append keeps (lends ++ acts) left
     ∙ ap (λ (es : List Entry). es ++ left) (filter-append keeps lends acts ∙ ap (λ (es : List Entry). es ++ but_loans acts) (no_loans c a lends h)))
 
 pub alike : (c : Caller) (a : ArenaId) (size align : ℕ) (result : Result ℕ Refusal) (own : List Entry) → IsPower align → MayUse a c
     → DoesGive c a size align result own
     → DoesAllocate c a size align result (but_loans (entry_of c (Enter a) Fine ∷ own ++ entry_of c (Leave a) Fine ∷ []))
-alike c a size align (Ok place) own power may d = (
-  power,
-  may,
-  ap (λ (es : List Entry). but_loans (entry_of c (Enter a) Fine ∷ es ++ entry_of c (Leave a) Fine ∷ [])) d.is
-      ∙ visit_loans c a d.lends (entry_of c (Allocate a size align) (Given place) ∷ []) d.are,
-)
-alike c a size align (Err (refusal.NoRoom given)) own power may d = (
-  power,
-  may,
-  ap (λ (es : List Entry). but_loans (entry_of c (Enter a) Fine ∷ es ++ entry_of c (Leave a) Fine ∷ [])) d.is
-      ∙ visit_loans c a d.lends (entry_of c (Allocate a size align) (NoRoom given) ∷ []) d.are,
-)
-alike c a size align (Err refusal.PoolFull) own power may d = (
-  power,
-  may,
-  ap (λ (es : List Entry). but_loans (entry_of c (Enter a) Fine ∷ es ++ entry_of c (Leave a) Fine ∷ [])) (sym (append-nil own))
-      ∙ visit_loans c a own [] d,
-)
+alike c a size align (Ok place) own power may d =
+    (power, may, visit_so c a d.lends (entry_of c (Allocate a size align) (Given place) ∷ []) d.are d.is)
+alike c a size align (Err (refusal.NoRoom given)) own power may d =
+    (power, may, visit_so c a d.lends (entry_of c (Allocate a size align) (NoRoom given) ∷ []) d.are d.is)
+alike c a size align (Err refusal.PoolFull) own power may d = (power, may, visit_so c a own [] d (sym (append-nil own)))
 alike c a size align (Err r) own power may d = absurd d
 
 pub never_so : (c : Caller) (a : ArenaId) (size align : ℕ) (result : Result ℕ Refusal) (own : List Entry) → DoesGive c a size align result own

@@ -25,7 +25,8 @@ use Rattle.fm_rule_steps.proofs.Reading.{eqb_true}
 use Rattle.fm_rule.specs.declared.pool.Pool.{Pool}
 use Rattle.fm_rule.specs.Passes.{IsOf}
 use Rattle.fm_rule_calls.specs.Kept.{Goes}
-use Rattle.fm_rule_calls.proofs.Going.{NoDraws, IsOn, goes_of, goes_then, no_draws, made_by-one}
+use Rattle.fm_rule_calls.proofs.Going.{NoDraws, goes_then, no_draws, made_by-one}
+use Rattle.fm_rule_calls.proofs.Onward.{goes_step}
 use Rattle.fm_gate.specs.Slots.{Went, SlotTaken, NoneTaken, OpenedIn}
 
 -- ---- the exchanges
@@ -36,10 +37,6 @@ Takes p q word bit found = Stepped p q (record p { hand = hand_taken (takes word
 -- What such a step notes is no draw.
 no_draw : (p : View) (word bit found : ℕ) → NoDraws (note_of (TakesSlot word bit) found p)
 no_draw p word bit found n = All-cons (λ f. is_draw f.step ≡ false) _ [] refl (All-nil (λ f. is_draw f.step ≡ false))
-
--- It leaves all else of the pass.
-hand_on : (p : View) (hand : Hand) → IsOn p (record p { hand = hand }) []
-hand_on p hand = record { shape = refl; home = refl; caller = refl; gathered = refl; whole = refl; number = refl; inside = refl }
 
 -- the pass has come from p to q by exchanges that took nothing
 pub record Bidding (pool : Pool) (p q : View) : Type 0 where
@@ -91,7 +88,7 @@ module _ {pool : Pool} {o p q : View} (word bit found : ℕ) (b : Bidding pool o
   went_to : (hand : Hand) → hand_taken (takes word bit found) bit p.hand ≡ hand → Went o q hand
   went_to hand e =
       let t = step_to hand e in
-      let g : Goes p q [] = goes_of t (hand_on p hand) refl (no_draw p word bit found) in
+      let g : Goes p q [] = goes_step t refl refl refl (no_draw p word bit found) in
       let is : q ≡ record p { seen = q.seen; finds = q.finds; hand = hand } =
       t.is_part ∙ ap (λ (fs : List Find). record p { seen = q.seen; finds = fs; hand = hand }) (sym (ap (λ (x : View). x.finds) t.is_part)) in
       ⊎_elim
@@ -173,16 +170,8 @@ pub opened_in : {p m q : View} {kind : Kind} {a : ArenaId} (slot generation : �
     → Stepped m q (record m { hand = nothing; handles = handles_with a m.handles }) (entry_of m.caller (Open a) Fine ∷ []) none_noted
     → a.kind ≡ kind → owner_of a ≡ m.caller → OpenedIn p q slot kind a
 opened_in {p = p} {m = m} {q = q} {kind = kind} {a = a} slot generation learns opens k o =
-    let g : Goes p m [] = goes_of learns (hand_on p (learnt slot generation)) refl no_draws in
-    let h : Goes m q (entry_of m.caller (Open a) Fine ∷ []) = goes_of opens (record {
-      shape = refl;
-      home = refl;
-      caller = refl;
-      gathered = refl;
-      whole = refl;
-      number = refl;
-      inside = refl;
-    }) (made_by-one m.caller (Open a) Fine) no_draws in
+    let g : Goes p m [] = goes_step learns refl refl refl no_draws in
+    let h : Goes m q (entry_of m.caller (Open a) Fine ∷ []) = goes_step opens refl refl (made_by-one m.caller (Open a) Fine) no_draws in
     let c : m.caller ≡ p.caller = g.same_caller in
     record {
       goes = goes_then g (subst (λ (x : Caller). Goes m q (entry_of x (Open a) Fine ∷ [])) c h);

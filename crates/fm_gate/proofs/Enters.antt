@@ -14,7 +14,8 @@ use Rattle.fm_rule_facts.specs.Words.{alive_holds, enter_found, inside_found}
 use Rattle.fm_rule_facts.specs.Steps.{Stepped, none_noted, acted}
 use Rattle.fm_rule.specs.declared.pool.Pool.{Pool}
 use Rattle.fm_rule_calls.specs.Kept.{Goes, rest_of}
-use Rattle.fm_rule_calls.proofs.Going.{IsOn, goes_of, goes_then, goes_none, kept_none, made_by-one, no_draws, rest_is, hand_is, inside_is, mark_is, lasts_on}
+use Rattle.fm_rule_calls.proofs.Going.{goes_then, goes_none, kept_none, made_by-one, no_draws, rest_is, hand_is, inside_is, mark_is, lasts_on}
+use Rattle.fm_rule_calls.proofs.Onward.{goes_step}
 use Rattle.fm_gate.specs.Needs.{CanVisit}
 use Rattle.fm_gate.specs.Learnt.{AfterEnter}
 use Rattle.fm_gate.proofs.Outside.{swept_is, stands_outside, stands_inside}
@@ -35,15 +36,7 @@ after_wrong_thread can s not_his = record {
 
 -- To publish a mark makes no entry.
 pub mark_goes : {p q : View} {a : ArenaId} → Stepped p q (record p { mark = Some a }) [] none_noted → Goes p q []
-mark_goes s = goes_of s (record {
-  shape = refl;
-  home = refl;
-  caller = refl;
-  gathered = refl;
-  whole = refl;
-  number = refl;
-  inside = refl;
-}) refl no_draws
+mark_goes s = goes_step s refl refl refl no_draws
 
 module _ {pool : Pool} {p q r : View} {a : ArenaId} (word : ℕ) (can : CanVisit pool p a) (may : MayUse a p.caller)
     (marks : Stepped p q (record p { mark = Some a }) [] none_noted)
@@ -71,16 +64,7 @@ module _ {pool : Pool} {p q r : View} {a : ArenaId} (word : ℕ) (can : CanVisit
       (record q { inside = inside_found a (alive_holds a word); reads = [] }) (entry_of c (Enter a) (enter_found (alive_holds a word)) ∷ []) none_noted)
       n checks) in
       let out = ap (λ x. inside_after x own) (sym (marked.inside ∙ can.outside.outside)) in
-      let on : IsOn q (record q { inside = inside_found a found; reads = [] }) own = record {
-        shape = refl;
-        home = refl;
-        caller = refl;
-        gathered = refl;
-        whole = refl;
-        number = refl;
-        inside = i ∙ out;
-      } in
-      goes_then marked (goes_of s on (ap (λ c. made_by c own) n ∙ made_by-one p.caller (Enter a) (enter_found found)) no_draws)
+      goes_then marked (goes_step s refl (i ∙ out) (ap (λ c. made_by c own) n ∙ made_by-one p.caller (Enter a) (enter_found found)) no_draws)
 
   -- What is learnt where the arena was alive.
   pub after_alive : {holds : ℕ} → alive_holds a word ≡ Some holds → (u : Unit {0}) → AfterEnter pool p r a (Ok u)

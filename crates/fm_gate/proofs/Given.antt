@@ -18,8 +18,8 @@ use Rattle.fm_pages.specs.Gives.{Unpaged}
 use Rattle.fm_pages.specs.Maps.{Way}
 use Rattle.fm_pages.proofs.Looking.{all_earlier}
 use Rattle.fm_pages.proofs.Parts.{way_then, pages_way}
-use Rattle.fm_gate.specs.Giving.{NonePaged, AfterGive}
-use Rattle.fm_gate.specs.Pages.{IsInRange, LendsInRange, given_after}
+use Rattle.fm_gate.specs.Giving.{DoesGive, NonePaged, AfterGive}
+use Rattle.fm_gate.specs.Pages.{FullExactly, IsInRange, LendsInRange, given_after}
 use Rattle.fm_gate.proofs.Gives.{Giving, count_is, inside_on, rest_on, lends_for, lent_way, lends_to, more_lent}
 use Rattle.fm_gate.proofs.Scarce.{scarce_seen, clear}
 
@@ -74,40 +74,31 @@ module _ {pool : Pool} {o p : View} {a : ArenaId} {size align count found : ℕ}
     lends_before reply x i loan = ⊎_elim (λ l. each (LendsInRange o p a size align) g.own g.in_range x l)
         (λ r. absurd (no_loan reply x r loan)) (in_append x g.own (entry_of o.caller (Allocate a size align) reply ∷ []) i)
 
+    -- What is learnt of such an answer.
+    after_exchange : (reply : Reply) (result : Result ℕ Refusal) → allocate_reply (limit_of o.shape) count size align ≡ reply
+        → DoesGive o.caller a size align result (g.own ++ entry_of o.caller (Allocate a size align) reply ∷ []) → result ≢ full
+        → (o.whole ≡ true → FullExactly o a size align result) → AfterGive pool o p a size align result
+    after_exchange reply result is does some exact =
+        let w = answered reply is in
+        record {
+          did = record { own = g.own ++ entry_of o.caller (Allocate a size align) reply ∷ []; does = does; goes = w.goes; rest = rest_on w none };
+          inside = g.inside;
+          no_page = λ q. absurd (some q);
+          exact = λ w c s. exact w;
+          lends = lends_before reply;
+        }
+
     -- What is learnt where the range fits.
     pub after_fits : (place : ℕ) → Some place ≡ room limit count size align → AfterGive pool o p a size align (Ok place)
-    after_fits place r =
-        let w = answered (Given place)
-        (given_reply (limit_of o.shape) count size align place (r ∙ ap (λ (n : ℕ). room n count size align) limit_is)) in
-        record {
-          did = record {
-            own = g.own ++ entry_of o.caller (Allocate a size align) (Given place) ∷ [];
-            does = record { lends = g.own; are = g.are; is = refl };
-            goes = w.goes;
-            rest = rest_on w none;
-          };
-          inside = g.inside;
-          no_page = λ q. absurd (cc);
-          exact = λ w c s. g.exact w e;
-          lends = lends_before (Given place);
-        }
+    after_fits place r = after_exchange (Given place) (Ok place)
+        (given_reply (limit_of o.shape) count size align place (r ∙ ap (λ (n : ℕ). room n count size align) limit_is))
+        (record { lends = g.own; are = g.are; is = refl }) (λ q. absurd (cc)) (λ w. g.exact w e)
 
     -- And where it doesn't.
     pub after_past : None ≡ room limit count size align → AfterGive pool o p a size align (Err (refusal.NoRoom count))
-    after_past r =
-        let w = answered (NoRoom count) (full_reply (limit_of o.shape) count size align (r ∙ ap (λ (n : ℕ). room n count size align) limit_is)) in
-        record {
-          did = record {
-            own = g.own ++ entry_of o.caller (Allocate a size align) (NoRoom count) ∷ [];
-            does = record { lends = g.own; are = g.are; is = refl };
-            goes = w.goes;
-            rest = rest_on w none;
-          };
-          inside = g.inside;
-          no_page = λ q. absurd (cc);
-          exact = λ w c s. g.exact w e;
-          lends = lends_before (NoRoom count);
-        }
+    after_past r = after_exchange (NoRoom count) (Err (refusal.NoRoom count))
+        (full_reply (limit_of o.shape) count size align (r ∙ ap (λ (n : ℕ). room n count size align) limit_is))
+        (record { lends = g.own; are = g.are; is = refl }) (λ q. absurd (cc)) (λ w. g.exact w e)
 
   -- ---- no page was free
 
@@ -132,22 +123,24 @@ module _ {pool : Pool} {o p : View} {a : ArenaId} {size align count found : ℕ}
         let x = u.lacks.none in
         record {
           found = all_earlier before.goes x.found;
-          counted = p.seen;
-          count_stood = record { since = (before.goes.more, before.goes.seen); until = (u.way.goes.more, u.way.goes.seen) };
-          part = u.lacks.part;
-          in_range = in_range;
-          at = x.before;
-          later = x.later;
-          at_stood = record {
-            since = (
-              before.goes.more ++ x.since.0,
-              x.since.1 ∙ (ap (λ (es : List Entry). es ++ x.since.0) before.goes.seen ∙ append_assoc o.seen before.goes.more x.since.0),
-            );
-            until = (x.later, x.seen);
+          lacked = record {
+            counted = p.seen;
+            count_stood = record { since = (before.goes.more, before.goes.seen); until = (u.way.goes.more, u.way.goes.seen) };
+            part = u.lacks.part;
+            in_range = in_range;
+            at = x.before;
+            later = x.later;
+            at_stood = record {
+              since = (
+                before.goes.more ++ x.since.0,
+                x.since.1 ∙ (ap (λ (es : List Entry). es ++ x.since.0) before.goes.seen ∙ append_assoc o.seen before.goes.more x.since.0),
+              );
+              until = (x.later, x.seen);
+            };
+            seen = x.seen;
+            lacked = x.lacked;
+            own = subst (λ (c : Caller). made_by c x.later ≡ []) before.goes.same_caller x.quiet;
           };
-          seen = x.seen;
-          lacked = x.lacked;
-          quiet = subst (λ (c : Caller). made_by c x.later ≡ []) before.goes.same_caller x.quiet;
         }
 
     -- What is learnt then.

@@ -15,7 +15,8 @@ use Rattle.fm_rule_facts.specs.Steps.{Stepped, none_noted}
 use Rattle.fm_rule_facts.proofs.Gripping.{holds_are, with_holds}
 use Rattle.fm_rule.specs.declared.pool.Pool.{Pool}
 use Rattle.fm_rule_calls.specs.Kept.{Goes, rest_of}
-use Rattle.fm_rule_calls.proofs.Going.{goes_of, goes_none, no_draws, made_by-one, rest_is, hand_is, inside_is, mark_is, known_on, lasts_on}
+use Rattle.fm_rule_calls.proofs.Going.{goes_none, kept_none, no_draws, made_by-one, rest_is, hand_is, inside_is, mark_is, known_on, lasts_on}
+use Rattle.fm_rule_calls.proofs.Onward.{goes_step}
 use Rattle.fm_gate.specs.declared.held.Hold.{Hold as TheHold}
 use Rattle.fm_gate.specs.Makers.{made_by_pass}
 use Rattle.fm_gate.specs.Needs.{IsOutside, CanVisit, CanUnhold}
@@ -23,36 +24,33 @@ use Rattle.fm_gate.specs.Learnt.{AfterHold, AfterTake, AfterUnhold, DoesTake}
 use Rattle.fm_gate.proofs.Outside.{swept_is, stands_outside, stands_inside}
 use Rattle.fm_gate.proofs.Takes.{hold_full, hold_fine}
 
+abbrev err : Refusal → Result TheHold Refusal
+err r = Err r
+
 -- ---- refused before a step
+
+-- What is learnt where no step was made.
+unmoved : {pool : Pool} {p : View} {a : ArenaId} {r : Refusal} → CanVisit pool p a → IsSound p → DoesTake p.caller a (Err r) [] → err r ≢ err refusal.Closed
+    → AfterHold pool p p a (Err r)
+unmoved can s does no_close = record {
+  did = kept_none _ _ s does;
+  held = tt;
+  alive = λ i. no_close;
+  unsupported = λ e. refl;
+  wrong_thread = λ e. refl;
+  outside = can.outside;
+  lasts = lasts_on (goes_none s);
+}
 
 pub after_unsupported : {pool : Pool} {p : View} {a : ArenaId} → CanVisit pool p a → IsSound p → a.kind ≡ Automatic
     → AfterHold pool p p a (Err refusal.Unsupported)
-after_unsupported can s k = record {
-  did = record { own = []; does = (k, refl); goes = goes_none s; rest = refl };
-  held = tt;
-  alive = λ i e. absurd (cc);
-  unsupported = λ e. refl;
-  wrong_thread = λ e. refl;
-  outside = can.outside;
-  lasts = lasts_on (goes_none s);
-}
+after_unsupported can s k = unmoved can s (k, refl) (λ e. absurd (cc))
 
 pub after_not_his : {pool : Pool} {p : View} {a : ArenaId} → CanVisit pool p a → IsSound p → a.kind ≢ Automatic → ¬ (MayUse a p.caller)
     → AfterHold pool p p a (Err refusal.WrongThread)
-after_not_his can s k n = record {
-  did = record { own = []; does = (k, (n, refl)); goes = goes_none s; rest = refl };
-  held = tt;
-  alive = λ i e. absurd (cc);
-  unsupported = λ e. refl;
-  wrong_thread = λ e. refl;
-  outside = can.outside;
-  lasts = lasts_on (goes_none s);
-}
+after_not_his can s k n = unmoved can s (k, (n, refl)) (λ e. absurd (cc))
 
 -- ---- after the exchange
-
-abbrev err : Refusal → Result TheHold Refusal
-err r = Err r
 
 module _ {pool : Pool} {p q : View} {a : ArenaId} {word : ℕ} (can : CanVisit pool p a) (kind : a.kind ≢ Automatic) (may : MayUse a p.caller)
     (t : AfterTake p q a word) where
@@ -129,15 +127,7 @@ pub after_unhold : {pool : Pool} {p q : View} {hold : TheHold} → CanUnhold poo
     → Stepped p q (record p { holds = released hold.arena p.holds }) (entry_of p.caller (Unhold hold.arena) Fine ∷ []) none_noted
     → AfterUnhold pool p q hold.arena
 after_unhold {pool = pool} {p = p} {q = q} {hold = hold} can s =
-    let g : Goes p q (entry_of p.caller (Unhold hold.arena) Fine ∷ []) = goes_of s (record {
-      shape = refl;
-      home = refl;
-      caller = refl;
-      gathered = refl;
-      whole = refl;
-      number = refl;
-      inside = refl;
-    }) (made_by-one p.caller (Unhold hold.arena) Fine) no_draws in
+    let g : Goes p q (entry_of p.caller (Unhold hold.arena) Fine ∷ []) = goes_step s refl refl (made_by-one p.caller (Unhold hold.arena) Fine) no_draws in
     record {
       did = record { own = entry_of p.caller (Unhold hold.arena) Fine ∷ []; does = refl; goes = g; rest = rest_is s };
       outside = λ o. stands_outside g o.of o.no_number (hand_is s ∙ o.no_slot) (swept_is s ∙ o.no_part) (inside_is s ∙ o.outside) (mark_is s ∙ o.unmarked);

@@ -1,15 +1,15 @@
 -- Reading which page each part of a range has.
 use Rattle.std.proofs.Common.{◌≡◌, ◌≢◌, ℕ, ◌+◌, ◌-◌, ◌*◌, ◌/◌, ◌==◌, ◌<◌, ◌≤◌, Bool, true, false, if◌then◌else◌, [], ◌∷◌, sym, refl, ap, subst, arith, inl, ne_eqb}
-use Rattle.std.proofs.Math.Nat.{mul-le-mul_right, lt_of_not-le}
-use Rattle.fm_words.specs.declared.shape.Shape.{Shape}
+use Rattle.std.proofs.lemmas.List.Elements.{All-nil}
+use Rattle.fm_base.specs.declared.arena_id.ArenaId.{ArenaId}
 use Rattle.fm_rule_facts.specs.Parts.{mapping_of, reads_after}
 use Rattle.fm_rule_facts.specs.Steps.{Stepped, none_noted}
 use Rattle.fm_rule_facts.specs.Views.{View, In, IsSound}
 use Rattle.fm_rule_calls.proofs.Going.{goes_none}
-use Rattle.fm_pages.specs.Covers.{page_bytes}
+use Rattle.fm_pages.specs.Covers.{LendsIn, page_bytes}
 use Rattle.fm_pages.specs.Maps.{Way}
-use Rattle.fm_pages.proofs.Finding.{parts_cover}
 use Rattle.fm_pages.proofs.Parts.{way_then, way_read, pages_way}
+use Rattle.fm_pages.proofs.Ranges.{covering_all}
 use Rattle.fm_rule_steps.proofs.Reading.{eqb_true, eqb_false}
 use Rattle.fm_gate.specs.Giving.{HasRead}
 
@@ -48,21 +48,11 @@ reading_more {v = v} {m = m} {r = r} {from = from} {n = n} x c some s = record {
         let had = c.each i low (omega arith) in (had.0, w.keeps (mapping_of i had.0) had.1)
 
 -- All have.
-pub reading_all : {v r : View} {from to n : ℕ} → Reading v r from to n → IsSound v → to ≤ n * page_bytes v
-    → HasRead v r from to true
-reading_all {v = v} {r = r} {from = from} {to = to} {n = n} c sound all =
-    let shape : r.shape ≡ v.shape = c.way.goes.same_shape in
-    let words : r.shape.page_words ≡ v.shape.page_words = ap (λ (z : Shape). z.page_words) shape in
-    let size : 8 * r.shape.page_words ≡ page_bytes v = omega arith in
-    let some = sound.valid.page_words.0 in
-    record {
-      way = c.way;
-      parts = parts_cover r from to (omega arith)
-          (λ i low high. c.each i (subst (λ (s : ℕ). from / s ≤ i) size low) (below i (subst (λ (s : ℕ). i * s < to) size high)));
-    }
-  where
-    below : (i : ℕ) → i * page_bytes v < to → i < n
-    below i h = lt_of_not-le (λ (le : n ≤ i). let k : n * page_bytes v ≤ i * page_bytes v = mul-le-mul_right (page_bytes v) le in absurd (omega arith))
+pub reading_all : {v r : View} {from to n : ℕ} (a : ArenaId) → Reading v r from to n → IsSound v → to ≤ n * page_bytes v → HasRead v r from to true
+reading_all {v = v} {from = from} {to = to} a c sound all = record {
+  way = c.way;
+  parts = (covering_all (record { own = []; lends = All-nil (LendsIn v a from to); way = c.way; each = c.each }) sound all).outcome;
+}
 
 -- One has none.
 pub reading_ends : {v m r : View} {from to n : ℕ} (x : ℕ) → Reading v m from to n → Reads m r n x

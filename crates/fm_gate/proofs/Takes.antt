@@ -13,7 +13,8 @@ use Rattle.fm_rule_facts.specs.Holds.{grips, with_grips, holds_after}
 use Rattle.fm_rule_facts.specs.Steps.{Stepped, none_noted, where_found}
 use Rattle.fm_rule_facts.proofs.Gripping.{with_same}
 use Rattle.fm_rule_calls.specs.Kept.{Goes, rest_of}
-use Rattle.fm_rule_calls.proofs.Going.{goes_of, no_draws, made_by-one, rest_is, hand_is, inside_is, mark_is}
+use Rattle.fm_rule_calls.proofs.Going.{no_draws, made_by-one, rest_is, hand_is, inside_is, mark_is}
+use Rattle.fm_rule_calls.proofs.Onward.{goes_step}
 use Rattle.fm_rule_calls.proofs.Waiting.{Waited, waits_on}
 use Rattle.fm_gate.specs.Learnt.{AfterTake}
 use Rattle.fm_gate.proofs.Outside.{swept_is}
@@ -54,15 +55,7 @@ module _ {o p q : View} (a : ArenaId) (word found : ℕ) (w : Waited o p) (s : E
   pub after_take : found ≡ word → (In a (grips a p) → alive_holds a found ≢ None) → AfterTake o q a word
   after_take e alive =
       let hit : Exchanges true p q a word = subst (λ (b : Bool). Exchanges b p q a word) (eq-eqb found word e) s in
-      let g : Goes p q (entry_of p.caller (Hold a) (reply_at a word) ∷ []) = goes_of hit (record {
-        shape = refl;
-        home = refl;
-        caller = refl;
-        gathered = refl;
-        whole = refl;
-        number = refl;
-        inside = refl;
-      }) (made_by-one p.caller (Hold a) (reply_at a word)) no_draws in
+      let g : Goes p q (entry_of p.caller (Hold a) (reply_at a word) ∷ []) = goes_step hit refl refl (made_by-one p.caller (Hold a) (reply_at a word)) no_draws in
       let same : p.caller ≡ o.caller = ap (λ (x : View). x.caller) w.is in
       record {
         goes = w.onward q (entry_of o.caller (Hold a) (reply_at a word) ∷ [])

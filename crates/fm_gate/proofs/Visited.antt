@@ -56,20 +56,21 @@ module _ {p q : View} {a : ArenaId} (first : Goes p q (entry_of p.caller (Enter 
       → NonePaged q r a size align → FoundNoPage p s a size align
   found_no_page {r = r} {s = s} {size = size} {align = align} between last x =
       let same : q.caller ≡ p.caller = first.same_caller in
+      let y = x.lacked in
       record {
         found = λ g low. found_later (all_earlier first x.found g low) last;
         lacked = record {
-          counted = x.counted;
-          count_stood = during_on first last x.count_stood;
-          part = x.part;
-          in_range = range_on a size align x.part x.counted first x.in_range;
-          at = x.at;
-          later = x.later ++ last.more;
-          at_stood = during_on first last x.at_stood;
-          seen = last.seen ∙ (ap (λ (es : List Entry). es ++ last.more) x.seen ∙ append_assoc x.at x.later last.more);
-          lacked = x.lacked;
-          no_lend = filter-append _ x.later last.more
-              ∙ (λ j. subst (λ (c : Caller). made_by c x.later ≡ []) same x.quiet j
+          counted = y.counted;
+          count_stood = during_on first last y.count_stood;
+          part = y.part;
+          in_range = range_on a size align y.part y.counted first y.in_range;
+          at = y.at;
+          later = y.later ++ last.more;
+          at_stood = during_on first last y.at_stood;
+          seen = last.seen ∙ (ap (λ (es : List Entry). es ++ last.more) y.seen ∙ append_assoc y.at y.later last.more);
+          lacked = y.lacked;
+          own = filter-append _ y.later last.more
+              ∙ (λ j. subst (λ (c : Caller). made_by c y.later ≡ []) same y.own j
               ++ subst (λ (c : Caller). made_by c last.more ≡ entry_of p.caller (Leave a) Fine ∷ []) (between.same_caller ∙ same) last.by_pass j);
         };
       }

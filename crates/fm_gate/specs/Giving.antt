@@ -5,17 +5,15 @@ use Rattle.fm_base.specs.declared.arena_id.ArenaId.{ArenaId}
 use Rattle.fm_base.specs.declared.refusal.Refusal.{Refusal}
 use Rattle.fm_base.specs.declared.refusal.Refusal.TheVariants as refusal
 use Rattle.fm_base.specs.Calls.{Lend, Allocate, Reply, Fine, Given, NoRoom, Entry, entry_of}
-use Rattle.fm_base.specs.Histories.{made_by}
 use Rattle.fm_base.specs.Machine.{rounded_up}
 use Rattle.fm_base.specs.View.{is_loan}
-use Rattle.fm_rule_facts.specs.Loans.{HasPart, loans_of}
 use Rattle.fm_rule_facts.specs.Views.{View, In, limit_of}
 use Rattle.fm_rule_facts.specs.Steps.{HasParts}
 use Rattle.fm_rule.specs.declared.pool.Pool.{Pool}
 use Rattle.fm_rule_calls.specs.Kept.{Kept}
 use Rattle.fm_pages.specs.Claims.{AllFoundEmpty}
 use Rattle.fm_pages.specs.Maps.{Way}
-use Rattle.fm_gate.specs.Pages.{IsDuring, IsInRange, FullExactly, LendsInRange, given_after}
+use Rattle.fm_gate.specs.Pages.{LackedPart, FullExactly, LendsInRange}
 use Rattle.fm_gate.specs.Needs.{IsInside}
 
 -- ---- the count to expect first
@@ -55,16 +53,7 @@ DoesGive c id size align (Err r) own = ⊥
 -- a part of the range had no page, and none was free, as `FoundNoPage` says it of the whole call
 pub record NonePaged (old new : View) (id : ArenaId) (size align : ℕ) : Type 0 where
   pub found : AllFoundEmpty old new
-  pub counted : List Entry
-  pub count_stood : IsDuring old new counted
-  pub part : ℕ
-  pub in_range : IsInRange old (given_after old counted id) size align part
-  pub at : List Entry
-  pub later : List Entry
-  pub at_stood : IsDuring old new at
-  pub seen : new.seen ≡ at ++ later
-  pub lacked : ¬ (HasPart (loans_of at) id part)
-  pub quiet : made_by old.caller later ≡ []
+  pub lacked : LackedPart old new id size align []
 
 -- of the part of `allocate` that is inside the arena
 pub record AfterGive (pool : Pool) (old new : View) (id : ArenaId) (size align : ℕ) (result : Result ℕ Refusal) : Type 0 where

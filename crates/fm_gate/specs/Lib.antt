@@ -8,3 +8,4 @@ pub mod Slots
 pub mod HandleLaws
 pub mod Crews
 pub mod HoldLaws
+pub mod Reaching

@@ -27,8 +27,8 @@ pub record IsInRange (v : View) (count size align part : ℕ) : Type 0 where
   pub after : count / (v.shape.page_words * 8) ≤ part
   pub before : part * (v.shape.page_words * 8) < rounded_up count align + size
 
--- after the call's last Lend a part of its range, as placed by a count that stood during the call, had no page
-pub record LackedPart (old new : View) (id : ArenaId) (size align : ℕ) : Type 0 where
+-- a part of the range, as placed by a count that stood during the call, had no page, and after that the pass made these entries
+pub record LackedPart (old new : View) (id : ArenaId) (size align : ℕ) (made : List Entry) : Type 0 where
   pub counted : List Entry
   pub count_stood : IsDuring old new counted
   pub part : ℕ
@@ -38,7 +38,7 @@ pub record LackedPart (old new : View) (id : ArenaId) (size align : ℕ) : Type 
   pub at_stood : IsDuring old new at
   pub seen : new.seen ≡ at ++ later
   pub lacked : ¬ (HasPart (loans_of at) id part)
-  pub no_lend : made_by old.caller later ≡ entry_of old.caller (Leave id) Fine ∷ []
+  pub own : made_by old.caller later ≡ made
 
 -- the entry lends a page to the arena, as a part with a byte of the range that a count places which stood during the call
 pub record LendsInRange (old new : View) (id : ArenaId) (size align : ℕ) (e : Entry) : Type 0 where
@@ -50,10 +50,10 @@ pub record LendsInRange (old new : View) (id : ArenaId) (size align : ℕ) (e : 
   pub after : given_after old counted id / (old.shape.page_words * 8) ≤ part
   pub before : part * (old.shape.page_words * 8) < rounded_up (given_after old counted id) align + size
 
--- of an allocation that is refused with PoolFull: each word of page bits was 0 at a step of the call
+-- of an allocation that is refused with PoolFull: each word of page bits was 0 at a step of the call, and after its last Lend a part had no page
 pub record FoundNoPage (old new : View) (id : ArenaId) (size align : ℕ) : Type 0 where
   pub found : AllFoundEmpty old new
-  pub lacked : LackedPart old new id size align
+  pub lacked : LackedPart old new id size align (entry_of old.caller (Leave id) Fine ∷ [])
 
 -- pages are too few exactly where it is refused with PoolFull; other refusals come before
 abbrev pub FullExactly : View → ArenaId → (size align : ℕ) → Result ℕ Refusal → Type 0

@@ -2,7 +2,7 @@ ghost use Rattle.fm_base.specs.Calls as machine;
 ghost use Rattle.fm_gate.specs.Needs.{CanReach};
 ghost use Rattle.fm_gate.specs.Learnt.{AfterAct};
 
-use fm_pages::place_of;
+use crate::reaching::reach;
 use fm_rule::{Pass, Pool, step_add, step_load, step_store, step_swap_if};
 
 /// The word of this index of the arena that the pass is inside.
@@ -11,7 +11,7 @@ pub fn load(pool: &Pool, pass: &mut Pass, word: u64) -> u64
     requires { CanReach pool.now pass.old word }
     ensures { AfterAct pool.now pass.old pass.new (λ id. machine.Read id word) (machine.Found result) }
 {
-    let place = place_of(pool, pass, word);
+    let place = reach(pool, pass, word);
     step_load(pool, pass, word, place)
 }
 
@@ -21,7 +21,7 @@ pub fn store(pool: &Pool, pass: &mut Pass, word: u64, v: u64)
     requires { CanReach pool.now pass.old word }
     ensures { AfterAct pool.now pass.old pass.new (λ id. machine.Write id word v) machine.Fine }
 {
-    let place = place_of(pool, pass, word);
+    let place = reach(pool, pass, word);
     step_store(pool, pass, word, place, v);
 }
 
@@ -30,7 +30,7 @@ pub fn swap_if(pool: &Pool, pass: &mut Pass, word: u64, old: u64, new: u64) -> u
     requires { CanReach pool.now pass.old word }
     ensures { AfterAct pool.now pass.old pass.new (λ id. machine.SwapIf id word old new) (machine.Found result) }
 {
-    let place = place_of(pool, pass, word);
+    let place = reach(pool, pass, word);
     step_swap_if(pool, pass, word, place, old, new)
 }
 
@@ -39,6 +39,6 @@ pub fn add(pool: &Pool, pass: &mut Pass, word: u64, n: u64) -> u64
     requires { CanReach pool.now pass.old word }
     ensures { AfterAct pool.now pass.old pass.new (λ id. machine.Add id word n) (machine.Found result) }
 {
-    let place = place_of(pool, pass, word);
+    let place = reach(pool, pass, word);
     step_add(pool, pass, word, place, n)
 }

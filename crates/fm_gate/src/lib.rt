@@ -33,6 +33,7 @@ mod leaving;
 mod maker;
 mod opening;
 mod patching;
+mod reaching;
 
 pub use acting::{add, load, store, swap_if};
 pub use alive::is_alive;

@@ -1,7 +1,7 @@
 ghost use Rattle.fm_gate.specs.Needs.{CanPatch};
 ghost use Rattle.fm_gate.specs.Learnt.{AfterPatch};
 
-use fm_pages::place_of;
+use crate::reaching::reach;
 use fm_rule::{Pass, Pool, step_load, step_swap_if};
 use std::sync::Wait;
 
@@ -13,7 +13,7 @@ pub fn patch<R: Wait>(rt: &R, pool: &Pool, pass: &mut Pass, word: u64, mask: u64
     ensures { AfterPatch pool.now pass.old pass.new word mask bits result }
 {
     // The word stands there while the pass is inside.
-    let place = place_of(pool, pass, word);
+    let place = reach(pool, pass, word);
     let mut old = step_load(pool, pass, word, place);
     for _ in rt.forever() {
         let found = step_swap_if(pool, pass, word, place, old, old & !mask | bits);

@@ -6,3 +6,4 @@ pub mod Sweeps
 pub mod Unlent
 pub mod Waiting
 pub mod Telling
+pub mod Onward

@@ -23,7 +23,7 @@ loop-part-init c =
 pub returns-then-from-bytes : goal.returns-then-from-bytes
 returns-then-from-bytes c =
     let size = size_is c.args.pool.now.shape _ c.args.pass.now c.from-bytes.result c.requires.inside.of.1 c.shape-shape.ensures.shape c.from-bytes.ensures in
-    reading_all c.loop-part.invariant.1 c.requires.sound
+    reading_all c.args.id c.loop-part.invariant.1 c.requires.sound
     (subst (λ (n : ℕ). c.args.to ≤ n) ((λ j. c.from.ensures j * sym size j)) c.if-from-bytes.true)
 
 pub returns-then-step_read_map-eq0 : goal.returns-then-step_read_map-eq0
@@ -42,5 +42,5 @@ returns c =
     let shape : c.args.pool.now.shape ≡ c.args.pass.now.shape = sym c.requires.inside.of.1 in
     let reach : c.shape-shape.result.reach ≡ c.args.pass.now.shape.reach = ap (λ (z : Shape). z.reach) (c.shape-shape.ensures.shape ∙ shape) in
     let past = c.loop-part-test.false in
-    reading_all c.loop-part.invariant.1 c.requires.sound
+    reading_all c.args.id c.loop-part.invariant.1 c.requires.sound
     (past_reach c.args.pass.now.shape c.loop-part.part c.args.to (omega arith) (subst (λ (z : Shape). c.args.to ≤ limit_of z) shape c.requires.within))

@@ -1,23 +1,14 @@
 use Rattle.std.proofs.Common.{refl}
 use Rattle.fm_base.specs.Does.{patched}
-use Rattle.fm_gate.proofs.Acts.{after_act, can_find, found_here, found_reach, found_of, found_word, place_on}
+use Rattle.fm_gate.proofs.Acts.{after_act, found_here, place_on}
 use Rattle.fm_gate.proofs.Tries.{tries_begin, tries_go_on, tries_end, tries_reach}
 use Rattle.fm_gate.proofs.patching.patch.Goals as goal
 
-pub place_of-place-requires-clause-find : goal.place_of-place-requires-clause-find
-place_of-place-requires-clause-find g c = can_find c.requires.reach
-
-pub step_load-old-requires-clause-act : goal.step_load-old-requires-clause-act
-step_load-old-requires-clause-act g c = found_reach c.requires.reach c.place_of-place.ensures
-
-pub step_load-old-requires-clause-of : goal.step_load-old-requires-clause-of
-step_load-old-requires-clause-of g c = found_of c.args.pool.now (found_word c.place_of-place.ensures) c.requires.reach.inside.of
-
 pub loop-init : goal.loop-init
 loop-init g c =
-    let w = found_word c.place_of-place.ensures in (
-      tries_begin c.requires.reach (after_act (record { stays = λ a. refl }) w c.step_load-old.ensures c.requires.reach),
-      place_on (record { stays = λ a. refl }) w c.step_load-old.ensures c.place_of-place.ensures.place,
+    let r = c.reach-place.ensures in (
+      tries_begin c.requires.reach (after_act (record { stays = λ a. refl }) r.found c.step_load-old.ensures c.requires.reach),
+      place_on (record { stays = λ a. refl }) r.found c.step_load-old.ensures r.place,
     )
 
 pub step_swap_if-found-requires-clause-of : goal.step_swap_if-found-requires-clause-of
