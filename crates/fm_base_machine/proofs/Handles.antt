@@ -13,25 +13,9 @@ use Rattle.fm_base_machine.specs.Functions.{Stage, Fresh, Lives, Closes, Over, s
 use Rattle.fm_base_machine.specs.Steps.{opening, moved_by}
 use Rattle.fm_base_machine.specs.Handles.{one_alive, handles_of, all_taken, all_given, AreLeft, HandlesAreCounted, LastHandleEnds}
 use Rattle.fm_base_machine.proofs.Depicting.{always, depicts_none, depicts_by}
-use Rattle.fm_base_machine.proofs.Handling.{Counts, handled, OnlyAlive, only_alive}
+use Rattle.fm_base_machine.proofs.Handling.{hold_alive, shut_alive, Counts, handled, OnlyAlive, only_alive}
 
 -- ---- legal calls count
-
--- a hold that is taken is of an arena that is alive
-hold_alive : (x : Life) (n : ℕ) → Fine ≡ hold_reply x n → x ≡ Alive
-hold_alive Alive n e = refl
-hold_alive Closing n e = absurd (cc)
-hold_alive Ended n e = absurd (cc)
-
--- and one that is shut is alive, and has no holds
-shut_alive : (x : Life) (n : ℕ) → Fine ≡ shut_reply x n → (x ≡ Alive) × (n ≡ 0)
-shut_alive Alive n e = (refl, eqb-true n 0 (go (n == 0) e))
-  where
-    go : (b : Bool) → Fine ≡ (if b then Fine else Held n) → b ≡ true
-    go true e = refl
-    go false e = absurd (cc)
-shut_alive Closing n e = absurd (cc)
-shut_alive Ended n e = absurd (cc)
 
 module _ (limit : ℕ) (s : State) (t : Machine) (d : Depicts limit s t) where
   -- what is alive in the list lives
