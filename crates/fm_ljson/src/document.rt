@@ -70,13 +70,11 @@ fn document_in(object: &Map<String, Value>) -> Option<DocumentRef<'_>>
 }
 
 /// What a value says as an entry of `types`; nothing where it breaks a rule of its own.
+#[tactic(auto, unfolding(crate::specs::Documents::entry_of))]
 pub(crate) fn entry_of(value: &Value) -> Option<EntryRef<'_>>
     ensures { option_map entry_view result ≡ entry_of (view value.now) }
 {
-    match value.as_object() {
-        Some(object) => entry_in(object),
-        None => None,
-    }
+    entry_in(value.as_object()?)
 }
 
 fn entry_in(object: &Map<String, Value>) -> Option<EntryRef<'_>>

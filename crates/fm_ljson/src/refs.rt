@@ -15,29 +15,20 @@ pub(crate) struct TypeRef<'v> {
 }
 
 /// What a value says as a ref; nothing where it isn't one, or breaks a rule of its own.
+#[tactic(auto, unfolding(crate::specs::Refs::ref_of))]
 pub(crate) fn ref_of(value: &Value) -> Option<TypeRef<'_>>
     ensures { option_map ref_view result ≡ ref_of (view value.now) }
 {
-    match value.as_object() {
-        Some(object) => ref_in(object),
-        None => None,
-    }
+    ref_in(value.as_object()?)
 }
 
 fn ref_in(object: &Map<String, Value>) -> Option<TypeRef<'_>>
     ensures { option_map ref_view result ≡ ref_in (object_view object.now) }
 {
-    if !keys::has_only(Role::Ref, object) {
+    if !keys::has_only(Role::Ref, object) || !keys::says_ref(object) {
         return None;
     }
-    if !keys::says_ref(object) {
-        return None;
-    }
-    let Some(of) = keys::text_at(object, "of") else {
-        return None;
-    };
-    let Some(name) = keys::name_at(object) else {
-        return None;
-    };
+    let of = keys::text_at(object, "of")?;
+    let name = keys::name_at(object)?;
     Some(TypeRef { of, name })
 }
