@@ -101,3 +101,11 @@ update_place_of works_on base is h r = if_supported (works_on h.value) (writable
 pub record FindsWhere (supported : Bool) (base : ℕ) (is : List ℕ) (h : Resolution) (r : Region) (found : Result ℕ Refusal) : Type 0 where
   pub place : found ≡ if_supported supported (writable_place_of base is h r)
   pub stands : IfOk found (ValueStands h r)
+
+-- the value at the place has bytes, and they lie in one word
+abbrev pub LiesInWord : ValueSpec → ℕ → Type 0
+LiesInWord v place = (1 ≤ width_of v.kind) × (place % 8 + width_of v.kind ≤ 8)
+
+-- it is as wide as a word, and lies in one
+abbrev pub FillsWord : ValueSpec → ℕ → Type 0
+FillsWord v place = (width_of v.kind ≡ 8) × (place % 8 + 8 ≤ 8)

@@ -1,5 +1,5 @@
 ghost use Rattle.std.specs.Prelude.{◌≡◌, length, IfOk};
-ghost use Rattle.fm_handle.specs.Place.{FindsWhere, RootStands, ValueStands, can_update, fills_word, is_word, root_place, place_of, writable_place_of};
+ghost use Rattle.fm_handle.specs.Place.{FillsWord, FindsWhere, LiesInWord, RootStands, ValueStands, can_update, fills_word, is_word, root_place, place_of, writable_place_of};
 
 use super::VarHandle;
 use fm_base::Refusal;
@@ -50,7 +50,7 @@ impl VarHandle {
     }
 
     /// The same for a call that doesn't work on every value. Refused first: `Unsupported`, where it doesn't on this one.
-    pub(super) fn update_place_of(
+    fn update_place_of(
         &self,
         supported: bool,
         s: &Segment,
@@ -66,8 +66,50 @@ impl VarHandle {
         self.writable_place_of(s, base, indices)
     }
 
+    /// The place of a number that can be updated.
+    pub(super) fn number_place_of(
+        &self,
+        s: &Segment,
+        base: u64,
+        indices: &[u64],
+    ) -> Result<u64, Refusal>
+        requires { length indices.now ≡ length self.now.dims }
+        ensures finds { FindsWhere (can_update self.now.value) base indices.now self.now s.now result }
+        ensures lies { IfOk result (LiesInWord self.now.value) }
+    {
+        self.update_place_of(self.can_update(), s, base, indices)
+    }
+
+    /// The place of a long that fills a word.
+    pub(super) fn long_place_of(
+        &self,
+        s: &Segment,
+        base: u64,
+        indices: &[u64],
+    ) -> Result<u64, Refusal>
+        requires { length indices.now ≡ length self.now.dims }
+        ensures finds { FindsWhere (fills_word self.now.value) base indices.now self.now s.now result }
+        ensures fills { IfOk result (FillsWord self.now.value) }
+    {
+        self.update_place_of(self.fills_word(), s, base, indices)
+    }
+
+    /// The place of a long that is a word.
+    pub(super) fn word_place_of(
+        &self,
+        s: &Segment,
+        base: u64,
+        indices: &[u64],
+    ) -> Result<u64, Refusal>
+        requires { length indices.now ≡ length self.now.dims }
+        ensures finds { FindsWhere (is_word self.now.value) base indices.now self.now s.now result }
+        ensures fills { IfOk result (FillsWord self.now.value) }
+    {
+        self.update_place_of(self.is_word(), s, base, indices)
+    }
+
     /// Whether the value is a number that lies in one word: an int or a long, at a multiple of its size.
-    pub(super) fn can_update(&self) -> bool
+    fn can_update(&self) -> bool
         ensures { result ≡ can_update self.now.value }
     {
         let value = self.resolved.value();
@@ -79,7 +121,7 @@ impl VarHandle {
     }
 
     /// Whether the value is a long that fills a word.
-    pub(super) fn fills_word(&self) -> bool
+    fn fills_word(&self) -> bool
         ensures { result ≡ fills_word self.now.value }
     {
         let value = self.resolved.value();
@@ -87,7 +129,7 @@ impl VarHandle {
     }
 
     /// Whether the value is a long whose bytes are a word's, in the word's order.
-    pub(super) fn is_word(&self) -> bool
+    fn is_word(&self) -> bool
         ensures { result ≡ is_word self.now.value }
     {
         self.fills_word() && matches!(self.resolved.value().order, Order::Little)

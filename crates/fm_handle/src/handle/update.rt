@@ -47,7 +47,7 @@ impl VarHandle {
         requires { CanExchange (M.view m.old) self.now s.now indices.now expected v }
         ensures { AfterExchange (M.view m.old) (M.view m.new) self.now s.now base indices.now expected v result }
     {
-        let place = self.update_place_of(self.can_update(), s, base, indices)?;
+        let place = self.number_place_of(s, base, indices)?;
         let order = self.resolved.value().order;
         exchange_value(rt, m, s.arena(), place, order, expected, v)
     }
@@ -68,7 +68,7 @@ impl VarHandle {
         requires { CanPut (M.view m.old) self.now s.now indices.now delta }
         ensures { AfterAdd (M.view m.old) (M.view m.new) self.now s.now base indices.now delta result }
     {
-        let place = self.update_place_of(self.can_update(), s, base, indices)?;
+        let place = self.number_place_of(s, base, indices)?;
         let order = self.resolved.value().order;
         add_value(rt, m, s.arena(), place, order, delta)
     }
