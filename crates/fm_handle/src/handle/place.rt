@@ -1,10 +1,21 @@
 ghost use Rattle.std.specs.Prelude.{◌≡◌, length, IfOk};
-ghost use Rattle.fm_handle.specs.Place.{FillsWord, FindsWhere, LiesInWord, RootStands, ValueStands, can_update, fills_word, is_word, root_place, place_of, writable_place_of};
+ghost use Rattle.fm_handle.specs.Place.{FindsWhere, Lies, RootStands, ValueStands, can_update, fills_word, is_word, root_place, place_of, supports, writable_place_of};
 
 use super::VarHandle;
 use fm_base::Refusal;
 use fm_lanes::{Order, ValueKind};
 use fm_segment::{Segment, is_aligned};
+
+/// Which values a call works on.
+#[derive(Clone, Copy)]
+pub(super) enum Support {
+    /// A number that lies in one word.
+    Number,
+    /// A long that fills a word.
+    Long,
+    /// A long that is a word.
+    Word,
+}
 
 impl VarHandle {
     /// The place in the arena of the layout at the base. Refused, in this order: `Bounds`, `Misaligned`.
@@ -50,62 +61,31 @@ impl VarHandle {
     }
 
     /// The same for a call that doesn't work on every value. Refused first: `Unsupported`, where it doesn't on this one.
-    fn update_place_of(
+    pub(super) fn update_place_of(
         &self,
-        supported: bool,
+        support: Support,
         s: &Segment,
         base: u64,
         indices: &[u64],
     ) -> Result<u64, Refusal>
         requires { length indices.now ≡ length self.now.dims }
-        ensures { FindsWhere supported base indices.now self.now s.now result }
+        ensures finds { FindsWhere (supports support self.now.value) base indices.now self.now s.now result }
+        ensures lies { IfOk result (Lies support self.now.value) }
     {
-        if !supported {
+        if !self.supports(support) {
             return Err(Refusal::Unsupported);
         }
         self.writable_place_of(s, base, indices)
     }
 
-    /// The place of a number that can be updated.
-    pub(super) fn number_place_of(
-        &self,
-        s: &Segment,
-        base: u64,
-        indices: &[u64],
-    ) -> Result<u64, Refusal>
-        requires { length indices.now ≡ length self.now.dims }
-        ensures finds { FindsWhere (can_update self.now.value) base indices.now self.now s.now result }
-        ensures lies { IfOk result (LiesInWord self.now.value) }
+    fn supports(&self, support: Support) -> bool
+        ensures { result ≡ supports support self.now.value }
     {
-        self.update_place_of(self.can_update(), s, base, indices)
-    }
-
-    /// The place of a long that fills a word.
-    pub(super) fn long_place_of(
-        &self,
-        s: &Segment,
-        base: u64,
-        indices: &[u64],
-    ) -> Result<u64, Refusal>
-        requires { length indices.now ≡ length self.now.dims }
-        ensures finds { FindsWhere (fills_word self.now.value) base indices.now self.now s.now result }
-        ensures fills { IfOk result (FillsWord self.now.value) }
-    {
-        self.update_place_of(self.fills_word(), s, base, indices)
-    }
-
-    /// The place of a long that is a word.
-    pub(super) fn word_place_of(
-        &self,
-        s: &Segment,
-        base: u64,
-        indices: &[u64],
-    ) -> Result<u64, Refusal>
-        requires { length indices.now ≡ length self.now.dims }
-        ensures finds { FindsWhere (is_word self.now.value) base indices.now self.now s.now result }
-        ensures fills { IfOk result (FillsWord self.now.value) }
-    {
-        self.update_place_of(self.is_word(), s, base, indices)
+        match support {
+            Support::Number => self.can_update(),
+            Support::Long => self.fills_word(),
+            Support::Word => self.is_word(),
+        }
     }
 
     /// Whether the value is a number that lies in one word: an int or a long, at a multiple of its size.

@@ -9,14 +9,14 @@ use Rattle.fm_mono.specs.Shown.{shown_all, IsSoundMono}
 use Rattle.fm_mono.proofs.Inside.{entered_of, inside_of-set}
 use Rattle.fm_mono.proofs.Allotting.{IsRead, placed_for, read_for, no_room, gives_place, grows, unchanged, same_shown, allotted_shown, wants_words, is_grown}
 use Rattle.fm_mono.proofs.mono.Mono.grow.Goals as goal
-use Rattle.fm_mono.proofs.mono.Mono.grow.Goals.{After-index_mut-arena, After-in_ok-resize}
+use Rattle.fm_mono.proofs.mono.Mono.grow.Goals.{After-index_mut-arena, In_ok-resize}
 
 here : (c : After-index_mut-arena) → IsRead c.self.inside.limit (entered_of c.self.inside) c.self.inside.arenas.items c.args.id c.index_mut-arena.result.now
 here c =
     read_for c.self.inside c.self.invariant c.self.view_is c.requires.known c.index_mut-arena.result.now c.index_mut-arena.ensures.value c.requires.alive
 
 -- the arenas once the words are resized
-allotted : (c : After-in_ok-resize)
+allotted : (c : In_ok-resize)
     → let f = c.self.inside in
     let end : ℕ = c.rounded-place.result + c.from.result in
     let arenas = set f.arenas.items c.args.id.slot (record c.index_mut-arena.result.now { words = c.resize.new.self; given = end }) in
@@ -24,7 +24,7 @@ allotted : (c : After-in_ok-resize)
     × IsSoundMono f.limit (entered_of f) arenas
 allotted c =
     let f = c.self.inside in
-    let h = here c.After-index_mut-arena in
+    let h = read_for c.self.inside c.self.invariant c.self.view_is c.requires.known c.index_mut-arena.result.now c.index_mut-arena.ensures.value c.requires.alive in
     let o = c.index_mut-arena.result.now in
     let end = c.rounded-place.result + c.from.result in
     let fits : end ≤ f.limit = omega (arith, c.if-end-from.false, c.from-2.ensures) in
@@ -91,7 +91,7 @@ invariant_of-self-2 c =
     let o = c.index_mut-arena.result.now in
     rw (inside_of-set f.is_inside f.current c.args.id.slot f.arenas.items o
     (record o { words = c.resize.new.self; given = c.rounded-place.result + c.from.result }) h.place refl) (record {
-      arenas = (allotted (goal.at.invariant_of-self-2 c).After-in_ok-resize).1;
+      arenas = (allotted (goal.at.invariant_of-self-2 c).In_ok-resize).1;
       place = c.self.invariant.place;
     })
 
@@ -101,7 +101,7 @@ returns-clause-got c =
     let h = here (goal.at.returns-clause-got c).After-index_mut-arena in
     let o = c.index_mut-arena.result.now in
     let end = c.rounded-place.result + c.from.result in
-    let e = allotted (goal.at.returns-clause-got c).After-in_ok-resize in
+    let e = allotted (goal.at.returns-clause-got c).In_ok-resize in
     let room : rounded_up o.given c.args.align + c.args.size ≤ f.limit =
     omega (arith, c.if-end-from.false, c.from-2.ensures, c.from.ensures, c.rounded-place.ensures) in
     let same : end ≡ c.rounded-place.result + c.args.size = omega (arith, c.from.ensures) in
