@@ -17,9 +17,9 @@ module _ (base : ℕ) (is : List ℕ) (h : Resolution) (r : Region) where
   fills place stands works = let w = whole_word h r place stands works in (ap width_of w.kind, w.fits)
 
   -- A value that the call works on.
-  pub lies : (support : Support) {found : Result ℕ Refusal} → FindsWhere (supports support h.value) base is h r found
+  pub lies : (support : Support) (found : Result ℕ Refusal) → FindsWhere (supports support h.value) base is h r found
       → IfOk found (Lies support h.value)
-  lies Number {Ok place} f = let here = reaches f refl in ((width_of-bounds h.value.kind).0, in_one_word h r place here.1 here.0)
-  lies Long {Ok place} f = let here = reaches f refl in fills place here.1 here.0
-  lies Word {Ok place} f = let here = reaches f refl in fills place here.1 (word_parts h.value here.0).0
-  lies support {Err e} f = tt
+  lies Number (Ok place) f = let here = reaches f refl in ((width_of-bounds h.value.kind).0, in_one_word h r place here.1 here.0)
+  lies Long (Ok place) f = let here = reaches f refl in fills place here.1 here.0
+  lies Word (Ok place) f = let here = reaches f refl in fills place here.1 (word_parts h.value here.0).0
+  lies support (Err e) f = tt

@@ -36,4 +36,4 @@ returns-clause-after c =
 pub returns-clause-holds : goal.returns-clause-holds
 returns-clause-holds c =
     rw (← c.self.view_is) (ap (λ (x : Arena). x.holds)
-     (read_for c.self.inside c.self.invariant c.self.view_is c.requires.known c.index_mut-arena.result.now c.index_mut-arena.ensures.value c.requires.alive).looked)
+    (read_for c.self.inside c.self.invariant c.self.view_is c.requires.known c.index_mut-arena.result.now c.index_mut-arena.ensures.value c.requires.alive).looked)
