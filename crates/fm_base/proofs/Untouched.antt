@@ -39,7 +39,8 @@ put_byte : (words : List ℕ) (word v place : ℕ) → word < length words → (
     → byte_at (slice_set words word v) place ≡ byte_at words place
 put_byte words word v place within same = put_at words word v place within ∙ go (word == place / 8) (λ e. same (eqb-true word (place / 8) e))
   where
-    go : (b : Bool) → (b ≡ true → byte_of v (place % 8) ≡ byte_at words place) → (if b then byte_of v (place % 8) else byte_at words place) ≡ byte_at words place
+    go : (b : Bool) → (b ≡ true → byte_of v (place % 8) ≡ byte_at words place)
+        → (if b then byte_of v (place % 8) else byte_at words place) ≡ byte_at words place
     go true h = h refl
     go false h = refl
 

@@ -221,9 +221,11 @@ said (Sequence count e l) w named small =
     (name_read l.name named.0)
     (ap (node.if_any whole_of) says.align ∙ align_read (nat_eq l.alignment (alignment_of e)) l.alignment w.0.greatest)
 said (Struct ms l) w named small =
-    group_said type_name.Struct (node.Struct (list_of (all_json ms))) ms l (struct_says _ _ _) (rw (group_members (codes "struct") _ _ _) refl) refl named.0 w.0.greatest
+    group_said type_name.Struct (node.Struct (list_of (all_json ms))) ms l (struct_says _ _ _)
+    (rw (group_members (codes "struct") _ _ _) refl) refl named.0 w.0.greatest
 said (Union ms l) w named small =
-    group_said type_name.Union (node.Union (list_of (all_json ms))) ms l (union_says _ _ _) (rw (group_members (codes "union") _ _ _) refl) refl named.0 w.0.greatest
+    group_said type_name.Union (node.Union (list_of (all_json ms))) ms l (union_says _ _ _)
+    (rw (group_members (codes "union") _ _ _) refl) refl named.0 w.0.greatest
 
 -- ---- which version they are
 

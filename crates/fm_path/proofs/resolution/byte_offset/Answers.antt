@@ -9,7 +9,8 @@ pub returns-in_err-moved-clause-refused : goal.returns-in_err-moved-clause-refus
 returns-in_err-moved-clause-refused c =
     let p = err_from_is_err_and c.from_residual.result c.from_residual.ensures.1 in
     rw (p.1, p.2) (refused_closed c.args.path.now c.args.layout.now _
-    (on_way_err move_closed _ _ _ _ _ _ c.index-path-k.result c.in_err-moved.field-0.0 c.loop-k.invariant c.loop-k-test.true c.index-path-k.is c.in_err-moved.ensures))
+    (on_way_err move_closed _ _ _ _ _ _ c.index-path-k.result c.in_err-moved.field-0.0 c.loop-k.invariant c.loop-k-test.true c.index-path-k.is
+    c.in_err-moved.ensures))
 
 pub loop-k-preserved : goal.loop-k-preserved
 loop-k-preserved c =

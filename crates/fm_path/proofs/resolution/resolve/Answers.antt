@@ -12,12 +12,13 @@ returns-in_err-moved-clause-refused c =
     let p = err_from_is_err_and c.from_residual.result c.from_residual.ensures.1 in
     rw (p.1, p.2) (at_step c.in_err-moved.field-0.0
     (refused c.args.path.now c.args.layout.now _
-    (on_way_err move _ _ _ _ _ _ c.index-path-k.result c.in_err-moved.field-0.0 c.loop-k.invariant c.loop-k-test.true c.index-path-k.is c.in_err-moved.ensures)))
+    (on_way_err move _ _ _ _ _ _ c.index-path-k.result c.in_err-moved.field-0.0 c.loop-k.invariant c.loop-k-test.true c.index-path-k.is
+    c.in_err-moved.ensures)))
 
 pub loop-k-preserved : goal.loop-k-preserved
 loop-k-preserved c =
-    on_way_more move _ _ _ _ _ _ c.index-path-k.result (record { by = c.in_ok-moved.moved.by; dim = c.in_ok-moved.moved.dim; to = c.in_ok-moved.moved.to.now }) _ _
-    c.loop-k.invariant c.loop-k-test.true c.index-path-k.is c.in_ok-moved.ensures (omega (arith, c.saturating_add-offset.ensures)) c.in_ok-add.ensures.ok
+    on_way_more move _ _ _ _ _ _ c.index-path-k.result (record { by = c.in_ok-moved.moved.by; dim = c.in_ok-moved.moved.dim; to = c.in_ok-moved.moved.to.now })
+    _ _ c.loop-k.invariant c.loop-k-test.true c.index-path-k.is c.in_ok-moved.ensures (omega (arith, c.saturating_add-offset.ensures)) c.in_ok-add.ensures.ok
 
 pub of-requires : goal.of-requires
 of-requires c =

@@ -16,7 +16,8 @@ store_words-requires g c =
     let k = c.loop-k.k in
     let n = c.min-more.result in
     let least = c.min-more.ensures in
-    let read = words_read c.args.bytes.now c.read_u64_into.new.dst c.loop-k.words k n (let d = c.read_u64_into.auto.dst in omega (arith, length-take n c.loop-k.words))
+    let read = words_read c.args.bytes.now c.read_u64_into.new.dst c.loop-k.words k n
+    (let d = c.read_u64_into.auto.dst in omega (arith, length-take n c.loop-k.words))
     (let whole = c.requires.whole in omega arith) c.read_u64_into.ensures in
     rw (read, length-words_from n (drop (8 * k) c.args.bytes.now))
     (stores_reach c.loop-k.invariant.0 k (length-words_from k c.args.bytes.now) c.args.count n c.requires.reach (omega arith))
@@ -27,7 +28,8 @@ loop-k-preserved g c =
     let bytes = c.args.bytes.now in
     let n = c.min-more.result in
     let least = c.min-more.ensures in
-    let read = words_read bytes c.read_u64_into.new.dst c.loop-k.words c.loop-k.k n (let d = c.read_u64_into.auto.dst in omega (arith, length-take n c.loop-k.words))
+    let read = words_read bytes c.read_u64_into.new.dst c.loop-k.words c.loop-k.k n
+    (let d = c.read_u64_into.auto.dst in omega (arith, length-take n c.loop-k.words))
     (let whole = c.requires.whole in omega arith) c.read_u64_into.ensures in (
       subst (λ ws. AfterStores (v c.args.m.now) (v c.store_words.new.self) c.args.first ws) (sym (words_from-append c.loop-k.k n bytes))
           (stores_more c.loop-k.invariant.0 c.loop-k.k (length-words_from c.loop-k.k bytes) (words_from n (drop (8 * c.loop-k.k) bytes))

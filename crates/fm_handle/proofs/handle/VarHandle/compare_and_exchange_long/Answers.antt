@@ -5,7 +5,8 @@ use Rattle.fm_handle.proofs.handle.VarHandle.compare_and_exchange_long.Goals as 
 
 pub returns-in_err-place : goal.returns-in_err-place
 returns-in_err-place g c =
-    after_exchange_long c.requires c.ranges.expected c.in_err-place.ensures.finds (not_placed _ _ (sym c.in_err-place.ensures.finds.place) c.from_residual.ensures.1)
+    after_exchange_long c.requires c.ranges.expected c.in_err-place.ensures.finds (not_placed _ _ (sym c.in_err-place.ensures.finds.place)
+    c.from_residual.ensures.1)
 
 pub returns : goal.returns
 returns g c = after_exchange_long c.requires c.ranges.expected c.in_ok-place.ensures.finds (search rules)

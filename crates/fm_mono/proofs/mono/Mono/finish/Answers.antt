@@ -11,7 +11,8 @@ index_mut-arena-requires c =
 
 pub invariant_of-self : goal.invariant_of-self
 invariant_of-self c =
-    let h = read_for c.self.inside c.self.invariant c.self.view_is c.requires.known c.index_mut-arena.result.now c.index_mut-arena.ensures.value c.requires.alive in
+    let h =
+    read_for c.self.inside c.self.invariant c.self.view_is c.requires.known c.index_mut-arena.result.now c.index_mut-arena.ensures.value c.requires.alive in
     let r = rw (← c.self.view_is) at c.requires in
     let o = c.index_mut-arena.result.now in
     let o' : MonoArena = record { id = o.id; is_alive = false; given = o.given; words = c.new.result; past = c.of.result } in
@@ -24,7 +25,8 @@ invariant_of-self c =
 
 pub returns-clause-after : goal.returns-clause-after
 returns-clause-after c =
-    let h = read_for c.self.inside c.self.invariant c.self.view_is c.requires.known c.index_mut-arena.result.now c.index_mut-arena.ensures.value c.requires.alive in
+    let h =
+    read_for c.self.inside c.self.invariant c.self.view_is c.requires.known c.index_mut-arena.result.now c.index_mut-arena.ensures.value c.requires.alive in
     let r = rw (← c.self.view_is) at c.requires in
     let g = c.self.inside in
     let o = c.index_mut-arena.result.now in
@@ -35,5 +37,6 @@ returns-clause-after c =
 
 pub returns-clause-holds : goal.returns-clause-holds
 returns-clause-holds c =
-    rw (← c.self.view_is) (ap (λ (x : Arena). x.holds)
-    (read_for c.self.inside c.self.invariant c.self.view_is c.requires.known c.index_mut-arena.result.now c.index_mut-arena.ensures.value c.requires.alive).looked)
+    let h =
+    read_for c.self.inside c.self.invariant c.self.view_is c.requires.known c.index_mut-arena.result.now c.index_mut-arena.ensures.value c.requires.alive in
+    rw (← c.self.view_is) (ap (λ (x : Arena). x.holds) h.looked)

@@ -24,7 +24,8 @@ allotted : (c : In_ok-resize)
     × IsSoundMono f.limit (entered_of f) arenas
 allotted c =
     let f = c.self.inside in
-    let h = read_for c.self.inside c.self.invariant c.self.view_is c.requires.known c.index_mut-arena.result.now c.index_mut-arena.ensures.value c.requires.alive in
+    let h =
+    read_for c.self.inside c.self.invariant c.self.view_is c.requires.known c.index_mut-arena.result.now c.index_mut-arena.ensures.value c.requires.alive in
     let o = c.index_mut-arena.result.now in
     let end = c.rounded-place.result + c.from.result in
     let fits : end ≤ f.limit = omega (arith, c.if-end-from.false, c.from-2.ensures) in
