@@ -1,15 +1,12 @@
 -- A byte is what one caller's entries leave, where all others spare it.
-use Rattle.std.proofs.Common.{◌≡◌, ◌≢◌, ℕ, ◌+◌, ◌/◌, ◌%◌, ◌^◌, ◌<◌, ◌==◌, Bool, true, false, if◌then◌else◌, cond, List, [], ◌∷◌, refl, ap, sym, ◌∙◌, subst, arith, slice_index, slice_set, length}
-use Rattle.std.proofs.lemmas.Bool.Decides.{nat_tests}
-use Rattle.std.proofs.lemmas.List.{get_or-set_same, get_or-set_other}
+use Rattle.std.proofs.Common.{◌≡◌, ◌≢◌, ℕ, ◌+◌, ◌/◌, ◌%◌, ◌^◌, ◌<◌, ◌==◌, Bool, true, false, if◌then◌else◌, cond, [], ◌∷◌, refl, ap, sym, ◌∙◌, subst, arith, length}
 use Rattle.fm_base_bytes.specs.Words.{byte_of, byte_at}
 use Rattle.fm_base.specs.declared.caller.Caller.{Caller}
 use Rattle.fm_base.specs.declared.arena_id.ArenaId.{ArenaId}
 use Rattle.fm_base.specs.Arenas.{State, Arena, are_one, arena_of, changed, has_arena, same_id}
-use Rattle.fm_base.specs.Calls.{Call, Open, Enter, Read, Write, SwapIf, Add, Allocate, Leave, Hold, Unhold, Shut, End, Lend, Back, Reply, Fine, Closed, Held, TooManyHolds, Found, Given, NoRoom, entry_of}
+use Rattle.fm_base.specs.Calls.{Call, Write, SwapIf, Add, Reply, Found, entry_of}
 use Rattle.fm_base.specs.Histories.{made_by}
 use Rattle.fm_base.specs.Machine.{MayCall, reply_to, Alters, made, change_of, after, written}
-use Rattle.fm_base.specs.Untouched.{Spares}
 use Rattle.fm_base.proofs.Lookup.{Same, made_lookup, arena_of-id, arena_of-none, lookup_changed, swapped_hit, swapped_miss}
 use Rattle.fm_base.proofs.Names.{same_id-true, same_id-self, are_one-self}
 use Rattle.fm_base.proofs.Untouched.{put_at, spared}

@@ -1,11 +1,10 @@
 -- A legal history counts the handles of each arena.
-use Rattle.std.proofs.Common.{◌≡◌, ◌≢◌, ℕ, ◌+◌, ◌<◌, ◌==◌, Bool, true, false, if◌then◌else◌, List, [], ◌∷◌, ◌++◌, refl, ap, sym, ◌∙◌, subst, arith}
-use Rattle.std.proofs.lemmas.Bool.{eqb-true}
+use Rattle.std.proofs.Common.{◌≡◌, ◌≢◌, ℕ, ◌+◌, ◌<◌, Bool, true, false, List, [], ◌∷◌, ◌++◌, refl, ap, sym, ◌∙◌, subst, arith}
 use Rattle.fm_base.specs.declared.caller.Caller.{Caller}
 use Rattle.fm_base.specs.declared.arena_id.ArenaId.{ArenaId}
 use Rattle.fm_base.specs.Arenas.{Life, Alive, Closing, Ended, State, arena_of, has_arena}
-use Rattle.fm_base.specs.Calls.{Call, Open, Enter, Read, Write, SwapIf, Add, Allocate, Leave, Hold, Unhold, Shut, End, Lend, Back, Reply, Fine, Held, Entry}
-use Rattle.fm_base.specs.Machine.{MayCall, reply_to, hold_reply, shut_reply, after}
+use Rattle.fm_base.specs.Calls.{Call, Open, Enter, Read, Write, SwapIf, Add, Allocate, Leave, Hold, Unhold, Shut, End, Lend, Back, Reply, Fine, Entry}
+use Rattle.fm_base.specs.Machine.{MayCall, reply_to, shut_reply, after}
 use Rattle.fm_base.specs.Histories.{IsLegal, state_after}
 use Rattle.fm_base.proofs.Growing.{there_by_life}
 use Rattle.fm_base.proofs.Making.{IsLegal-split}

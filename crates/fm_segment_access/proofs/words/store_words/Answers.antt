@@ -1,4 +1,4 @@
-use Rattle.std.proofs.Common.{arith, sym, subst, length, drop, ◌+◌, ◌*◌, ◌≤◌, ◌≡◌}
+use Rattle.std.proofs.Common.{arith, sym, subst, drop, ◌*◌}
 use Rattle.std.proofs.lemmas.List.{length-take}
 use Rattle.fm_base.specs.Learnt.{AfterStores}
 use Rattle.fm_base.proofs.Storing.{stores_none, stores_reach, stores_more}
