@@ -61,6 +61,8 @@ impl VarHandle {
     }
 
     /// The same for a call that doesn't work on every value. Refused first: `Unsupported`, where it doesn't on this one.
+    /// Inlined, so that which values are asked for is a constant in each call.
+    #[inline(always)]
     pub(super) fn update_place_of(
         &self,
         support: Support,
@@ -78,6 +80,7 @@ impl VarHandle {
         self.writable_place_of(s, base, indices)
     }
 
+    #[inline(always)]
     fn supports(&self, support: Support) -> bool
         ensures { result ≡ supports support self.now.value }
     {
