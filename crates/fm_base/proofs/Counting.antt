@@ -33,35 +33,36 @@ other_word : (s : State) (a id : ArenaId) (w v word : ℕ) → ¬ ((a ≡ id) ×
 other_word s a id w v word other e =
     let apart : word ≢ w = (λ is. other (sym (arena_of-id s a) ∙ e, sym is)) in get_or-set_other (arena_of s a).words w word v 0 apart
 
--- A call that leaves the word.
-word_by : (limit : ℕ) (s : State) (c : Caller) (call : Call) (reply : Reply) (id : ArenaId) (word : ℕ) → Leaves id word call
-    → Relates (Same (λ a. slice_index a.words word) id) s (change_of limit c call reply)
-unfolding Same
-word_by limit s c (Open a) reply id word leaves = λ e. zeros_at (words_within limit) word
-word_by limit s c (Enter a) Fine id word leaves = λ e. refl
-word_by limit s c (Write a w v) reply id word leaves = other_word s a id w v word leaves
-word_by limit s c (SwapIf a w old new) (Found found) id word leaves =
-    elim (found == old) as (λ b. (arena_of s a).id ≡ id
-    → slice_index (if b then slice_set (arena_of s a).words w new else (arena_of s a).words) word ≡ slice_index (arena_of s a).words word) [
-      | true ↦ other_word s a id w new word leaves
-      | false ↦ (λ e. refl)
-    ]
-word_by limit s c (Add a w n) (Found found) id word leaves = other_word s a id w ((found + n) % 2 ^ 64) word leaves
-word_by limit s c (Allocate a size align) (Given p) id word leaves = λ e. refl
-word_by limit s c (Leave a) reply id word leaves = λ e. refl
-word_by limit s c (Hold a) Fine id word leaves = λ e. refl
-word_by limit s c (Unhold a) reply id word leaves = λ e. refl
-word_by limit s c (Shut a) Fine id word leaves = λ e. refl
-word_by limit s c (End a) reply id word leaves = λ e. refl
-word_by limit s c call reply id word leaves = tt
+module _ (limit : ℕ) (s : State) (c : Caller) where
+  -- A call that leaves the word.
+  word_by : (call : Call) (reply : Reply) (id : ArenaId) (word : ℕ) → Leaves id word call
+      → Relates (Same (λ a. slice_index a.words word) id) s (change_of limit c call reply)
+  unfolding Same
+  word_by (Open a) reply id word leaves = λ e. zeros_at (words_within limit) word
+  word_by (Enter a) Fine id word leaves = λ e. refl
+  word_by (Write a w v) reply id word leaves = other_word s a id w v word leaves
+  word_by (SwapIf a w old new) (Found found) id word leaves =
+      elim (found == old) as (λ b. (arena_of s a).id ≡ id
+      → slice_index (if b then slice_set (arena_of s a).words w new else (arena_of s a).words) word ≡ slice_index (arena_of s a).words word) [
+        | true ↦ other_word s a id w new word leaves
+        | false ↦ (λ e. refl)
+      ]
+  word_by (Add a w n) (Found found) id word leaves = other_word s a id w ((found + n) % 2 ^ 64) word leaves
+  word_by (Allocate a size align) (Given p) id word leaves = λ e. refl
+  word_by (Leave a) reply id word leaves = λ e. refl
+  word_by (Hold a) Fine id word leaves = λ e. refl
+  word_by (Unhold a) reply id word leaves = λ e. refl
+  word_by (Shut a) Fine id word leaves = λ e. refl
+  word_by (End a) reply id word leaves = λ e. refl
+  word_by call reply id word leaves = tt
 
--- So it stays where it is looked up.
-word_still : (limit : ℕ) (s : State) (c : Caller) (call : Call) (reply : Reply) (id : ArenaId) (word : ℕ) → Leaves id word call
-    → word_in (state_by limit s c call reply) id word ≡ word_in s id word
-unfolding Same
-word_still limit s c call reply id word leaves =
-    made_lookup (Same (λ a. slice_index a.words word) id) (λ a e. refl) s (change_of limit c call reply) (word_by limit s c call reply id word leaves) id
-    (arena_of-id s id)
+  -- So it stays where it is looked up.
+  word_still : (call : Call) (reply : Reply) (id : ArenaId) (word : ℕ) → Leaves id word call
+      → word_in (state_by limit s c call reply) id word ≡ word_in s id word
+  unfolding Same
+  word_still call reply id word leaves =
+      made_lookup (Same (λ a. slice_index a.words word) id) (λ a e. refl) s (change_of limit c call reply) (word_by call reply id word leaves) id
+      (arena_of-id s id)
 
 -- an Add to this word
 abbrev IsAddTo : ArenaId → ℕ → Call → Type 0

@@ -64,25 +64,26 @@ StepsBy s (Opens o) = ⊤
 StepsBy s (Alters id f named) = Steps (arena_of s id) (f (arena_of s id))
 StepsBy s Rests = ⊤
 
--- what a legal call does to the arena that it alters
-steps_by : (limit : ℕ) (s : State) (c : Caller) (call : Call) (reply : Reply) → MayCall s c call → reply ≡ reply_to limit s call
-    → StepsBy s (change_of limit c call reply)
-steps_by limit s c (Enter id) Fine may is = record { given = omega arith; over = λ o. let e : Fine ≡ Closed = is ∙ ap enter_reply o.life in absurd (cc) }
-steps_by limit s c (Write id word value) reply may is = Steps-words (arena_of s id) _
-steps_by limit s c (SwapIf id word old new) (Found found) may is = Steps-words (arena_of s id) _
-steps_by limit s c (Add id word n) (Found found) may is = Steps-words (arena_of s id) _
-steps_by limit s c (Allocate id size align) (Given place) may is =
-    let g = given_is limit (arena_of s id).given size align place is in
-    let up = le-rounded_up (arena_of s id).given align (power_pos align may.1) in
-    record { given = (let p = g.rounded in omega arith); over = λ o. record { life = o.life; empty = o.empty } }
-steps_by limit s c (Leave id) reply may is =
-    record { given = omega arith; over = λ o. record { life = o.life; empty = ap (λ (xs : List Caller). filter (λ x. not (are_one x c)) xs) o.empty } }
-steps_by limit s c (Hold id) Fine may is = Steps-holds (arena_of s id) _
-steps_by limit s c (Unhold id) reply may is = Steps-holds (arena_of s id) _
-steps_by limit s c (Shut id) Fine may is =
-    record { given = omega arith; over = λ o. let e : Fine ≡ Closed = is ∙ ap (λ l. shut_reply l (arena_of s id).holds) o.life in absurd (cc) }
-steps_by limit s c (End id) reply may is = record { given = omega arith; over = λ o. record { life = refl; empty = o.empty } }
-steps_by limit s c call reply may is = tt
+module _ (limit : ℕ) (s : State) (c : Caller) where
+  -- what a legal call does to the arena that it alters
+  steps_by : (call : Call) (reply : Reply) → MayCall s c call → reply ≡ reply_to limit s call
+      → StepsBy s (change_of limit c call reply)
+  steps_by (Enter id) Fine may is = record { given = omega arith; over = λ o. let e : Fine ≡ Closed = is ∙ ap enter_reply o.life in absurd (cc) }
+  steps_by (Write id word value) reply may is = Steps-words (arena_of s id) _
+  steps_by (SwapIf id word old new) (Found found) may is = Steps-words (arena_of s id) _
+  steps_by (Add id word n) (Found found) may is = Steps-words (arena_of s id) _
+  steps_by (Allocate id size align) (Given place) may is =
+      let g = given_is limit (arena_of s id).given size align place is in
+      let up = le-rounded_up (arena_of s id).given align (power_pos align may.1) in
+      record { given = (let p = g.rounded in omega arith); over = λ o. record { life = o.life; empty = o.empty } }
+  steps_by (Leave id) reply may is =
+      record { given = omega arith; over = λ o. record { life = o.life; empty = ap (λ (xs : List Caller). filter (λ x. not (are_one x c)) xs) o.empty } }
+  steps_by (Hold id) Fine may is = Steps-holds (arena_of s id) _
+  steps_by (Unhold id) reply may is = Steps-holds (arena_of s id) _
+  steps_by (Shut id) Fine may is =
+      record { given = omega arith; over = λ o. let e : Fine ≡ Closed = is ∙ ap (λ l. shut_reply l (arena_of s id).holds) o.life in absurd (cc) }
+  steps_by (End id) reply may is = record { given = omega arith; over = λ o. record { life = refl; empty = o.empty } }
+  steps_by call reply may is = tt
 
 GivesMore : Arena → Arena → Type 0
 GivesMore a b = a.given ≤ b.given

@@ -10,6 +10,11 @@ use Rattle.fm_base.specs.Arenas.{same_id, kind_number, are_one}
 eqb_same : (n : ℕ) → (n == n) ≡ true
 eqb_same n = grind (arith, nat_tests)
 
+-- a test that isn't passed fails
+pub not_true : (b : Bool) → ¬ (b ≡ true) → b ≡ false
+not_true true n = absurd (n refl)
+not_true false n = refl
+
 -- a caller is the same as itself
 pub are_one-self : (c : Caller) → are_one c c ≡ true
 are_one-self c = rw (eqb_same c.number, eqb_same c.term) refl
@@ -25,10 +30,7 @@ are_one-true c d h =
 
 -- callers that differ don't pass the test
 pub are_one-not : (c d : Caller) → c ≢ d → are_one c d ≡ false
-are_one-not c d h =
-    let P : Bool → Type 0 = λ b. are_one c d ≡ b → are_one c d ≡ false in
-    let go : (b : Bool) → P b = λ b. elim b as P [ true ↦ (λ e. absurd (h (are_one-true c d e))) | false ↦ (λ e. e) ] in
-    go (are_one c d) refl
+are_one-not c d h = not_true (are_one c d) (λ e. h (are_one-true c d e))
 
 -- callers that don't pass the test differ
 pub are_one-false : (c d : Caller) → are_one c d ≡ false → c ≢ d

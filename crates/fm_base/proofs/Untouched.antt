@@ -2,6 +2,7 @@
 use Rattle.std.proofs.Common.{◌≡◌, ◌≢◌, ℕ, ◌+◌, ◌/◌, ◌%◌, ◌^◌, ◌<◌, ◌==◌, Bool, true, false, if◌then◌else◌, List, [], ◌∷◌, refl, ap, sym, ◌∙◌, subst, arith, slice_index, slice_set, length}
 use Rattle.std.specs.Prelude.{⊤}
 use Rattle.std.specs.List.{AllByRecursion}
+use Rattle.std.proofs.lemmas.Bool.{eqb-true}
 use Rattle.std.proofs.lemmas.Bool.Decides.{nat_tests}
 use Rattle.std.proofs.lemmas.List.{get_or-set_same, get_or-set_other}
 use Rattle.fm_base_bytes.specs.Words.{byte_of, byte_at}
@@ -17,20 +18,31 @@ use Rattle.fm_base.proofs.Tidiness.{zeros_at}
 
 -- ---- bytes
 
--- A word is put that leaves the byte.
-put_byte : (words : List ℕ) (word v place : ℕ) → word < length words → (word ≡ place / 8 → byte_of v (place % 8) ≡ byte_at words place)
-    → byte_at (slice_set words word v) place ≡ byte_at words place
-put_byte words word v place within same =
-    let P : Bool → Type 0 = λ b. (word == place / 8) ≡ b → byte_at (slice_set words word v) place ≡ byte_at words place in
+-- A byte of a list of words in which one is put.
+pub put_at : (words : List ℕ) (word v place : ℕ) → word < length words
+    → byte_at (slice_set words word v) place ≡ (if word == place / 8 then byte_of v (place % 8) else byte_at words place)
+put_at words word v place within =
+    let P : Bool → Type 0 = λ b. (word == place / 8) ≡ b
+    → byte_at (slice_set words word v) place ≡ (if b then byte_of v (place % 8) else byte_at words place) in
     let go : (b : Bool) → P b = λ b. elim b as P [
       | true ↦ (λ e.
           let here : word ≡ place / 8 = grind (arith, nat_tests) in
-          ap (λ n. byte_of n (place % 8)) (ap (λ n. slice_index (slice_set words word v) n) (sym here) ∙ get_or-set_same words word v 0 within) ∙ same here)
+          ap (λ n. byte_of n (place % 8)) (ap (λ n. slice_index (slice_set words word v) n) (sym here) ∙ get_or-set_same words word v 0 within))
       | false ↦ (λ e.
           let other : place / 8 ≢ word = grind (arith, nat_tests) in
           ap (λ n. byte_of n (place % 8)) (get_or-set_other words word (place / 8) v 0 other))
     ] in
     go (word == place / 8) refl
+
+-- A word is put that leaves the byte.
+put_byte : (words : List ℕ) (word v place : ℕ) → word < length words → (word ≡ place / 8 → byte_of v (place % 8) ≡ byte_at words place)
+    → byte_at (slice_set words word v) place ≡ byte_at words place
+put_byte words word v place within same = put_at words word v place within ∙ go (word == place / 8) (λ e. same (eqb-true word (place / 8) e))
+  where
+    go : (b : Bool) → (b ≡ true → byte_of v (place % 8) ≡ byte_at words place)
+        → (if b then byte_of v (place % 8) else byte_at words place) ≡ byte_at words place
+    go true h = h refl
+    go false h = refl
 
 -- A call that spares the byte leaves it.
 byte_by : (limit : ℕ) (s : State) (c : Caller) (call : Call) (reply : Reply) (id : ArenaId) (place : ℕ) → MayCall s c call → reply ≡ reply_to limit s call

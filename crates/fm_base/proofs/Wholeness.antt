@@ -20,30 +20,31 @@ put limit a word value fits w = record { words = length-set _ _ _ ∙ w.words; f
 alike : (limit : ℕ) (a b : Arena) → b.words ≡ a.words → b.given ≡ a.given → IsWhole limit a → IsWhole limit b
 alike limit a b words given w = record { words = rw words w.words; fit = rw words w.fit; given = rw given w.given }
 
-whole_by : (limit : ℕ) (s : State) (c : Caller) (call : Call) (reply : Reply) → MayCall s c call → reply ≡ reply_to limit s call
-    → Becomes (IsWhole limit) s (change_of limit c call reply)
-whole_by limit s c (Open id) reply may is = record {
-  words = length-replicate {A = ℕ} (words_within limit) 0;
-  fit = All-replicate (λ n. n < 2 ^ 64) (words_within limit) 0 (omega arith);
-  given = omega arith;
-}
-whole_by limit s c (Enter id) Fine may is = alike limit _ _ refl refl
-whole_by limit s c (Write id word value) reply may is = put limit (arena_of s id) word value may.fits
-whole_by limit s c (SwapIf id word old new) (Found found) may is =
-    elim (found == old) as (λ b. IsWhole limit (arena_of s id)
-    → IsWhole limit (record (arena_of s id) { words = if b then slice_set (arena_of s id).words word new else (arena_of s id).words })) [
-      | true ↦ put limit (arena_of s id) word new may.fits
-      | false ↦ alike limit _ _ refl refl
-    ]
-whole_by limit s c (Add id word n) (Found found) may is = put limit (arena_of s id) word ((found + n) % 2 ^ 64) (omega arith)
-whole_by limit s c (Allocate id size align) (Given place) may is =
-    λ w. record { words = w.words; fit = w.fit; given = (given_is limit (arena_of s id).given size align place is).within }
-whole_by limit s c (Leave id) reply may is = alike limit _ _ refl refl
-whole_by limit s c (Hold id) Fine may is = alike limit _ _ refl refl
-whole_by limit s c (Unhold id) reply may is = alike limit _ _ refl refl
-whole_by limit s c (Shut id) Fine may is = alike limit _ _ refl refl
-whole_by limit s c (End id) reply may is = alike limit _ _ refl refl
-whole_by limit s c call reply may is = tt
+module _ (limit : ℕ) (s : State) (c : Caller) where
+  whole_by : (call : Call) (reply : Reply) → MayCall s c call → reply ≡ reply_to limit s call
+      → Becomes (IsWhole limit) s (change_of limit c call reply)
+  whole_by (Open id) reply may is = record {
+    words = length-replicate {A = ℕ} (words_within limit) 0;
+    fit = All-replicate (λ n. n < 2 ^ 64) (words_within limit) 0 (omega arith);
+    given = omega arith;
+  }
+  whole_by (Enter id) Fine may is = alike limit _ _ refl refl
+  whole_by (Write id word value) reply may is = put limit (arena_of s id) word value may.fits
+  whole_by (SwapIf id word old new) (Found found) may is =
+      elim (found == old) as (λ b. IsWhole limit (arena_of s id)
+      → IsWhole limit (record (arena_of s id) { words = if b then slice_set (arena_of s id).words word new else (arena_of s id).words })) [
+        | true ↦ put limit (arena_of s id) word new may.fits
+        | false ↦ alike limit _ _ refl refl
+      ]
+  whole_by (Add id word n) (Found found) may is = put limit (arena_of s id) word ((found + n) % 2 ^ 64) (omega arith)
+  whole_by (Allocate id size align) (Given place) may is =
+      λ w. record { words = w.words; fit = w.fit; given = (given_is limit (arena_of s id).given size align place is).within }
+  whole_by (Leave id) reply may is = alike limit _ _ refl refl
+  whole_by (Hold id) Fine may is = alike limit _ _ refl refl
+  whole_by (Unhold id) reply may is = alike limit _ _ refl refl
+  whole_by (Shut id) Fine may is = alike limit _ _ refl refl
+  whole_by (End id) reply may is = alike limit _ _ refl refl
+  whole_by call reply may is = tt
 
 -- A legal history leaves known arenas whole.
 pub whole_after : (limit : ℕ) (s : State) (es : List Entry) → IsLegal limit s es → ((id : ArenaId) → has_arena s id ≡ true → IsWhole limit (arena_of s id))

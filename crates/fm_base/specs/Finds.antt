@@ -65,44 +65,25 @@ pub record Rest : Type 0 where
 
 abbrev pub is_draw : FindStep → Bool
 is_draw (Draws expected) = true
-is_draw (Visits id number) = false
-is_draw (TakesSlot expected bit) = false
-is_draw (TakesPage group expected bit) = false
-is_draw (Maps id part page) = false
-is_draw (TakesNumber group expected bit) = false
+is_draw step = false
 
 abbrev pub is_slot : FindStep → Bool
-is_slot (Draws expected) = false
-is_slot (Visits id number) = false
 is_slot (TakesSlot expected bit) = true
-is_slot (TakesPage group expected bit) = false
-is_slot (Maps id part page) = false
-is_slot (TakesNumber group expected bit) = false
+is_slot step = false
 
 abbrev pub is_number : FindStep → Bool
-is_number (Draws expected) = false
-is_number (Visits id number) = false
-is_number (TakesSlot expected bit) = false
-is_number (TakesPage group expected bit) = false
-is_number (Maps id part page) = false
 is_number (TakesNumber group expected bit) = true
+is_number step = false
 
 -- the word of page bits or number bits that the step exchanged
 abbrev pub group_of : FindStep → ℕ
-group_of (Draws expected) = 0
-group_of (Visits id number) = 0
-group_of (TakesSlot expected bit) = 0
 group_of (TakesPage group expected bit) = group
-group_of (Maps id part page) = 0
 group_of (TakesNumber group expected bit) = group
+group_of step = 0
 
 abbrev pub is_page : FindStep → Bool
-is_page (Draws expected) = false
-is_page (Visits id number) = false
-is_page (TakesSlot expected bit) = false
 is_page (TakesPage group expected bit) = true
-is_page (Maps id part page) = false
-is_page (TakesNumber group expected bit) = false
+is_page step = false
 
 -- the finds grow by these
 pub record FindsMore (old new : List Find) : Type 0 where

@@ -180,34 +180,33 @@ replaced_parts at width word v =
       ap (λ n. n / 2 ^ (8 * at)) e ∙ shr_high (hi * 2 ^ (8 * width) + v) (8 * at) (word % 2 ^ (8 * at)) lo,
     )
 
-replaced_bytes : (at width rest word v : ℕ) → v < 2 ^ (8 * width)
-    → bytes_of (at + (width + rest)) (replaced word at width v)
-    ≡ bytes_of at word ++ (bytes_of width v ++ bytes_of rest (word / 2 ^ (8 * (at + width))))
-replaced_bytes at width rest word v h =
-    let parts = replaced_parts at width word v in
-    let hi = word / 2 ^ (8 * (at + width)) in
-    let low : bytes_of at (replaced word at width v) ≡ bytes_of at word =
-    sym (bytes_of-mod at (replaced word at width v)) ∙ ap (bytes_of at) parts.0 ∙ bytes_of-mod at word in
-    let mid : bytes_of width (hi * 2 ^ (8 * width) + v) ≡ bytes_of width v =
-    sym (bytes_of-mod width (hi * 2 ^ (8 * width) + v)) ∙ ap (bytes_of width) (mod_low hi (8 * width) v h) in
-    let high : bytes_of rest ((hi * 2 ^ (8 * width) + v) / 2 ^ (8 * width)) ≡ bytes_of rest hi =
-    ap (bytes_of rest) (shr_high hi (8 * width) v h) in
-    bytes_of-add at (width + rest) (replaced word at width v)
-    ∙ ap (λ bs. bs ++ bytes_of (width + rest) (replaced word at width v / 2 ^ (8 * at))) low
-    ∙ ap (λ n. bytes_of at word ++ bytes_of (width + rest) n) parts.1
-    ∙ ap (λ bs. bytes_of at word ++ bs) (bytes_of-add width rest (hi * 2 ^ (8 * width) + v)
-    ∙ ap (λ bs. bs ++ bytes_of rest ((hi * 2 ^ (8 * width) + v) / 2 ^ (8 * width))) mid ∙ ap (λ bs. bytes_of width v ++ bs) high)
+module _ (at width rest word v : ℕ) (h : v < 2 ^ (8 * width)) where
+  replaced_bytes : bytes_of (at + (width + rest)) (replaced word at width v)
+      ≡ bytes_of at word ++ (bytes_of width v ++ bytes_of rest (word / 2 ^ (8 * (at + width))))
+  replaced_bytes =
+      let parts = replaced_parts at width word v in
+      let hi = word / 2 ^ (8 * (at + width)) in
+      let low : bytes_of at (replaced word at width v) ≡ bytes_of at word =
+      sym (bytes_of-mod at (replaced word at width v)) ∙ ap (bytes_of at) parts.0 ∙ bytes_of-mod at word in
+      let mid : bytes_of width (hi * 2 ^ (8 * width) + v) ≡ bytes_of width v =
+      sym (bytes_of-mod width (hi * 2 ^ (8 * width) + v)) ∙ ap (bytes_of width) (mod_low hi (8 * width) v h) in
+      let high : bytes_of rest ((hi * 2 ^ (8 * width) + v) / 2 ^ (8 * width)) ≡ bytes_of rest hi =
+      ap (bytes_of rest) (shr_high hi (8 * width) v h) in
+      bytes_of-add at (width + rest) (replaced word at width v)
+      ∙ ap (λ bs. bs ++ bytes_of (width + rest) (replaced word at width v / 2 ^ (8 * at))) low
+      ∙ ap (λ n. bytes_of at word ++ bytes_of (width + rest) n) parts.1
+      ∙ ap (λ bs. bytes_of at word ++ bs) (bytes_of-add width rest (hi * 2 ^ (8 * width) + v)
+      ∙ ap (λ bs. bs ++ bytes_of rest ((hi * 2 ^ (8 * width) + v) / 2 ^ (8 * width))) mid ∙ ap (λ bs. bytes_of width v ++ bs) high)
 
-replaced_cut : (at width rest word v : ℕ) → v < 2 ^ (8 * width)
-    → bytes_of (at + (width + rest)) (replaced word at width v)
-    ≡ take at (bytes_of (at + (width + rest)) word) ++ (bytes_of width v ++ drop (at + width) (bytes_of (at + (width + rest)) word))
-replaced_cut at width rest word v h =
-    let e : at + (width + rest) ≡ at + width + rest = omega arith in
-    let last : drop (at + width) (bytes_of (at + (width + rest)) word) ≡ bytes_of rest (word / 2 ^ (8 * (at + width))) =
-    ap (λ n. drop (at + width) (bytes_of n word)) e ∙ drop-bytes_of (at + width) rest word in
-    replaced_bytes at width rest word v h
-    ∙ ap (λ bs. bs ++ (bytes_of width v ++ bytes_of rest (word / 2 ^ (8 * (at + width))))) (sym (take-bytes_of at (width + rest) word))
-    ∙ ap (λ bs. take at (bytes_of (at + (width + rest)) word) ++ (bytes_of width v ++ bs)) (sym last)
+  replaced_cut : bytes_of (at + (width + rest)) (replaced word at width v)
+      ≡ take at (bytes_of (at + (width + rest)) word) ++ (bytes_of width v ++ drop (at + width) (bytes_of (at + (width + rest)) word))
+  replaced_cut =
+      let e : at + (width + rest) ≡ at + width + rest = omega arith in
+      let last : drop (at + width) (bytes_of (at + (width + rest)) word) ≡ bytes_of rest (word / 2 ^ (8 * (at + width))) =
+      ap (λ n. drop (at + width) (bytes_of n word)) e ∙ drop-bytes_of (at + width) rest word in
+      replaced_bytes
+      ∙ ap (λ bs. bs ++ (bytes_of width v ++ bytes_of rest (word / 2 ^ (8 * (at + width))))) (sym (take-bytes_of at (width + rest) word))
+      ∙ ap (λ bs. take at (bytes_of (at + (width + rest)) word) ++ (bytes_of width v ++ bs)) (sym last)
 
 -- The replaced bytes are those of what was put there, and the others stay.
 pub bytes_of-replaced : (n at width word v : ℕ) → at + width ≤ n → v < 2 ^ (8 * width)

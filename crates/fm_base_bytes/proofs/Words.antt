@@ -32,33 +32,28 @@ bytes_in-more : (word : ℕ) (words : List ℕ) → bytes_in (word ∷ words) �
 unfolding bytes_in
 bytes_in-more word words = refl
 
--- The bytes of the first words are the first bytes.
-pub take-bytes_in : (w : ℕ) (words : List ℕ) → take (8 * w) (bytes_in words) ≡ bytes_in (take w words)
-take-bytes_in w words = elim (cases_lt w (length words)) [
-  | inl h ↦
-      let len : length (bytes_in (take w words)) ≡ 8 * w =
-      length-bytes_in (take w words) ∙ ap (λ n. 8 * n) (length-take-le w words (omega arith)) in
-      ap (λ ws. take (8 * w) (bytes_in ws)) (sym (take-append-drop w words))
-      ∙ ap (take (8 * w)) (bytes_in-append (take w words) (drop w words))
-      ∙ take_at (bytes_in (take w words)) (bytes_in (drop w words)) (8 * w) len
-  | inr h ↦
-      let past : length (bytes_in words) ≤ 8 * w = omega (arith, length-bytes_in words) in
-      take_all (8 * w) (bytes_in words) past ∙ ap bytes_in (sym (take_all w words h))
-]
+module _ (w : ℕ) (words : List ℕ) where
+  -- The bytes of words are those before a word and those from it on.
+  parted : bytes_in words ≡ bytes_in (take w words) ++ bytes_in (drop w words)
+  parted = ap bytes_in (sym (take-append-drop w words)) ∙ bytes_in-append (take w words) (drop w words)
 
--- The bytes from a word on are those of the words from there on.
-pub drop-bytes_in : (w : ℕ) (words : List ℕ) → drop (8 * w) (bytes_in words) ≡ bytes_in (drop w words)
-drop-bytes_in w words = elim (cases_lt w (length words)) [
-  | inl h ↦
-      let len : length (bytes_in (take w words)) ≡ 8 * w =
-      length-bytes_in (take w words) ∙ ap (λ n. 8 * n) (length-take-le w words (omega arith)) in
-      ap (λ ws. drop (8 * w) (bytes_in ws)) (sym (take-append-drop w words))
-      ∙ ap (drop (8 * w)) (bytes_in-append (take w words) (drop w words))
-      ∙ drop_at (bytes_in (take w words)) (bytes_in (drop w words)) (8 * w) len
-  | inr h ↦
-      let past : length (bytes_in words) ≤ 8 * w = omega (arith, length-bytes_in words) in
-      drop_all (8 * w) (bytes_in words) past ∙ sym (ap bytes_in (drop_all w words h) ∙ bytes_in-none)
-]
+  length-before : w < length words → length (bytes_in (take w words)) ≡ 8 * w
+  length-before h = length-bytes_in (take w words) ∙ ap (λ n. 8 * n) (length-take-le w words (omega arith))
+
+  -- The bytes of the first words are the first bytes.
+  pub take-bytes_in : take (8 * w) (bytes_in words) ≡ bytes_in (take w words)
+  take-bytes_in = elim (cases_lt w (length words)) [
+    | inl h ↦ ap (take (8 * w)) parted ∙ take_at (bytes_in (take w words)) (bytes_in (drop w words)) (8 * w) (length-before h)
+    | inr h ↦ take_all (8 * w) (bytes_in words) (omega (arith, length-bytes_in words)) ∙ ap bytes_in (sym (take_all w words h))
+  ]
+
+  -- The bytes from a word on are those of the words from there on.
+  pub drop-bytes_in : drop (8 * w) (bytes_in words) ≡ bytes_in (drop w words)
+  drop-bytes_in = elim (cases_lt w (length words)) [
+    | inl h ↦ ap (drop (8 * w)) parted ∙ drop_at (bytes_in (take w words)) (bytes_in (drop w words)) (8 * w) (length-before h)
+    | inr h ↦
+        drop_all (8 * w) (bytes_in words) (omega (arith, length-bytes_in words)) ∙ sym (ap bytes_in (drop_all w words h) ∙ bytes_in-none)
+  ]
 
 -- The bytes from a word on begin with its eight.
 bytes_from : (w : ℕ) (words : List ℕ) → w < length words → drop (8 * w) (bytes_in words) ≡ bytes_of 8 (get_or words w 0) ++ bytes_in (drop (w + 1) words)

@@ -1,37 +1,18 @@
 -- A byte is what one caller's entries leave, where all others spare it.
-use Rattle.std.proofs.Common.{◌≡◌, ◌≢◌, ℕ, ◌+◌, ◌/◌, ◌%◌, ◌^◌, ◌<◌, ◌==◌, Bool, true, false, if◌then◌else◌, cond, List, [], ◌∷◌, refl, ap, sym, ◌∙◌, subst, arith, slice_index, slice_set, length}
-use Rattle.std.proofs.lemmas.Bool.Decides.{nat_tests}
-use Rattle.std.proofs.lemmas.List.{get_or-set_same, get_or-set_other}
+use Rattle.std.proofs.Common.{◌≡◌, ◌≢◌, ℕ, ◌+◌, ◌/◌, ◌%◌, ◌^◌, ◌<◌, ◌==◌, Bool, true, false, if◌then◌else◌, cond, [], ◌∷◌, refl, ap, sym, ◌∙◌, subst, arith, length}
 use Rattle.fm_base_bytes.specs.Words.{byte_of, byte_at}
 use Rattle.fm_base.specs.declared.caller.Caller.{Caller}
 use Rattle.fm_base.specs.declared.arena_id.ArenaId.{ArenaId}
 use Rattle.fm_base.specs.Arenas.{State, Arena, are_one, arena_of, changed, has_arena, same_id}
-use Rattle.fm_base.specs.Calls.{Call, Open, Enter, Read, Write, SwapIf, Add, Allocate, Leave, Hold, Unhold, Shut, End, Lend, Back, Reply, Fine, Closed, Held, TooManyHolds, Found, Given, NoRoom, entry_of}
+use Rattle.fm_base.specs.Calls.{Call, Write, SwapIf, Add, Reply, Found, entry_of}
 use Rattle.fm_base.specs.Histories.{made_by}
 use Rattle.fm_base.specs.Machine.{MayCall, reply_to, Alters, made, change_of, after, written}
-use Rattle.fm_base.specs.Untouched.{Spares}
 use Rattle.fm_base.proofs.Lookup.{Same, made_lookup, arena_of-id, arena_of-none, lookup_changed, swapped_hit, swapped_miss}
 use Rattle.fm_base.proofs.Names.{same_id-true, same_id-self, are_one-self}
-use Rattle.fm_base.proofs.Untouched.{spared}
+use Rattle.fm_base.proofs.Untouched.{put_at, spared}
 use Rattle.fm_base_laws.specs.Own.{byte_put, byte_left, byte_behind, OwnDecide}
 
 -- ---- one word is put
-
--- A byte of a list of words in which one is put.
-put_at : (words : List ℕ) (word v place : ℕ) → word < length words
-    → byte_at (slice_set words word v) place ≡ (if word == place / 8 then byte_of v (place % 8) else byte_at words place)
-put_at words word v place within =
-    let P : Bool → Type 0 = λ b. (word == place / 8) ≡ b
-    → byte_at (slice_set words word v) place ≡ (if b then byte_of v (place % 8) else byte_at words place) in
-    let go : (b : Bool) → P b = λ b. elim b as P [
-      | true ↦ (λ e.
-          let here : word ≡ place / 8 = grind (arith, nat_tests) in
-          ap (λ n. byte_of n (place % 8)) (ap (λ n. slice_index (slice_set words word v) n) (sym here) ∙ get_or-set_same words word v 0 within))
-      | false ↦ (λ e.
-          let other : place / 8 ≢ word = grind (arith, nat_tests) in
-          ap (λ n. byte_of n (place % 8)) (get_or-set_other words word (place / 8) v 0 other))
-    ] in
-    go (word == place / 8) refl
 
 -- An arena that has a word is there.
 there_by_word : (s : State) (a : ArenaId) (word : ℕ) → word < length (arena_of s a).words → has_arena s a ≡ true
@@ -81,58 +62,31 @@ Leaves : (limit : ℕ) (s : State) (c : Caller) (call : Call) (reply : Reply) (i
 Leaves limit s c call reply id place =
     byte_at (arena_of (made (change_of limit c call reply) s) id).words place ≡ byte_left id place call reply (byte_at (arena_of s id).words place)
 
--- A call that puts nothing leaves the byte.
-still : (limit : ℕ) (s : State) (c : Caller) (call : Call) (reply : Reply) (id : ArenaId) (place : ℕ)
-    → MayCall s c call → reply ≡ reply_to limit s call
-    → Spares id place call
-    → byte_at (arena_of (made (change_of limit c call reply) s) id).words place ≡ byte_at (arena_of s id).words place
-still limit s c call reply id place may is spares = spared limit s (entry_of c call reply ∷ []) id place (may, is, tt) (spares, tt)
+module _ (limit : ℕ) (s : State) (c : Caller) where
+  -- A swap puts the new word where it found the old one.
+  swaps : (a : ArenaId) (word old new found : ℕ) (id : ArenaId) (place : ℕ) → word < length (arena_of s a).words
+      → Leaves limit s c (SwapIf a word old new) (Found found) id place
+  unfolding Leaves
+  swaps a word old new found id place within =
+      let byte : State → ℕ = λ t. byte_at (arena_of t id).words place in
+      let P : Bool → Type 0 = λ b. (found == old) ≡ b
+      → byte (made (change_of limit c (SwapIf a word old new) (Found found)) s) ≡ (if b then byte_put id place a word new (byte s) else byte s) in
+      let go : (b : Bool) → P b = λ b. elim b as P [
+        | true ↦ (λ hit. ap byte (swapped_hit s a word old new found hit) ∙ put_word s a id word new place within)
+        | false ↦ (λ miss. ap byte (swapped_miss s a word old new found miss))
+      ] in
+      go (found == old) refl
 
--- A swap puts the new word where it found the old one.
-swaps : (limit : ℕ) (s : State) (c : Caller) (a : ArenaId) (word old new found : ℕ) (id : ArenaId) (place : ℕ) → word < length (arena_of s a).words
-    → Leaves limit s c (SwapIf a word old new) (Found found) id place
-unfolding Leaves
-swaps limit s c a word old new found id place within =
-    let byte : State → ℕ = λ t. byte_at (arena_of t id).words place in
-    let P : Bool → Type 0 = λ b. (found == old) ≡ b
-    → byte (made (change_of limit c (SwapIf a word old new) (Found found)) s) ≡ (if b then byte_put id place a word new (byte s) else byte s) in
-    let go : (b : Bool) → P b = λ b. elim b as P [
-      | true ↦ (λ hit. ap byte (swapped_hit s a word old new found hit) ∙ put_word s a id word new place within)
-      | false ↦ (λ miss. ap byte (swapped_miss s a word old new found miss))
-    ] in
-    go (found == old) refl
-
--- Each call leaves the byte that its reply says.
-leaves : (limit : ℕ) (s : State) (c : Caller) (call : Call) (reply : Reply) (id : ArenaId) (place : ℕ)
-    → MayCall s c call → reply ≡ reply_to limit s call
-    → Leaves limit s c call reply id place
-unfolding Leaves
-leaves limit s c (Write a word v) reply id place may is = put_word s a id word v place may.within
-leaves limit s c (SwapIf a word old new) (Found found) id place may is = swaps limit s c a word old new found id place may.within
-leaves limit s c (SwapIf a word old new) Fine id place may is = refl
-leaves limit s c (SwapIf a word old new) Closed id place may is = refl
-leaves limit s c (SwapIf a word old new) (Held n) id place may is = refl
-leaves limit s c (SwapIf a word old new) TooManyHolds id place may is = refl
-leaves limit s c (SwapIf a word old new) (Given n) id place may is = refl
-leaves limit s c (SwapIf a word old new) (NoRoom n) id place may is = refl
-leaves limit s c (Add a word n) (Found found) id place may is = put_word s a id word ((found + n) % 2 ^ 64) place may.within
-leaves limit s c (Add a word n) Fine id place may is = refl
-leaves limit s c (Add a word n) Closed id place may is = refl
-leaves limit s c (Add a word n) (Held m) id place may is = refl
-leaves limit s c (Add a word n) TooManyHolds id place may is = refl
-leaves limit s c (Add a word n) (Given m) id place may is = refl
-leaves limit s c (Add a word n) (NoRoom m) id place may is = refl
-leaves limit s c (Open a) reply id place may is = still limit s c (Open a) reply id place may is tt
-leaves limit s c (Enter a) reply id place may is = still limit s c (Enter a) reply id place may is tt
-leaves limit s c (Read a word) reply id place may is = still limit s c (Read a word) reply id place may is tt
-leaves limit s c (Allocate a size align) reply id place may is = still limit s c (Allocate a size align) reply id place may is tt
-leaves limit s c (Leave a) reply id place may is = still limit s c (Leave a) reply id place may is tt
-leaves limit s c (Hold a) reply id place may is = still limit s c (Hold a) reply id place may is tt
-leaves limit s c (Unhold a) reply id place may is = still limit s c (Unhold a) reply id place may is tt
-leaves limit s c (Shut a) reply id place may is = still limit s c (Shut a) reply id place may is tt
-leaves limit s c (End a) reply id place may is = still limit s c (End a) reply id place may is tt
-leaves limit s c (Lend b a part) reply id place may is = still limit s c (Lend b a part) reply id place may is tt
-leaves limit s c (Back b) reply id place may is = still limit s c (Back b) reply id place may is tt
+  -- Each call leaves the byte that its reply says; one that puts nothing leaves it as it is.
+  leaves : (call : Call) (reply : Reply) (id : ArenaId) (place : ℕ) → MayCall s c call → reply ≡ reply_to limit s call
+      → Leaves limit s c call reply id place
+  unfolding Leaves
+  leaves (Write a word v) reply id place may is = put_word s a id word v place may.within
+  leaves (SwapIf a word old new) (Found found) id place may is = swaps a word old new found id place may.within
+  leaves (SwapIf a word old new) reply id place may is = refl
+  leaves (Add a word n) (Found found) id place may is = put_word s a id word ((found + n) % 2 ^ 64) place may.within
+  leaves (Add a word n) reply id place may is = refl
+  leaves call reply id place may is = spared limit s (entry_of c call reply ∷ []) id place (may, is, tt) (tt, tt)
 
 -- ---- entries in a row
 

@@ -1,11 +1,10 @@
 -- A legal history counts the handles of each arena.
-use Rattle.std.proofs.Common.{◌≡◌, ◌≢◌, ℕ, ◌+◌, ◌<◌, ◌==◌, Bool, true, false, if◌then◌else◌, List, [], ◌∷◌, ◌++◌, refl, ap, sym, ◌∙◌, subst, arith}
-use Rattle.std.proofs.lemmas.Bool.{eqb-true}
+use Rattle.std.proofs.Common.{◌≡◌, ◌≢◌, ℕ, ◌+◌, ◌<◌, Bool, true, false, List, [], ◌∷◌, ◌++◌, refl, ap, sym, ◌∙◌, subst, arith}
 use Rattle.fm_base.specs.declared.caller.Caller.{Caller}
 use Rattle.fm_base.specs.declared.arena_id.ArenaId.{ArenaId}
 use Rattle.fm_base.specs.Arenas.{Life, Alive, Closing, Ended, State, arena_of, has_arena}
-use Rattle.fm_base.specs.Calls.{Call, Open, Enter, Read, Write, SwapIf, Add, Allocate, Leave, Hold, Unhold, Shut, End, Lend, Back, Reply, Fine, Held, Entry}
-use Rattle.fm_base.specs.Machine.{MayCall, reply_to, hold_reply, shut_reply, after}
+use Rattle.fm_base.specs.Calls.{Call, Open, Enter, Read, Write, SwapIf, Add, Allocate, Leave, Hold, Unhold, Shut, End, Lend, Back, Reply, Fine, Entry}
+use Rattle.fm_base.specs.Machine.{MayCall, reply_to, shut_reply, after}
 use Rattle.fm_base.specs.Histories.{IsLegal, state_after}
 use Rattle.fm_base.proofs.Growing.{there_by_life}
 use Rattle.fm_base.proofs.Making.{IsLegal-split}
@@ -13,25 +12,9 @@ use Rattle.fm_base_machine.specs.Functions.{Stage, Fresh, Lives, Closes, Over, s
 use Rattle.fm_base_machine.specs.Steps.{opening, moved_by}
 use Rattle.fm_base_machine.specs.Handles.{one_alive, handles_of, all_taken, all_given, AreLeft, HandlesAreCounted, LastHandleEnds}
 use Rattle.fm_base_machine.proofs.Depicting.{always, depicts_none, depicts_by}
-use Rattle.fm_base_machine.proofs.Handling.{Counts, handled, OnlyAlive, only_alive}
+use Rattle.fm_base_machine.proofs.Handling.{hold_alive, shut_alive, Counts, handled, OnlyAlive, only_alive}
 
 -- ---- legal calls count
-
--- a hold that is taken is of an arena that is alive
-hold_alive : (x : Life) (n : ℕ) → Fine ≡ hold_reply x n → x ≡ Alive
-hold_alive Alive n e = refl
-hold_alive Closing n e = absurd (cc)
-hold_alive Ended n e = absurd (cc)
-
--- and one that is shut is alive, and has no holds
-shut_alive : (x : Life) (n : ℕ) → Fine ≡ shut_reply x n → (x ≡ Alive) × (n ≡ 0)
-shut_alive Alive n e = (refl, eqb-true n 0 (go (n == 0) e))
-  where
-    go : (b : Bool) → Fine ≡ (if b then Fine else Held n) → b ≡ true
-    go true e = refl
-    go false e = absurd (cc)
-shut_alive Closing n e = absurd (cc)
-shut_alive Ended n e = absurd (cc)
 
 module _ (limit : ℕ) (s : State) (t : Machine) (d : Depicts limit s t) where
   -- what is alive in the list lives

@@ -4,10 +4,11 @@ use Rattle.std.proofs.lemmas.Bool.{eqb-true}
 use Rattle.std.specs.Prelude.{⊤}
 use Rattle.fm_base.specs.declared.caller.Caller.{Caller}
 use Rattle.fm_base.specs.declared.arena_id.ArenaId.{ArenaId}
-use Rattle.fm_base.specs.Arenas.{same_id}
+use Rattle.fm_base.specs.Arenas.{Life, Alive, same_id}
 use Rattle.fm_base.specs.Calls.{Call, Open, Enter, Read, Write, SwapIf, Add, Allocate, Leave, Hold, Unhold, Shut, End, Lend, Back, Reply, Fine, Held, Found, Given}
+use Rattle.fm_base.specs.Machine.{hold_reply, shut_reply}
 use Rattle.fm_base.proofs.Names.{same_id-self}
-use Rattle.fm_base_machine.specs.Functions.{Stage, Fresh, Lives, Closes, Over, Machine, moved, put, put_at, hold_stage, shut_stage, reply_by, MayBy}
+use Rattle.fm_base_machine.specs.Functions.{Stage, Fresh, Lives, Closes, Over, Machine, moved, put, put_at, life_of, reply_by, MayBy}
 use Rattle.fm_base_machine.specs.Handles.{one_if, one_alive, handles_of, taken_by, given_by}
 use Rattle.fm_base_machine.proofs.Putting.{at_cases, same_id-not}
 
@@ -128,22 +129,23 @@ only_alive t c (Back block) reply m o a = o a
 -- ---- which calls count
 
 -- a hold that is taken is of an arena that is alive
-hold_lives : (x : Stage) (n : ℕ) → Fine ≡ hold_stage x n → x ≡ Lives
-hold_lives Lives n e = refl
-hold_lives Fresh n e = absurd (cc)
-hold_lives Closes n e = absurd (cc)
-hold_lives Over n e = absurd (cc)
+pub hold_alive : (x : Life) (n : ℕ) → Fine ≡ hold_reply x n → x ≡ Alive
+hold_alive Alive n e = refl
+hold_alive x n e = absurd (cc)
 
 -- and one that is shut is alive, and has no holds
-shut_lives : (x : Stage) (n : ℕ) → Fine ≡ shut_stage x n → (x ≡ Lives) × (n ≡ 0)
-shut_lives Lives n e = (refl, eqb-true n 0 (go (n == 0) e))
+pub shut_alive : (x : Life) (n : ℕ) → Fine ≡ shut_reply x n → (x ≡ Alive) × (n ≡ 0)
+shut_alive Alive n e = (refl, eqb-true n 0 (go (n == 0) e))
   where
     go : (b : Bool) → Fine ≡ (if b then Fine else Held n) → b ≡ true
     go true e = refl
     go false e = absurd (cc)
-shut_lives Fresh n e = absurd (cc)
-shut_lives Closes n e = absurd (cc)
-shut_lives Over n e = absurd (cc)
+shut_alive x n e = absurd (cc)
+
+-- only what lives is answered as alive
+lives : (x : Stage) → life_of x ≡ Alive → x ≡ Lives
+lives Lives e = refl
+lives x e = absurd (cc)
 
 -- what the functions allow counts
 pub counts_by : (limit : ℕ) (t : Machine) (c : Caller) (call : Call) (reply : Reply) → MayBy limit t c call → reply ≡ reply_by limit t call
@@ -156,10 +158,10 @@ counts_by limit t c (SwapIf id word old new) reply m r = tt
 counts_by limit t c (Add id word n) reply m r = tt
 counts_by limit t c (Allocate id size align) reply m r = tt
 counts_by limit t c (Leave id) reply m r = tt
-counts_by limit t c (Hold id) Fine m r = hold_lives (t.life id) (t.holds id) r
+counts_by limit t c (Hold id) Fine m r = lives (t.life id) (hold_alive (life_of (t.life id)) (t.holds id) r)
 counts_by limit t c (Hold id) reply m r = tt
 counts_by limit t c (Unhold id) reply m r = m.1
-counts_by limit t c (Shut id) Fine m r = shut_lives (t.life id) (t.holds id) r
+counts_by limit t c (Shut id) Fine m r = let y = shut_alive (life_of (t.life id)) (t.holds id) r in (lives (t.life id) y.0, y.1)
 counts_by limit t c (Shut id) reply m r = tt
 counts_by limit t c (End id) reply m r = m.0
 counts_by limit t c (Lend block id part) reply m r = tt

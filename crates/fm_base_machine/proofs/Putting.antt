@@ -7,16 +7,13 @@ use Rattle.std.proofs.lemmas.List.Elements.{Contains-append_cases, Contains-appe
 use Rattle.fm_base.specs.declared.caller.Caller.{Caller}
 use Rattle.fm_base.specs.declared.arena_id.ArenaId.{ArenaId}
 use Rattle.fm_base.specs.Arenas.{State, Arena, arena_of, has_arena, changed, same_id, no_arena, are_one}
-use Rattle.fm_base.proofs.Names.{same_id-self, same_id-true, are_one-self, are_one-true, are_one-false, are_one-not}
+use Rattle.fm_base.proofs.Names.{not_true, same_id-self, same_id-true, are_one-self, are_one-true, are_one-false, are_one-not}
 use Rattle.fm_base.proofs.Lookup.{KeepsName, lookup_changed, arena_of-opened}
 use Rattle.fm_base_machine.specs.Functions.{put, put_at, put_by}
 
 -- names that differ don't pass the test
 pub same_id-not : (a b : ArenaId) → a ≢ b → same_id a b ≡ false
-same_id-not a b h =
-    let P : Bool → Type 0 = λ t. same_id a b ≡ t → same_id a b ≡ false in
-    let go : (t : Bool) → P t = λ t. elim t as P [ true ↦ (λ e. absurd (h (same_id-true a b e))) | false ↦ (λ e. e) ] in
-    go (same_id a b) refl
+same_id-not a b h = not_true (same_id a b) (λ e. h (same_id-true a b e))
 
 -- two names are one or not
 pub one_arena : (a b : ArenaId) → Dec (a ≡ b)

@@ -3,8 +3,8 @@ use Rattle.std.specs.Prelude.{◌≡◌, ◌≢◌, ◌<◌, ⊤, ℕ, ◌+◌, 
 use Rattle.fm_base.specs.declared.caller.Caller.{Caller}
 use Rattle.fm_base.specs.declared.arena_id.ArenaId.{ArenaId}
 use Rattle.fm_base.specs.Arenas.{Life, Alive, Closing, Ended, State, arena_of, has_arena, same_id, word_in, IsUnderWay, MayUse, are_one, owner_of}
-use Rattle.fm_base.specs.Calls.{Call, Open, Enter, Read, Write, SwapIf, Add, Allocate, Leave, Hold, Unhold, Shut, End, Lend, Back, Reply, Fine, Closed, Held, TooManyHolds, Found, Given}
-use Rattle.fm_base.specs.Machine.{words_within, IsPower, allocate_reply, most_holds}
+use Rattle.fm_base.specs.Calls.{Call, Open, Enter, Read, Write, SwapIf, Add, Allocate, Leave, Hold, Unhold, Shut, End, Lend, Back, Reply, Fine, Found, Given}
+use Rattle.fm_base.specs.Machine.{words_within, IsPower, enter_reply, hold_reply, shut_reply, allocate_reply}
 use Rattle.fm_base.specs.declared.kind.Kind.TheVariants.{Global}
 
 -- where an arena is in its life; Fresh where it was never opened
@@ -74,23 +74,20 @@ pub record Depicts (limit : ℕ) (s : State) (t : Machine) : Type 0 where
   -- each arena has all its words
   pub long : (a : ArenaId) → has_arena s a ≡ true → length (arena_of s a).words ≡ words_within limit
 
+-- an arena that was never opened is answered as one that has ended
+abbrev pub life_of : Stage → Life
+life_of Lives = Alive
+life_of Closes = Closing
+life_of stage = Ended
+
 abbrev pub enter_stage : Stage → Reply
-enter_stage Lives = Fine
-enter_stage Fresh = Closed
-enter_stage Closes = Closed
-enter_stage Over = Closed
+enter_stage stage = enter_reply (life_of stage)
 
 abbrev pub hold_stage : Stage → ℕ → Reply
-hold_stage Lives holds = if holds == most_holds then TooManyHolds else Fine
-hold_stage Fresh holds = Closed
-hold_stage Closes holds = Closed
-hold_stage Over holds = Closed
+hold_stage stage holds = hold_reply (life_of stage) holds
 
 abbrev pub shut_stage : Stage → ℕ → Reply
-shut_stage Lives holds = if holds == 0 then Fine else Held holds
-shut_stage Fresh holds = Closed
-shut_stage Closes holds = Closed
-shut_stage Over holds = Closed
+shut_stage stage holds = shut_reply (life_of stage) holds
 
 -- the reply by the functions
 abbrev pub reply_by : ℕ → Machine → Call → Reply

@@ -14,6 +14,9 @@ use Rattle.fm_path_meaning.specs.declared.dim.Dim.{Dim}
 use Rattle.fm_path_meaning.specs.Walk.{offset_at}
 use Rattle.fm_segment_access.specs.Found.{if_placed}
 use Rattle.fm_segment.specs.Region.{Region}
+use Rattle.fm_handle.specs.declared.handle.place.Support.{Support}
+use Rattle.fm_handle.specs.declared.handle.place.Support.TheVariants.{Number, Word}
+use Rattle.fm_handle.specs.declared.handle.place.Support.TheVariants as support
 
 -- ---- on which values an update works
 
@@ -101,3 +104,14 @@ update_place_of works_on base is h r = if_supported (works_on h.value) (writable
 pub record FindsWhere (supported : Bool) (base : ℕ) (is : List ℕ) (h : Resolution) (r : Region) (found : Result ℕ Refusal) : Type 0 where
   pub place : found ≡ if_supported supported (writable_place_of base is h r)
   pub stands : IfOk found (ValueStands h r)
+
+-- whether a call that works on such values works on this one
+abbrev pub supports : Support → ValueSpec → Bool
+supports Number v = can_update v
+supports support.Long v = fills_word v
+supports Word v = is_word v
+
+-- the bytes of such a value at the place lie in one word, which those of a long fill
+abbrev pub Lies : Support → ValueSpec → ℕ → Type 0
+Lies Number v place = (1 ≤ width_of v.kind) × (place % 8 + width_of v.kind ≤ 8)
+Lies _ v place = (width_of v.kind ≡ 8) × (place % 8 + 8 ≤ 8)

@@ -11,20 +11,19 @@ use Rattle.fm_io.specs.declared.files.Piece.TheVariants.{Got, Missing}
 take-append-part : {X : Type 0} (xs ys : List X) (n m : ℕ) → length xs ≡ n → take (n + m) (xs ++ ys) ≡ xs ++ take m ys
 take-append-part xs ys n m size = ap (λ k. take (k + m) (xs ++ ys)) (sym size) ∙ take-append-add xs ys m
 
--- After a piece was read behind the first n bytes of a buffer, its first bytes are those n and the piece's.
-pub take-filled : (n m : ℕ) (buffer rest : List ℕ) → n ≤ length buffer → m ≤ length rest
-    → take (n + m) (put_mid n (length buffer - n) buffer rest) ≡ take n buffer ++ take m rest
-take-filled n m buffer rest within fits =
-    let after = post_of n (length buffer - n) buffer in
-    take-append-part (take n buffer) (rest ++ after) n m (length-take-le n buffer within)
-    ∙ ap (λ piece. take n buffer ++ piece) (take-append-le m rest after fits)
+module _ (n m : ℕ) (buffer rest : List ℕ) (within : n ≤ length buffer) (fits : m ≤ length rest) where
+  -- After a piece was read behind the first n bytes of a buffer, its first bytes are those n and the piece's.
+  pub take-filled : take (n + m) (put_mid n (length buffer - n) buffer rest) ≡ take n buffer ++ take m rest
+  take-filled =
+      let after = post_of n (length buffer - n) buffer in
+      take-append-part (take n buffer) (rest ++ after) n m (length-take-le n buffer within)
+      ∙ ap (λ piece. take n buffer ++ piece) (take-append-le m rest after fits)
 
--- they fit the buffer
-pub filled-le : (n m : ℕ) (buffer rest : List ℕ) → n ≤ length buffer → m ≤ length rest
-    → n + m ≤ length (put_mid n (length buffer - n) buffer rest)
-filled-le n m buffer rest within fits =
-    let after = post_of n (length buffer - n) buffer in
-    omega (arith, length-append (take n buffer) (rest ++ after), length-append rest after, length-take-le n buffer within)
+  -- they fit the buffer
+  pub filled-le : n + m ≤ length (put_mid n (length buffer - n) buffer rest)
+  filled-le =
+      let after = post_of n (length buffer - n) buffer in
+      omega (arith, length-append (take n buffer) (rest ++ after), length-append rest after, length-take-le n buffer within)
 
 -- bytes of a file, and then those of the next piece of it, are bytes of the file
 join_piece : (file bytes piece : List ℕ) (at n m : ℕ) → length bytes ≡ n → length piece ≡ m

@@ -1,5 +1,5 @@
 -- What a list of names and bytes holds under a name, file by file.
-use Rattle.std.proofs.Common.{◌≡◌, ℕ, ◌+◌, suc, ◌<◌, ◌≤◌, List, [], ◌∷◌, length, drop, get_or, None, Some, String, Vec, string_bytes, cond, true, false, ap, sym, ◌∙◌, add-one, drop-cons}
+use Rattle.std.proofs.Common.{◌≡◌, ℕ, ◌+◌, suc, ◌<◌, ◌≤◌, List, [], ◌∷◌, length, drop, get_or, None, Some, String, Vec, string_bytes, cond, Bool, true, false, ap, sym, ◌∙◌, add-one, drop-cons}
 use Rattle.std.proofs.Math.ListN.{drop_of_length-le}
 use Rattle.std.specs.Ordering.{nat_cmp}
 use Rattle.std.specs.Cmp.Lexicographic.{slice_cmp, nat_list_cmp_total}
@@ -25,23 +25,22 @@ from_index : (fs : List (String Global × Vec ℕ Global)) (i : ℕ) (f : String
     → drop i fs ≡ f ∷ drop (i + 1) fs
 from_index fs i f below is = rw add-one (drop-cons fs i f below ∙ ap (λ g. g ∷ drop (suc i) fs) (sym is))
 
--- of the files from the i-th on, the i-th has the name, or those behind it decide
-file_of-drop : (fs : List (String Global × Vec ℕ Global)) (i : ℕ) (f : String Global × Vec ℕ Global) (q : List ℕ) → i < length fs → f ≡ get_or fs i f
-    → file_of (contents_of (drop i fs)) q ≡ cond (bytes_eq q (string_bytes f.0)) (Some f.1.items) (file_of (contents_of (drop (i + 1) fs)) q)
-file_of-drop fs i f q below is =
-    ap (λ l. file_of (contents_of l) q) (from_index fs i f below is) ∙ file_of-cons f (drop (i + 1) fs) q
+module _ (fs : List (String Global × Vec ℕ Global)) (i : ℕ) (f : String Global × Vec ℕ Global) (q key : List ℕ) (below : i < length fs) where
+  -- of the files from the i-th on, the i-th has the name, or those behind it decide
+  file_of-drop : (b : Bool) → f ≡ get_or fs i f → key ≡ string_bytes f.0 → bytes_eq q key ≡ b
+      → file_of (contents_of (drop i fs)) q ≡ cond b (Some f.1.items) (file_of (contents_of (drop (i + 1) fs)) q)
+  file_of-drop b is named told =
+      ap (λ l. file_of (contents_of l) q) (from_index fs i f below is) ∙ file_of-cons f (drop (i + 1) fs) q
+      ∙ ap (λ c. cond c (Some f.1.items) (file_of (contents_of (drop (i + 1) fs)) q)) (ap (bytes_eq q) (sym named) ∙ told)
 
--- the i-th has the name
-pub found_at : (fs : List (String Global × Vec ℕ Global)) (i : ℕ) (f : String Global × Vec ℕ Global) (q key : List ℕ) → i < length fs → f ≡ get_or fs i f
-    → key ≡ string_bytes f.0 → bytes_eq q key ≡ true → file_of (contents_of (drop i fs)) q ≡ Some f.1.items
-found_at fs i f q key below is named same =
-    file_of-drop fs i f q below is ∙ ap (λ b. cond b (Some f.1.items) (file_of (contents_of (drop (i + 1) fs)) q)) (ap (bytes_eq q) (sym named) ∙ same)
+  -- the i-th has the name
+  pub found_at : f ≡ get_or fs i f → key ≡ string_bytes f.0 → bytes_eq q key ≡ true → file_of (contents_of (drop i fs)) q ≡ Some f.1.items
+  found_at = file_of-drop true
 
--- the i-th has another name
-pub passed_at : (fs : List (String Global × Vec ℕ Global)) (i : ℕ) (f : String Global × Vec ℕ Global) (q key : List ℕ) → i < length fs → f ≡ get_or fs i f
-    → key ≡ string_bytes f.0 → bytes_eq q key ≡ false → file_of (contents_of (drop i fs)) q ≡ file_of (contents_of (drop (i + 1) fs)) q
-passed_at fs i f q key below is named other =
-    file_of-drop fs i f q below is ∙ ap (λ b. cond b (Some f.1.items) (file_of (contents_of (drop (i + 1) fs)) q)) (ap (bytes_eq q) (sym named) ∙ other)
+  -- the i-th has another name
+  pub passed_at : f ≡ get_or fs i f → key ≡ string_bytes f.0 → bytes_eq q key ≡ false
+      → file_of (contents_of (drop i fs)) q ≡ file_of (contents_of (drop (i + 1) fs)) q
+  passed_at = file_of-drop false
 
 -- behind the last file there is none
 pub none_left : (fs : List (String Global × Vec ℕ Global)) (i : ℕ) (q : List ℕ) → length fs ≤ i → file_of (contents_of (drop i fs)) q ≡ None

@@ -41,25 +41,15 @@ impl MemFiles {
     }
 
     /// The same files, each piece of at most `n` bytes.
-    pub fn with_piece(self, n: usize) -> MemFiles
+    pub fn with_piece(mut self, n: usize) -> MemFiles
         requires { 0 < n }
         ensures contents { mem_contents result ≡ mem_contents self }
         ensures reads { mem_reads result ≡ mem_reads self }
         ensures misses { mem_misses result ≡ mem_misses self }
         ensures limit { read_limit result ≡ n }
     {
-        let MemFiles {
-            files,
-            reads,
-            misses,
-            most: _,
-        } = self;
-        MemFiles {
-            files,
-            reads,
-            misses,
-            most: n,
-        }
+        self.most = n;
+        self
     }
 }
 

@@ -35,22 +35,14 @@ impl MemSink {
     }
 
     /// The same sink, each write of at most `n` bytes.
-    pub fn with_piece(self, n: usize) -> MemSink
+    pub fn with_piece(mut self, n: usize) -> MemSink
         requires { 0 < n }
         ensures written { mem_written result ≡ mem_written self }
         ensures writes { mem_writes result ≡ mem_writes self }
         ensures limit { write_limit result ≡ n }
     {
-        let MemSink {
-            written,
-            writes,
-            most: _,
-        } = self;
-        MemSink {
-            written,
-            writes,
-            most: n,
-        }
+        self.most = n;
+        self
     }
 
     /// All that was written.

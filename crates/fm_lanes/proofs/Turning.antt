@@ -102,36 +102,12 @@ swapped-shr width v h fits =
     ∙ omega arith in
     ap (λ n. n / 2 ^ (64 - 8 * width)) whole ∙ shl-shr (reversed width v) (64 - 8 * width)
 
--- What the code makes of a number is the number with its lowest bytes in reverse.
-pub turned_is : (width v low swapped : ℕ) → 1 ≤ width → width ≤ 8 → low ≡ lane v 0 width → swapped ≡ swap_bytes w64 low
-    → v - low + swapped / 2 ^ (64 - 8 * width) ≡ turned width v Big
-turned_is width v low swapped h fits e d =
-    let one : v / 2 ^ (8 * 0) ≡ v = omega arith in
-    let low_is : low ≡ v % 2 ^ (8 * width) = e ∙ ap (λ n. n % 2 ^ (8 * width)) one in
-    let upper : v - low ≡ v / 2 ^ (8 * width) * 2 ^ (8 * width) = omega (arith, shr_split v (8 * width)) in
-    let part : swapped / 2 ^ (64 - 8 * width) ≡ reversed width v =
-    ap (λ n. n / 2 ^ (64 - 8 * width)) (d ∙ ap (swap_bytes w64) low_is) ∙ swapped-shr width v h fits in
-    let at : 8 * width ≡ 8 * (0 + width) = omega arith in
-    let all : v / 2 ^ (8 * width) * 2 ^ (8 * width) ≡ v / 2 ^ (8 * (0 + width)) * 2 ^ (8 * (0 + width)) =
-    ap (λ k. v / 2 ^ k * 2 ^ k) at in
-    omega arith
-
 -- A number with its lowest bytes in reverse is still a word.
 pub turned-lt : (width v : ℕ) → width ≤ 8 → v < 2 ^ 64 → turned width v Big < 2 ^ 64
 turned-lt width v fits h = replaced-lt 8 0 width v (reversed width v) (omega arith) h (reversed-lt width v)
 
 fits_word : (n : ℕ) → n < 2 ^ 64 → Fits w64 n
 fits_word n h = omega arith
-
--- What the code makes of a number fits a word.
-pub turned_fits : (width v low swapped : ℕ) → 1 ≤ width → width ≤ 8 → v < 2 ^ 64 → low ≡ lane v 0 width → swapped ≡ swap_bytes w64 low
-    → Fits w64 (v - low + swapped / 2 ^ (64 - 8 * width))
-turned_fits width v low swapped h fits small e d =
-    let same = turned_is width v low swapped h fits e d in
-    let below = turned-lt width v fits small in
-    let sum : v - low + swapped / 2 ^ (64 - 8 * width) < 2 ^ 64 =
-    (let Small : ℕ → Type 0 = λ n. n < 2 ^ 64 in subst Small (sym same) below) in
-    fits_word (v - low + swapped / 2 ^ (64 - 8 * width)) sum
 
 -- The lowest bytes of a number with its bytes in reverse.
 bytes_of-turned : (width v : ℕ) → bytes_of width (turned width v Big) ≡ reverse (bytes_of width v)
@@ -155,11 +131,29 @@ turned-turned width v Big =
     ∙ replaced-replaced v 0 width (reversed width v) (lane v 0 width) (reversed-lt width v)
     ∙ replaced-lane v 0 width
 
--- What the code makes of a number, turned again, is the number.
-pub turned_back : (width v low swapped : ℕ) → 1 ≤ width → width ≤ 8 → low ≡ lane v 0 width → swapped ≡ swap_bytes w64 low
-    → turned width (v - low + swapped / 2 ^ (64 - 8 * width)) Big ≡ v
-turned_back width v low swapped h fits e d =
-    ap (λ n. turned width n Big) (turned_is width v low swapped h fits e d) ∙ turned-turned width v Big
+module _ (width v low swapped : ℕ) (h : 1 ≤ width) (fits : width ≤ 8) where
+  -- What the code makes of a number is the number with its lowest bytes in reverse.
+  pub turned_is : low ≡ lane v 0 width → swapped ≡ swap_bytes w64 low → v - low + swapped / 2 ^ (64 - 8 * width) ≡ turned width v Big
+  turned_is e d =
+      let one : v / 2 ^ (8 * 0) ≡ v = omega arith in
+      let low_is : low ≡ v % 2 ^ (8 * width) = e ∙ ap (λ n. n % 2 ^ (8 * width)) one in
+      let upper : v - low ≡ v / 2 ^ (8 * width) * 2 ^ (8 * width) = omega (arith, shr_split v (8 * width)) in
+      let part : swapped / 2 ^ (64 - 8 * width) ≡ reversed width v =
+      ap (λ n. n / 2 ^ (64 - 8 * width)) (d ∙ ap (swap_bytes w64) low_is) ∙ swapped-shr width v h fits in
+      let at : 8 * width ≡ 8 * (0 + width) = omega arith in
+      let all : v / 2 ^ (8 * width) * 2 ^ (8 * width) ≡ v / 2 ^ (8 * (0 + width)) * 2 ^ (8 * (0 + width)) =
+      ap (λ k. v / 2 ^ k * 2 ^ k) at in
+      omega arith
+
+  -- It fits a word.
+  pub turned_fits : v < 2 ^ 64 → low ≡ lane v 0 width → swapped ≡ swap_bytes w64 low → Fits w64 (v - low + swapped / 2 ^ (64 - 8 * width))
+  turned_fits small e d =
+      let Small : ℕ → Type 0 = λ n. n < 2 ^ 64 in
+      fits_word (v - low + swapped / 2 ^ (64 - 8 * width)) (subst Small (sym (turned_is e d)) (turned-lt width v fits small))
+
+  -- Turned again it is the number.
+  pub turned_back : low ≡ lane v 0 width → swapped ≡ swap_bytes w64 low → turned width (v - low + swapped / 2 ^ (64 - 8 * width)) Big ≡ v
+  turned_back e d = ap (λ n. turned width n Big) (turned_is e d) ∙ turned-turned width v Big
 
 -- The lowest bytes of a number that is turned, in either order.
 pub bytes_of-turned_order : (width v : ℕ) (order : Order) → bytes_of width (turned width v order) ≡ lowest_first order (bytes_of width v)

@@ -112,34 +112,27 @@ sequence_sound count n a e w named en ea even small =
 
 -- ---- another alignment
 
--- A layout that isn't padding, with another alignment that it may have.
+-- A layout that isn't padding fits with another alignment that it may have.
+realigned_fit : (n : ℕ) (l : Label) (t : Tree) → IsFit t → ¬ (IsPadding t) → l.alignment ≡ n → IsPowerOfTwo n → n ≤ limit → least_of t ≤ n
+    → IsFit (relabelled l t)
+realigned_fit n l (Value k o m) f other e p h least = record { power = (p.0, e ∙ p.1); least = omega arith; greatest = omega arith; size = f.size }
+realigned_fit n l (Padding k m) f other e p h least = absurd (other tt)
+realigned_fit n l (Sequence k u m) f other e p h least = record { power = (p.0, e ∙ p.1); least = omega arith; greatest = omega arith; size = f.size }
+realigned_fit n l (Struct ms m) f other e p h least = record { power = (p.0, e ∙ p.1); least = omega arith; greatest = omega arith; size = f.size }
+realigned_fit n l (Union ms m) f other e p h least = record { power = (p.0, e ∙ p.1); least = omega arith; greatest = omega arith; size = f.size }
+
+-- So it is sound with it.
 pub realigned_sound : (kept n : ℕ) (l : Label) (t : Tree) → IsSound kept t → ¬ (IsPadding t) → l.alignment ≡ n → IsNameIfAny l.name → IsPowerOfTwo n
     → n ≤ limit → least_of t ≤ n → IsSound kept (relabelled l t)
 realigned_sound kept n l (Value k o m) s other e name p h least =
-    record {
-      size = s.size;
-      well_formed = record { power = (p.0, e ∙ p.1); least = omega arith; greatest = omega arith; size = s.well_formed.size };
-      named = name;
-    }
+    record { size = s.size; well_formed = realigned_fit n l (Value k o m) s.well_formed other e p h least; named = name }
 realigned_sound kept n l (Padding k m) s other e name p h least = absurd (other tt)
 realigned_sound kept n l (Sequence k u m) s other e name p h least =
-    record {
-      size = s.size;
-      well_formed =
-          (record { power = (p.0, e ∙ p.1); least = omega arith; greatest = omega arith; size = s.well_formed.0.size }, s.well_formed.1, s.well_formed.2);
-      named = (name, s.named.1);
-    }
+    let fit = realigned_fit n l (Sequence k u m) s.well_formed.0 other e p h least in
+    record { size = s.size; well_formed = (fit, s.well_formed.1, s.well_formed.2); named = (name, s.named.1) }
 realigned_sound kept n l (Struct ms m) s other e name p h least =
-    record {
-      size = s.size;
-      well_formed =
-          (record { power = (p.0, e ∙ p.1); least = omega arith; greatest = omega arith; size = s.well_formed.0.size }, s.well_formed.1);
-      named = (name, s.named.1);
-    }
+    let fit = realigned_fit n l (Struct ms m) s.well_formed.0 other e p h least in
+    record { size = s.size; well_formed = (fit, s.well_formed.1); named = (name, s.named.1) }
 realigned_sound kept n l (Union ms m) s other e name p h least =
-    record {
-      size = s.size;
-      well_formed =
-          (record { power = (p.0, e ∙ p.1); least = omega arith; greatest = omega arith; size = s.well_formed.0.size }, s.well_formed.1);
-      named = (name, s.named.1);
-    }
+    let fit = realigned_fit n l (Union ms m) s.well_formed.0 other e p h least in
+    record { size = s.size; well_formed = (fit, s.well_formed.1); named = (name, s.named.1) }

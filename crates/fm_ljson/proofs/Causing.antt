@@ -230,10 +230,9 @@ cause_of bytes d e is (inl h) = let same : Memory ≡ e = cc in subst (IsCause b
 cause_of bytes d e is (inr h) = cause_by_shape bytes d e (fault_in (text_of d)) is refl h
 
 -- Each refusal of bytes that have a reading has its cause.
-pub refused_read : (bytes : List ℕ) (d : Data) (r : Result Tree Refusal) → IsUtf8 bytes × (read bytes ≡ Some d) → OrMemory r (layout_of_data d)
-    → IfErr r (IsCause bytes)
+pub refused_read : (bytes : List ℕ) (d : Data) (r : Result Tree Refusal) → IsJsonOf bytes d → OrMemory r (layout_of_data d) → IfErr r (IsCause bytes)
 refused_read bytes d (Ok t) is h = tt
-refused_read bytes d (Err e) is h = cause_of bytes d e (record { utf8 = is.0; reading = is.1 }) h
+refused_read bytes d (Err e) is h = cause_of bytes d e is h
 
 -- Bytes that have none are of no value.
 pub refused_unread : (bytes : List ℕ) → (IsUtf8 bytes → read bytes ≡ None) → (d : Data) → ¬ (IsJsonOf bytes d)

@@ -14,6 +14,7 @@ use Rattle.std.specs.declared.alloc.Global.{Global}
 use Rattle.fm_base.specs.declared.refusal.Refusal.TheVariants.{BadJson, BadShape}
 use Rattle.fm_layout.specs.Tree.{Tree}
 use Rattle.fm_ljson.specs.Answer.{fault_in_document, layout_if_read, layout_of_data, layout_of_json, layout_of_text, shaped}
+use Rattle.fm_ljson.specs.Causes.{IsJsonOf}
 use Rattle.fm_ljson.specs.Built.{OrMemory, built, built_behind, built_of}
 use Rattle.fm_ljson.specs.Counted.{AreSound}
 use Rattle.fm_ljson.specs.Documents.{One, Parts, Two, document, first_broken_of, first_of}
@@ -24,11 +25,10 @@ use Rattle.fm_ljson.specs.Refs.{none_known, unknown}
 use Rattle.fm_ljson.proofs.Building.{or_memory}
 
 -- What has a reading is answered as its value is.
-pub value_read : (bytes : List ℕ) (d : Data) (r : Result Tree Refusal) → IsUtf8 bytes × (read bytes ≡ Some d) → OrMemory r (layout_of_data d)
-    → OrMemory r (layout_of_json bytes)
+pub value_read : (bytes : List ℕ) (d : Data) (r : Result Tree Refusal) → IsJsonOf bytes d → OrMemory r (layout_of_data d) → OrMemory r (layout_of_json bytes)
 value_read bytes d r is h =
     or_memory r _ _
-    (sym (ap (λ b. cond b (layout_if_read (read bytes)) (Err BadJson)) (is_utf8-from_IsUtf8 bytes is.0) ∙ ap layout_if_read is.1)) h
+    (sym (ap (λ b. cond b (layout_if_read (read bytes)) (Err BadJson)) (is_utf8-from_IsUtf8 bytes is.utf8) ∙ ap layout_if_read is.reading)) h
 
 unread_by : (bytes : List ℕ) (b : Bool) → is_utf8 bytes ≡ b → (IsUtf8 bytes → read bytes ≡ None)
     → Err BadJson ≡ cond b (layout_if_read (read bytes)) (Err BadJson)

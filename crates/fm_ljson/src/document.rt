@@ -1,6 +1,6 @@
 ghost use Rattle.std.specs.Prelude.{◌≡◌, option_map};
 ghost use Rattle.serde_json.specs.View.{view};
-ghost use Rattle.fm_ljson.specs.Documents.{document_in, entry_in, entry_of, text_in, text_of};
+ghost use Rattle.fm_ljson.specs.Documents.{document_in, entry_of, text_in, text_of};
 ghost use Rattle.fm_ljson.specs.Views.{document_view, entry_view, object_view, text_view};
 
 use crate::keys;
@@ -54,42 +54,24 @@ fn text_in<'v>(value: &'v Value, object: &'v Map<String, Value>) -> TextRef<'v>
 fn document_in(object: &Map<String, Value>) -> Option<DocumentRef<'_>>
     ensures { option_map document_view result ≡ document_in (object_view object.now) }
 {
-    if !keys::has_only(Role::Document, object) {
+    if !keys::has_only(Role::Document, object) || !keys::is_version_two(object) {
         return None;
     }
-    if !keys::is_version_two(object) {
-        return None;
-    }
-    let Some(layout) = keys::member(object, "layout") else {
-        return None;
-    };
-    match keys::items_at(object, "types") {
-        Some(types) => Some(DocumentRef { types, layout }),
-        None => None,
-    }
+    let layout = keys::member(object, "layout")?;
+    let types = keys::items_at(object, "types")?;
+    Some(DocumentRef { types, layout })
 }
 
 /// What a value says as an entry of `types`; nothing where it breaks a rule of its own.
+#[tactic(auto, unfolding(crate::specs::Documents::entry_of))]
 pub(crate) fn entry_of(value: &Value) -> Option<EntryRef<'_>>
     ensures { option_map entry_view result ≡ entry_of (view value.now) }
 {
-    match value.as_object() {
-        Some(object) => entry_in(object),
-        None => None,
-    }
-}
-
-fn entry_in(object: &Map<String, Value>) -> Option<EntryRef<'_>>
-    ensures { option_map entry_view result ≡ entry_in (object_view object.now) }
-{
+    let object = value.as_object()?;
     if !keys::has_only(Role::Entry, object) {
         return None;
     }
-    let Some(layout) = keys::member(object, "layout") else {
-        return None;
-    };
-    match keys::definition_at(object) {
-        Some(name) => Some(EntryRef { name, layout }),
-        None => None,
-    }
+    let layout = keys::member(object, "layout")?;
+    let name = keys::definition_at(object)?;
+    Some(EntryRef { name, layout })
 }

@@ -41,13 +41,11 @@ pub(crate) fn parts_of<'v>(content: ContentRef<'v>) -> &'v [Value]
 }
 
 /// What a value says as a node; nothing where it breaks a rule of its own.
+#[tactic(auto, unfolding(crate::specs::Node::node_of))]
 pub(crate) fn node_of(value: &Value) -> Option<NodeRef<'_>>
     ensures { option_map node_view result ≡ node_of (view value.now) }
 {
-    match value.as_object() {
-        Some(object) => node_in(object),
-        None => None,
-    }
+    node_in(value.as_object()?)
 }
 
 fn node_in(object: &Map<String, Value>) -> Option<NodeRef<'_>>

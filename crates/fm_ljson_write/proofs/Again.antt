@@ -1,5 +1,5 @@
 -- The nodes of the canonical JSON break no rule, and the layout that they stand for is the one that was written.
-use Rattle.std.proofs.Common.{◌≡◌, refl, sym, ap, ◌∙◌, ℕ, zero, suc, ◌+◌, ◌≤◌, ◌<◌, Bool, true, false, nat_eq, nat_le, le-leb, eq-eqb, cond, map, List, [], ◌∷◌, ◌++◌, Option, Some, None, Result, Ok, arith, append-nil}
+use Rattle.std.proofs.Common.{◌≡◌, refl, sym, ap, ◌∙◌, ℕ, zero, suc, ◌+◌, ◌≤◌, ◌<◌, Bool, true, false, nat_eq, nat_le, le-leb, eq-eqb, cond, map, List, [], ◌∷◌, ◌++◌, Option, Some, None, Result, Ok, arith, append-nil, inl, inr}
 use Rattle.std.specs.Prelude.{flat_map, nat_lt}
 use Rattle.std.specs.Int.{is_power_of_two}
 use Rattle.std.proofs.lemmas.List.{append_assoc}
@@ -25,7 +25,7 @@ use Rattle.fm_ljson.specs.Refs.{none_known, ref_of, unknown}
 use Rattle.fm_ljson.specs.declared.measure.Extent.{Extent}
 use Rattle.serde_json.specs.Read.{read}
 use Rattle.std.specs.Str.{is_utf8}
-use Rattle.fm_ljson_write.specs.Canonical.{all_json, document_json, json_of}
+use Rattle.fm_ljson_write.specs.Canonical.{all_json, document_json, json_of, StandsFor}
 use Rattle.fm_ljson_write.specs.Limits.{AreCountsSmall, AreAllCountsSmall, IsWithinLimits, node_count, node_counts}
 use Rattle.fm_ljson_write.proofs.Found.{content_said, node_said, said, said_alone, said_document, unlike}
 
@@ -255,25 +255,28 @@ none_broken : (known : List ℕ → Bool) (most levels n : ℕ) (t : Tree) → I
 none_broken known most levels n t w names small deep few =
     ap (first_broken known most n) (sym (append-nil (nodes levels (json_of t)))) ∙ sound_nodes known most t levels n [] w names small deep few
 
--- What reads as the canonical JSON of a layout within the limits is that layout.
-pub layout_again : (t : Tree) (bytes : List ℕ) → IsWellFormed t → HasNames t → IsWithinLimits t → is_utf8 bytes ≡ true → read bytes ≡ Some (json_of t)
-    → layout_of_json bytes ≡ Ok t
-layout_again t bytes w names within utf8 reads =
-    let sound = none_broken none_known most_nodes most_levels 0 t w names within.counts within.levels (omega (arith, within.nodes)) in
-    rw (utf8, reads, said_alone t, sound) (rebuilt unknown t most_levels w names within.counts within.levels)
-
 small : (m : Extent) → m.levels ≤ most_levels → m.nodes ≤ most_nodes → large_at 1 m ≡ None
 small m levels nodes =
     let a : nat_lt most_levels m.levels ≡ false = grind (arith, nat_tests, levels) in
     let b : nat_lt most_nodes m.nodes ≡ false = grind (arith, nat_tests, nodes) in
     rw (a, b) refl
 
--- So is what reads as the JSON that names no types for it.
-pub document_again : (t : Tree) (bytes : List ℕ) → IsWellFormed t → HasNames t → IsWithinLimits t → is_utf8 bytes ≡ true → read bytes ≡ Some (document_json t)
-    → layout_of_json bytes ≡ Ok t
-document_again t bytes w names within utf8 reads =
-    let deep : depth t ≤ most_written_levels = omega (arith, within.levels) in
-    let sound = none_broken none_known most_written_nodes most_written_levels 1 t w names within.counts deep (omega (arith, within.nodes)) in
-    let measured_so = measured_again unknown t most_written_levels w names within.counts deep in
-    let fits = ap (large_at 1) measured_so ∙ small (measured (depth t) (node_count t)) within.levels within.nodes in
-    rw (utf8, reads, said_document t, sound, fits) (rebuilt unknown t most_written_levels w names within.counts deep)
+module _ (t : Tree) (bytes : List ℕ) (w : IsWellFormed t) (names : HasNames t) (within : IsWithinLimits t) (utf8 : is_utf8 bytes ≡ true) where
+  -- What reads as the canonical JSON of a layout within the limits is that layout.
+  layout_again : read bytes ≡ Some (json_of t) → layout_of_json bytes ≡ Ok t
+  layout_again reads =
+      let sound = none_broken none_known most_nodes most_levels 0 t w names within.counts within.levels (omega (arith, within.nodes)) in
+      rw (utf8, reads, said_alone t, sound) (rebuilt unknown t most_levels w names within.counts within.levels)
+
+  -- So is what reads as the JSON that names no types for it.
+  document_again : read bytes ≡ Some (document_json t) → layout_of_json bytes ≡ Ok t
+  document_again reads =
+      let deep : depth t ≤ most_written_levels = omega (arith, within.levels) in
+      let sound = none_broken none_known most_written_nodes most_written_levels 1 t w names within.counts deep (omega (arith, within.nodes)) in
+      let measured_so = measured_again unknown t most_written_levels w names within.counts deep in
+      let fits = ap (large_at 1) measured_so ∙ small (measured (depth t) (node_count t)) within.levels within.nodes in
+      rw (utf8, reads, said_document t, sound, fits) (rebuilt unknown t most_written_levels w names within.counts deep)
+
+  pub stands_again : {d : Data} → StandsFor d t → read bytes ≡ Some d → layout_of_json bytes ≡ Ok t
+  stands_again (inl is) reads = layout_again (reads ∙ ap Some is)
+  stands_again (inr is) reads = document_again (reads ∙ ap Some is)

@@ -12,7 +12,7 @@ use Rattle.fm_lanes.specs.Kind.{width_of}
 use Rattle.fm_layout.specs.Name.{is_digit, is_letter, IsName}
 use Rattle.fm_layout.specs.Named.{HasNames, IsNameIfAny}
 use Rattle.fm_layout.specs.Size.{greatest_alignment}
-use Rattle.fm_layout.specs.Tree.{Label, Tree, Value, Padding, Sequence, Struct, Union, alignment_of, label_of}
+use Rattle.fm_layout.specs.Tree.{Label, Tree, Trees, Value, Padding, Sequence, Struct, Union, alignment_of, label_of}
 use Rattle.fm_layout.specs.WellFormed.{limit, IsWellFormed}
 use Rattle.fm_layout.proofs.Names.{list_all-IsNameEnd}
 use Rattle.fm_lanes.specs.Named.{kind_text}
@@ -71,8 +71,11 @@ record Says (t : TypeName) (n a : Option Data) (ms : Members) : Type 0 where
   align : get_member (codes "align") ms ≡ a
   plain : get_member (codes "version") ms ≡ None
 
-value_says : (k : ValueKind) (a n o : Option Data)
-    → Says (type_name.Value k) n a (if_any (codes "align") a (if_any (codes "name") n (if_any (codes "order") o (typed (kind_text k)))))
+-- the members of a value's object
+abbrev valued : ValueKind → Option Data → Option Data → Option Data → Members
+valued k a n o = if_any (codes "align") a (if_any (codes "name") n (if_any (codes "order") o (typed (kind_text k))))
+
+value_says : (k : ValueKind) (a n o : Option Data) → Says (type_name.Value k) n a (valued k a n o)
 value_says k None None None = record { type = refl; only = refl; name = refl; align = refl; plain = refl }
 value_says k None None (Some o) = record { type = refl; only = refl; name = refl; align = refl; plain = refl }
 value_says k None (Some n) None = record { type = refl; only = refl; name = refl; align = refl; plain = refl }
@@ -82,8 +85,7 @@ value_says k (Some a) None (Some o) = record { type = refl; only = refl; name = 
 value_says k (Some a) (Some n) None = record { type = refl; only = refl; name = refl; align = refl; plain = refl }
 value_says k (Some a) (Some n) (Some o) = record { type = refl; only = refl; name = refl; align = refl; plain = refl }
 
-value_order : (k : ValueKind) (a n o : Option Data)
-    → get_member (codes "order") (if_any (codes "align") a (if_any (codes "name") n (if_any (codes "order") o (typed (kind_text k))))) ≡ o
+value_order : (k : ValueKind) (a n o : Option Data) → get_member (codes "order") (valued k a n o) ≡ o
 value_order k None None None = refl
 value_order k None None (Some o) = refl
 value_order k None (Some n) None = refl
@@ -176,14 +178,30 @@ unfolding node_of
 node_typed t ms n a content name align says has_content has_name has_align =
     rw (says.type, type_again t, says.only, has_content, says.name, has_name, has_align) refl
 
+-- the members of a struct's or a union's object
+abbrev grouped : TypeName → Trees → Label → Members
+grouped t ms l = group (type_text t) (align_of (greatest_alignment ms) l) (array (all_json ms)) (name_of l)
+
+-- the object is a node, if it says so
+group_said : (t : TypeName) (content : Content) (ms : Trees) (l : Label)
+    → Says t (name_of l) (align_of (greatest_alignment ms) l) (grouped t ms l)
+    → content_in t (grouped t ms l) ≡ Some content
+    → align_in t (grouped t ms l)
+    ≡ node.if_any whole_of (get_member (codes "align") (grouped t ms l))
+    → IsNameIfAny l.name → l.alignment ≤ limit
+    → node_of (object (grouped t ms l))
+    ≡ Some (record { content = content; name = l.name; align = unlike (greatest_alignment ms) l })
+group_said t content ms l says has aligned named small =
+    node_typed t _ (name_of l) (align_of (greatest_alignment ms) l) content l.name (unlike (greatest_alignment ms) l) says has (name_read l.name named)
+    (aligned ∙ ap (node.if_any whole_of) says.align ∙ align_read (nat_eq l.alignment (greatest_alignment ms)) l.alignment small)
+
 -- The canonical JSON of a layout is a node that says what the layout is.
 pub said : (t : Tree) → IsWellFormed t → HasNames t → AreCountsSmall t → node_of (json_of t) ≡ Some (node_said t)
 said (Value k o l) w named small =
     let a = align_of (width_of k) l in
     let n = name_of l in
-    let ms = if_any (codes "align") a (if_any (codes "name") n (if_any (codes "order") (order_of o) (typed (kind_text k)))) in
     let says = value_says k a n (order_of o) in
-    node_typed (type_name.Value k) ms n a (node.Value k o) l.name (unlike (width_of k) l) says
+    node_typed (type_name.Value k) (valued k a n (order_of o)) n a (node.Value k o) l.name (unlike (width_of k) l) says
     (ap (λ x. option_map (node.Value k) (option_map (λ o. unwrap_or o Little) (node.if_any node.order_of x))) (value_order k a n (order_of o))
     ∙ ap (option_map (node.Value k)) (order_read o))
     (name_read l.name named)
@@ -203,23 +221,11 @@ said (Sequence count e l) w named small =
     (name_read l.name named.0)
     (ap (node.if_any whole_of) says.align ∙ align_read (nat_eq l.alignment (alignment_of e)) l.alignment w.0.greatest)
 said (Struct ms l) w named small =
-    let a = align_of (greatest_alignment ms) l in
-    let n = name_of l in
-    let d = array (all_json ms) in
-    let says = struct_says d a n in
-    node_typed type_name.Struct (group (codes "struct") a d n) n a (node.Struct (list_of (all_json ms))) l.name (unlike (greatest_alignment ms) l) says
-    (rw (group_members (codes "struct") d a n) refl)
-    (name_read l.name named.0)
-    (ap (node.if_any whole_of) says.align ∙ align_read (nat_eq l.alignment (greatest_alignment ms)) l.alignment w.0.greatest)
+    group_said type_name.Struct (node.Struct (list_of (all_json ms))) ms l (struct_says _ _ _)
+    (rw (group_members (codes "struct") _ _ _) refl) refl named.0 w.0.greatest
 said (Union ms l) w named small =
-    let a = align_of (greatest_alignment ms) l in
-    let n = name_of l in
-    let d = array (all_json ms) in
-    let says = union_says d a n in
-    node_typed type_name.Union (group (codes "union") a d n) n a (node.Union (list_of (all_json ms))) l.name (unlike (greatest_alignment ms) l) says
-    (rw (group_members (codes "union") d a n) refl)
-    (name_read l.name named.0)
-    (ap (node.if_any whole_of) says.align ∙ align_read (nat_eq l.alignment (greatest_alignment ms)) l.alignment w.0.greatest)
+    group_said type_name.Union (node.Union (list_of (all_json ms))) ms l (union_says _ _ _)
+    (rw (group_members (codes "union") _ _ _) refl) refl named.0 w.0.greatest
 
 -- ---- which version they are
 

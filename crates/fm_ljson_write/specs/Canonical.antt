@@ -1,5 +1,5 @@
 -- The canonical JSON of a layout: only what a constructor doesn't give by itself is written, and keys stand in byte order.
-use Rattle.std.specs.Prelude.{ℕ, List, Option, Some, None, option_map, codes, nat_eq, if◌then◌else◌}
+use Rattle.std.specs.Prelude.{◌≡◌, ◌⊎◌, ℕ, List, Option, Some, None, option_map, codes, nat_eq, if◌then◌else◌}
 use Rattle.serde_json.specs.Data.{Data, number, unsigned, string, array, object, Items, no_items, item, Members, no_members, member}
 use Rattle.serde_json.specs.Written.{compact_text}
 use Rattle.fm_lanes.specs.declared.order.Order.{Order}
@@ -65,3 +65,7 @@ document_json t =
 
 abbrev pub document_text : Tree → List ℕ
 document_text t = compact_text (document_json t)
+
+-- the value is one of the two
+abbrev pub StandsFor : Data → Tree → Type 0
+StandsFor d t = (d ≡ json_of t) ⊎ (d ≡ document_json t)

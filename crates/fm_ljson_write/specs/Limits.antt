@@ -1,8 +1,9 @@
 -- Which layouts are within the limits of the format.
-use Rattle.std.specs.Prelude.{ℕ, ◌+◌, ◌≤◌}
+use Rattle.std.specs.Prelude.{◌≡◌, ℕ, ◌+◌, ◌≤◌, List, Ok}
 use Rattle.fm_layout.specs.Depth.{depth}
 use Rattle.fm_layout.specs.Tree.{Tree, Trees, Value, Padding, Sequence, Struct, Union, NoMore, More}
 use Rattle.fm_layout.specs.WellFormed.{limit}
+use Rattle.fm_ljson.specs.Answer.{layout_of_json}
 use Rattle.fm_ljson.specs.Nodes.{most_levels, most_nodes}
 
 abbrev mutual
@@ -35,3 +36,7 @@ pub record IsWithinLimits (t : Tree) : Type 0 where
   pub levels : depth t ≤ most_levels
   pub nodes : node_count t ≤ most_nodes
   pub counts : AreCountsSmall t
+
+-- they read as this layout, if it is within the limits
+abbrev pub ReadsAs : Tree → List ℕ → Type 0
+ReadsAs t bytes = IsWithinLimits t → layout_of_json bytes ≡ Ok t

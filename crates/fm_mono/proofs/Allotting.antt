@@ -4,15 +4,17 @@ use Rattle.std.specs.Prelude.{nat_le, vec_capacity}
 use Rattle.std.proofs.lemmas.Bool.Decides.{nat_tests}
 use Rattle.std.proofs.lemmas.List.{length-set, length-replicate, replicate-append-replicate, set-get_or, take_all}
 use Rattle.fm_base.specs.declared.arena_id.ArenaId.{ArenaId}
-use Rattle.fm_base.specs.Arenas.{Arena, Alive, arena_of, changed}
+use Rattle.fm_base.specs.Arenas.{Arena, Alive, arena_of, changed, has_arena}
 use Rattle.fm_base.specs.Calls.{Given, NoRoom}
 use Rattle.fm_base.specs.Machine.{words_within, rounded_up, allocate_reply, given_up_to, ended}
 use Rattle.fm_base.proofs.Growing.{le-rounded_up}
 use Rattle.fm_base.proofs.Lookup.{changed_same}
 use Rattle.fm_mono.specs.declared.arena.MonoArena.{MonoArena}
-use Rattle.fm_mono.specs.Shown.{shown, shown_all, seen_of, IsSoundMono, filled, WantsWords}
+use Rattle.fm_mono.specs.Shown.{Arenas, shown, shown_all, seen_of, IsKept, IsSoundMono, filled, WantsWords}
+use Rattle.fm_mono.specs.declared.mono.Mono.TheInside.{Inside}
+use Rattle.fm_mono.proofs.Inside.{entered_of}
 use Rattle.fm_mono.proofs.Showing.{change_shown, CountFrom-set}
-use Rattle.fm_mono.proofs.Steps.{IsPlaced, placed_read, life_true, fit_set, sound_set}
+use Rattle.fm_mono.proofs.Steps.{IsPlaced, placed, placed_read, life_true, fit_set, sound_set}
 
 -- zeros behind the words are not seen
 fill_padded : (n k : ℕ) (ws : List ℕ) → length ws + k ≤ n → filled n (ws ++ replicate k 0) ≡ filled n ws
@@ -42,6 +44,17 @@ is_read limit inside os a o p r l =
       read = r;
       looked = looked;
     }
+
+module _ (f : Inside) {m : Arenas} {a : ArenaId} (kept : IsKept f.limit (entered_of f) f.current f.arenas.items)
+    (is : seen_of f.limit (entered_of f) f.arenas.items ≡ m) (known : has_arena m.state a ≡ true) where
+  -- the arena that a call names has its place
+  pub placed_for : IsPlaced f.limit (entered_of f) f.arenas.items a
+  placed_for = placed f.limit (entered_of f) f.arenas.items a kept.arenas.names (subst (λ (n : Arenas). has_arena n.state a ≡ true) (sym is) known)
+
+  -- and is read there
+  pub read_for : (o : MonoArena) → o ≡ get_or f.arenas.items a.slot o → (arena_of m.state a).life ≡ Alive → IsRead f.limit (entered_of f) f.arenas.items a o
+  read_for o r l =
+      is_read f.limit (entered_of f) f.arenas.items a o placed_for r (subst (λ (n : Arenas). (arena_of n.state a).life ≡ Alive) (sym is) l)
 
 -- words that were grown to so many
 pub record IsGrown (old new : List ℕ) (n : ℕ) : Type 0 where

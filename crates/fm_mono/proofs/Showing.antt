@@ -17,23 +17,22 @@ slot_at n (suc k) (p ∷ os) o c h = let r = slot_at (n + 1) k os o c.2 h in (om
 other_slot : (n k : ℕ) (p : MonoArena) (os : List MonoArena) (o : MonoArena) → CountFrom n (p ∷ os) → slice_get os k ≡ Some o → same_id p.id o.id ≡ false
 other_slot n k p os o c h = let r = slot_at (n + 1) k os o c.2 h in same_id-slot p.id o.id (let a = r.0 in let b = c.0 in omega arith)
 
-pub lookup_shown : (limit : ℕ) (i : Option ArenaId) (n k : ℕ) (os : List MonoArena) (o : MonoArena) → CountFrom n os → slice_get os k ≡ Some o
-    → arena_of (shown_all limit i os) o.id ≡ shown limit i o
-lookup_shown limit i n k [] o c h = absurd (cc)
-lookup_shown limit i n zero (p ∷ os) o c h =
+-- the arena at a place is looked up as it is shown, and is there
+pub found_shown : (limit : ℕ) (i : Option ArenaId) (n k : ℕ) (os : List MonoArena) (o : MonoArena) → CountFrom n os → slice_get os k ≡ Some o
+    → (arena_of (shown_all limit i os) o.id ≡ shown limit i o) × (has_arena (shown_all limit i os) o.id ≡ true)
+found_shown limit i n k [] o c h = absurd (cc)
+found_shown limit i n zero (p ∷ os) o c h =
     let e : p ≡ o = cc in
-    rw e (ap (λ b. if b then shown limit i o else arena_of (shown_all limit i os) o.id) (same_id-self o.id))
-lookup_shown limit i n (suc k) (p ∷ os) o c h =
-    ap (λ b. if b then shown limit i p else arena_of (shown_all limit i os) o.id) (other_slot n k p os o c h) ∙ lookup_shown limit i (n + 1) k os o c.2 h
-
-pub has_shown : (limit : ℕ) (i : Option ArenaId) (n k : ℕ) (os : List MonoArena) (o : MonoArena) → CountFrom n os → slice_get os k ≡ Some o
-    → has_arena (shown_all limit i os) o.id ≡ true
-has_shown limit i n k [] o c h = absurd (cc)
-has_shown limit i n zero (p ∷ os) o c h =
-    let e : p ≡ o = cc in
-    rw e (ap (λ b. if b then true else has_arena (shown_all limit i os) o.id) (same_id-self o.id))
-has_shown limit i n (suc k) (p ∷ os) o c h =
-    ap (λ b. if b then true else has_arena (shown_all limit i os) o.id) (other_slot n k p os o c h) ∙ has_shown limit i (n + 1) k os o c.2 h
+    rw e (
+      ap (λ b. if b then shown limit i o else arena_of (shown_all limit i os) o.id) (same_id-self o.id),
+      ap (λ b. if b then true else has_arena (shown_all limit i os) o.id) (same_id-self o.id),
+    )
+found_shown limit i n (suc k) (p ∷ os) o c h =
+    let other = other_slot n k p os o c h in
+    let r = found_shown limit i (n + 1) k os o c.2 h in (
+      ap (λ b. if b then shown limit i p else arena_of (shown_all limit i os) o.id) other ∙ r.0,
+      ap (λ b. if b then true else has_arena (shown_all limit i os) o.id) other ∙ r.1,
+    )
 
 -- an arena that is there has its place
 pub place_of : (limit : ℕ) (i : Option ArenaId) (n : ℕ) (os : List MonoArena) (a : ArenaId) → CountFrom n os → has_arena (shown_all limit i os) a ≡ true

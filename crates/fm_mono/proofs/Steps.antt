@@ -13,7 +13,7 @@ use Rattle.fm_mono.specs.Shown.{view_of, seen_of, inside_of, shown, shown_all, C
 use Rattle.fm_base.specs.Does.{CanReach, CanReachAll}
 use Rattle.fm_base.proofs.Names.{same_id-self}
 use Rattle.fm_mono.proofs.Inside.{inside_of-set}
-use Rattle.fm_mono.proofs.Showing.{slot_at, lookup_shown, has_shown, place_of, change_shown, CountFrom-set, enter_shown, leave_shown, nobody}
+use Rattle.fm_mono.proofs.Showing.{slot_at, found_shown, place_of, change_shown, CountFrom-set, enter_shown, leave_shown, nobody}
 
 -- the arena that was entered
 pub record IsActed (limit : ℕ) (inside : Option ArenaId) (current : ℕ) (os : List MonoArena) (o : MonoArena) : Type 0 where
@@ -42,7 +42,7 @@ is_acted limit inside current os o id k i e =
       named = named;
       alive = rw same at t.3;
       place = h;
-      looked = ap (λ x. arena_of (shown_all limit inside os) x) (sym named) ∙ lookup_shown limit inside 0 id.slot os o s.names h;
+      looked = ap (λ x. arena_of (shown_all limit inside os) x) (sym named) ∙ (found_shown limit inside 0 id.slot os o s.names h).0;
       fits = s.fit id.slot o h;
     }
 
@@ -67,7 +67,7 @@ module _ {limit : ℕ} {inside : Option ArenaId} {current : ℕ} {os : List Mono
   way_shown = rw (h.looked, h.named, h.inside_is, same_id-self h.id) (0, omega arith, refl)
 
   pub known_shown : CountFrom 0 os → has_arena (shown_all limit inside os) h.id ≡ true
-  known_shown c = subst (λ (x : ArenaId). has_arena (shown_all limit inside os) x ≡ true) h.named (has_shown limit inside 0 h.id.slot os o c h.place)
+  known_shown c = subst (λ (x : ArenaId). has_arena (shown_all limit inside os) x ≡ true) h.named (found_shown limit inside 0 h.id.slot os o c h.place).1
 
   pub within_shown : (n : ℕ) → n ≤ length o.words.items → n ≤ length (arena_of (shown_all limit inside os) h.id).words
   within_shown n within = rw (h.looked, words_shown limit inside o h.alive) (rw length-append (omega arith))
@@ -221,7 +221,7 @@ placed limit inside os a c h =
       place = at;
       id = p.4;
       owner = sym (ap (λ (x : ArenaId). owner_of x) p.4) ∙ (slot_at 0 p.0 os p.1 c p.3).1;
-      looked = ap (λ x. arena_of (shown_all limit inside os) x) (sym p.4) ∙ lookup_shown limit inside 0 p.0 os p.1 c p.3;
+      looked = ap (λ x. arena_of (shown_all limit inside os) x) (sym p.4) ∙ (found_shown limit inside 0 p.0 os p.1 c p.3).0;
     }
 
 pub placed_read : (os : List MonoArena) (k : ℕ) (o p : MonoArena) → slice_get os k ≡ Some o → p ≡ get_or os k p → o ≡ p
@@ -250,7 +250,7 @@ goes_out limit None os s is = absurd (cc)
 goes_out limit (Some a) os s is =
     let u = s.there in
     let looked : arena_of (shown_all limit (Some a) os) a ≡ shown limit (Some a) u.0 = ap (λ x. arena_of (shown_all limit (Some a) os) x) (sym u.2)
-    ∙ lookup_shown limit (Some a) 0 a.slot os u.0 s.names u.1 in
+    ∙ (found_shown limit (Some a) 0 a.slot os u.0 s.names u.1).0 in
     let left_is : shown_all limit None os ≡ changed (shown_all limit (Some a) os) a (left only_caller) =
     subst (λ (x : ArenaId). shown_all limit None os ≡ changed (shown_all limit (Some x) os) x (left only_caller)) u.2
     (leave_shown limit 0 a.slot os u.0 s.names u.1) in

@@ -29,28 +29,28 @@ size_small t well = (fit_of t well).size
 stands_aligned : (at n m a b : ℕ) → n ≡ a → m ≡ b → IsPowerOfTwo a × (at % a ≡ 0) × (b % a ≡ 0) → StandsAligned at n m
 stands_aligned at n m a b e d h = rw (e, d) (record { power = is_power_of_two-IsPowerOfTwo a h.0; offset = h.1; root = h.2 })
 
--- what the pass comes to stays inside the root
-pub stays_inside : (path : List PathStep) (t : Tree) (offset : ℕ) (dims : List Dim) (u : Tree) (v : ValueSpec) (n a : ℕ) → IsWellFormed t
-    → LeadsTo path t offset dims u → IsSpecOf u v → n ≡ size_of t → a ≡ alignment_of t → StaysInside (resolution offset dims v n a)
-stays_inside path t offset dims u v n a well l s e d = record {
-  aligned = λ is h. stands_aligned (offset_at offset dims is) v.alignment a (alignment_of u) (alignment_of t) (spec_is u v s).1 d
-      (leads_aligned path t offset dims u well l is h);
-  steady = λ is h. leads_steady path t offset dims u well l is h;
-  inside = λ is h. omega (arith, leads_inside path t offset dims u well l is h, (spec_is u v s).0, e);
-  small = omega (arith, e, size_small t well);
-  power = (let p = (fit_of t well).power in (p.0, d ∙ p.1));
-}
+module _ (path : List PathStep) (t : Tree) (offset : ℕ) (dims : List Dim) (u : Tree) (v : ValueSpec) (n a : ℕ) (well : IsWellFormed t)
+    (l : LeadsTo path t offset dims u) (s : IsSpecOf u v) (e : n ≡ size_of t) (d : a ≡ alignment_of t) where
+  -- what the pass comes to stays inside the root
+  pub stays_inside : StaysInside (resolution offset dims v n a)
+  stays_inside = record {
+    aligned = λ is h. stands_aligned (offset_at offset dims is) v.alignment a (alignment_of u) (alignment_of t) (spec_is u v s).1 d
+        (leads_aligned path t offset dims u well l is h);
+    steady = λ is h. leads_steady path t offset dims u well l is h;
+    inside = λ is h. omega (arith, leads_inside path t offset dims u well l is h, (spec_is u v s).0, e);
+    small = omega (arith, e, size_small t well);
+    power = (let p = (fit_of t well).power in (p.0, d ∙ p.1));
+  }
 
--- what the pass comes to is the resolved path
-pub is_resolved : (path : List PathStep) (t : Tree) (offset : ℕ) (dims : List Dim) (u : Tree) (v : ValueSpec) (n a : ℕ) → IsWellFormed t
-    → LeadsTo path t offset dims u → IsSpecOf u v → n ≡ size_of t → a ≡ alignment_of t → IsResolved path t (resolution offset dims v n a)
-is_resolved path t offset dims u v n a well l s en ea = record {
-  last = u;
-  ends = leads_end path t offset dims u l;
-  value = s;
-  dims = leads_dims path t offset dims u l;
-  leads = l;
-  finds = λ is h. leads_finds path t offset dims u well l is h;
-  root_size = en;
-  root_alignment = ea;
-}
+  -- what the pass comes to is the resolved path
+  pub is_resolved : IsResolved path t (resolution offset dims v n a)
+  is_resolved = record {
+    last = u;
+    ends = leads_end path t offset dims u l;
+    value = s;
+    dims = leads_dims path t offset dims u l;
+    leads = l;
+    finds = λ is h. leads_finds path t offset dims u well l is h;
+    root_size = e;
+    root_alignment = d;
+  }

@@ -29,10 +29,7 @@ pub fn resolve(alloc: Global, layout: &Layout, path: &[PathStep]) -> Result<Reso
     let mut dims = Dims::new(alloc);
     let mut here = layout;
     for (k, step) in path.iter().enumerate() {
-        let moved = match take(here, k as u64, step) {
-            Ok(moved) => moved,
-            Err(refusal) => return Err(refusal),
-        };
+        let moved = take(here, k as u64, step)?;
         offset = offset.saturating_add(moved.by);
         dims.add(moved.dim)?;
         here = moved.to;
@@ -55,10 +52,7 @@ pub fn byte_offset(layout: &Layout, path: &[PathStep]) -> Result<u64, Refusal>
     let mut offset: u64 = 0;
     let mut here = layout;
     for (k, step) in path.iter().enumerate() {
-        let moved = match take_closed(here, k as u64, step) {
-            Ok(moved) => moved,
-            Err(refused) => return Err(refused),
-        };
+        let moved = take_closed(here, k as u64, step)?;
         offset = offset.saturating_add(moved.by);
         here = moved.to;
     }

@@ -50,28 +50,27 @@ pub record IsOnWay (go : ℕ → PathStep → Tree → Moved) (path : List PathS
   pub kept : offset ≡ min true_offset (2 ^ 64 - 1)
   pub way : onto true_offset dims (walk_by go (drop k path) k here) ≡ walk_by go path 0 t
 
--- one more step
-pub on_way_more : (go : ℕ → PathStep → Tree
-    → Moved) (path : List PathStep) (t : Tree) (k offset : ℕ) (dims : List Dim) (here : Tree) (p : PathStep) (m : Move) (offset' : ℕ) (dims' : List Dim)
-    → IsOnWay go path t k offset dims here → k < length path → p ≡ get_or path k p → go k p here ≡ Ok m
-    → offset' ≡ min (offset + m.by) (2 ^ 64 - 1) → dims' ≡ dims ++ with_dim m.dim [] → IsOnWay go path t (k + 1) offset' dims' m.to
-on_way_more go path t k offset dims here p m offset' dims' w lt is e eo ed = record {
-  true_offset = w.true_offset + m.by;
-  kept = omega (arith, w.kept, eo);
-  way = ap (λ x. onto (w.true_offset + m.by) x (walk_by go (drop (k + 1) path) (k + 1) m.to)) ed
-      ∙ sym (onto_moved w.true_offset dims m (walk_by go (drop (k + 1) path) (k + 1) m.to))
-      ∙ ap (λ r. onto w.true_offset dims (r >>= λ m. moved m (walk_by go (drop (k + 1) path) (k + 1) m.to))) (sym e ∙ ap (λ s. go k s here) is)
-      ∙ ap (λ ps. onto w.true_offset dims (walk_by go ps k here)) (sym (drop_more path k p lt))
-      ∙ w.way;
-}
+module _ (go : ℕ → PathStep → Tree → Moved) (path : List PathStep) (t : Tree) (k offset : ℕ) (dims : List Dim) (here : Tree) (p : PathStep) where
+  -- one more step
+  pub on_way_more : (m : Move) (offset' : ℕ) (dims' : List Dim) → IsOnWay go path t k offset dims here → k < length path → p ≡ get_or path k p
+      → go k p here ≡ Ok m → offset' ≡ min (offset + m.by) (2 ^ 64 - 1) → dims' ≡ dims ++ with_dim m.dim []
+      → IsOnWay go path t (k + 1) offset' dims' m.to
+  on_way_more m offset' dims' w lt is e eo ed = record {
+    true_offset = w.true_offset + m.by;
+    kept = omega (arith, w.kept, eo);
+    way = ap (λ x. onto (w.true_offset + m.by) x (walk_by go (drop (k + 1) path) (k + 1) m.to)) ed
+        ∙ sym (onto_moved w.true_offset dims m (walk_by go (drop (k + 1) path) (k + 1) m.to))
+        ∙ ap (λ r. onto w.true_offset dims (r >>= λ m. moved m (walk_by go (drop (k + 1) path) (k + 1) m.to))) (sym e ∙ ap (λ s. go k s here) is)
+        ∙ ap (λ ps. onto w.true_offset dims (walk_by go ps k here)) (sym (drop_more path k p lt))
+        ∙ w.way;
+  }
 
--- a refused step refuses the path
-pub on_way_err : (go : ℕ → PathStep → Tree
-    → Moved) (path : List PathStep) (t : Tree) (k offset : ℕ) (dims : List Dim) (here : Tree) (p : PathStep) (e : Refusal)
-    → IsOnWay go path t k offset dims here → k < length path → p ≡ get_or path k p → go k p here ≡ Err e → walk_by go path 0 t ≡ Err e
-on_way_err go path t k offset dims here p e w lt is m =
-    sym w.way ∙ ap (λ ps. onto w.true_offset dims (walk_by go ps k here)) (drop_more path k p lt)
-    ∙ ap (λ r. onto w.true_offset dims (r >>= λ m. moved m (walk_by go (drop (k + 1) path) (k + 1) m.to))) (sym (ap (λ s. go k s here) is) ∙ m)
+  -- a refused step refuses the path
+  pub on_way_err : (e : Refusal) → IsOnWay go path t k offset dims here → k < length path → p ≡ get_or path k p → go k p here ≡ Err e
+      → walk_by go path 0 t ≡ Err e
+  on_way_err e w lt is m =
+      sym w.way ∙ ap (λ ps. onto w.true_offset dims (walk_by go ps k here)) (drop_more path k p lt)
+      ∙ ap (λ r. onto w.true_offset dims (r >>= λ m. moved m (walk_by go (drop (k + 1) path) (k + 1) m.to))) (sym (ap (λ s. go k s here) is) ∙ m)
 
 -- behind the last step the way is the whole walk
 pub on_way_end : (go : ℕ → PathStep → Tree → Moved) (path : List PathStep) (t : Tree) (k offset : ℕ) (dims : List Dim) (here : Tree)
@@ -114,17 +113,16 @@ at_zeros at [] is = refl
 at_zeros at (d ∷ ds) [] = refl
 at_zeros at (d ∷ ds) (i ∷ is) = ap (λ x. offset_at x ds (zeros is)) (reach_zero at d.stride) ∙ at_zeros at ds is
 
--- at these indices the walk meets following
-met : (path : List PathStep) (t : Tree) (a : ℕ) (dims : List Dim) (u : Tree) → walk path t ≡ made a dims u → (is : List ℕ) → AreAdmitted dims is
-    → Meets lead path 0 t (record { offset = a; dims = dims; last = u }) is
-met path t a dims u w is h = IfOk-at_ok (Agrees lead path 0 t) w (agrees lead leads path 0 t) is h
+module _ (path : List PathStep) (t : Tree) (a : ℕ) (dims : List Dim) (u : Tree) (w : walk path t ≡ made a dims u) where
+  -- at these indices the walk meets following
+  met : (is : List ℕ) → AreAdmitted dims is → Meets lead path 0 t (record { offset = a; dims = dims; last = u }) is
+  met is h = IfOk-at_ok (Agrees lead path 0 t) w (agrees lead leads path 0 t) is h
 
--- where some indices are admitted, the offset is that of a place
-small_offset : (path : List PathStep) (t : Tree) (a : ℕ) (dims : List Dim) (u : Tree) → walk path t ≡ made a dims u → (is : List ℕ) → AreAdmitted dims is
-    → a + size_of u ≤ size_of t
-small_offset path t a dims u w is h =
-    let m = met path t a dims u w (zeros is) (zeros_admitted dims is h) in
-    omega (arith, inside m.steps t _ u m.stands, at_zeros a dims is)
+  -- where some indices are admitted, the offset is that of a place
+  small_offset : (is : List ℕ) → AreAdmitted dims is → a + size_of u ≤ size_of t
+  small_offset is h =
+      let m = met (zeros is) (zeros_admitted dims is h) in
+      omega (arith, inside m.steps t _ u m.stands, at_zeros a dims is)
 
 -- each offset on the way is that of a place
 keeps_inside : (at most : ℕ) (ds : List Dim) (is : List ℕ) → most < 2 ^ 64 → ((js : List ℕ) → AreAdmitted ds js → offset_at at ds js ≤ most)

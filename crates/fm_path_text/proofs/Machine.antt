@@ -21,30 +21,30 @@ pub run_more : {S : Type 0} (step : S → ℕ → Option S) (text : List ℕ) (i
     → run step (take (i + 1) text) o ≡ onward step (run step (take i text) o) (get_or text i 0)
 run_more step text i o lt = ap (λ t. run step t o) (take_more text i 0 lt) ∙ run_append step (take i text) (get_or text i 0 ∷ []) o
 
--- The digits of a number above 0 lead to where it stands, where each digit leads on so.
-pub run_positive : {S : Type 0} (step : S → ℕ → Option S) (from : S) (at : ℕ → S) (most : ℕ) → most < 2 ^ 64
-    → ((d : ℕ) → d < 10 → 0 < d → step from (48 + d) ≡ Some (at d))
-    → ((n d : ℕ) → d < 10 → 0 < n → 10 * n + d ≤ most → step (at n) (48 + d) ≡ Some (at (10 * n + d)))
-    → (n : ℕ) → 0 < n → n ≤ most → run step (decimal n) (Some from) ≡ Some (at n)
-run_positive step from at most small one again n gt le =
-    decimal_by_steps (λ n text. 0 < n → n ≤ most → run step text (Some from) ≡ Some (at n))
-    (λ n below gt _. one n below gt)
-    (λ n text big ih gt le.
-    let e : 10 * (n / 10) + n % 10 ≡ n = omega arith in
-    run_append step text ((48 + n % 10) ∷ []) (Some from)
-    ∙ ap (λ o. onward step o (48 + n % 10)) (ih (omega arith) (omega arith))
-    ∙ again (n / 10) (n % 10) (omega arith) (omega arith) (omega arith)
-    ∙ ap (λ m. Some (at m)) e)
-    n (omega arith) gt le
+module _ {S : Type 0} (step : S → ℕ → Option S) (from : S) (at : ℕ → S) (most : ℕ) (small : most < 2 ^ 64) where
+  -- each digit behind a number leads on to the longer one
+  abbrev LeadsOn : Type 0
+  LeadsOn = (n d : ℕ) → d < 10 → 0 < n → 10 * n + d ≤ most → step (at n) (48 + d) ≡ Some (at (10 * n + d))
 
--- So do those of each number, where the first may be 0.
-pub run_number : {S : Type 0} (step : S → ℕ → Option S) (from : S) (at : ℕ → S) (most : ℕ) → most < 2 ^ 64
-    → ((d : ℕ) → d < 10 → step from (48 + d) ≡ Some (at d))
-    → ((n d : ℕ) → d < 10 → 0 < n → 10 * n + d ≤ most → step (at n) (48 + d) ≡ Some (at (10 * n + d)))
-    → (n : ℕ) → n ≤ most → run step (decimal n) (Some from) ≡ Some (at n)
-run_number step from at most small one again zero le = rw (decimal_digit 0 (omega arith)) (one 0 (omega arith))
-run_number step from at most small one again (suc n) le =
-    run_positive step from at most small (λ d below _. one d below) again (suc n) (omega arith) le
+  -- The digits of a number above 0 lead to where it stands, where each digit leads on so.
+  pub run_positive : ((d : ℕ) → d < 10 → 0 < d → step from (48 + d) ≡ Some (at d)) → LeadsOn
+      → (n : ℕ) → 0 < n → n ≤ most → run step (decimal n) (Some from) ≡ Some (at n)
+  run_positive one again n gt le =
+      decimal_by_steps (λ n text. 0 < n → n ≤ most → run step text (Some from) ≡ Some (at n))
+      (λ n below gt _. one n below gt)
+      (λ n text big ih gt le.
+      let e : 10 * (n / 10) + n % 10 ≡ n = omega arith in
+      run_append step text ((48 + n % 10) ∷ []) (Some from)
+      ∙ ap (λ o. onward step o (48 + n % 10)) (ih (omega arith) (omega arith))
+      ∙ again (n / 10) (n % 10) (omega arith) (omega arith) (omega arith)
+      ∙ ap (λ m. Some (at m)) e)
+      n (omega arith) gt le
+
+  -- So do those of each number, where the first may be 0.
+  pub run_number : ((d : ℕ) → d < 10 → step from (48 + d) ≡ Some (at d)) → LeadsOn
+      → (n : ℕ) → n ≤ most → run step (decimal n) (Some from) ≡ Some (at n)
+  run_number one again zero le = rw (decimal_digit 0 (omega arith)) (one 0 (omega arith))
+  run_number one again (suc n) le = run_positive (λ d below _. one d below) again (suc n) (omega arith) le
 
 -- What each byte keeps of the text so far and of where the machine stands.
 abbrev pub Keeps : {S : Type 0} → (S → ℕ → Option S) → (List ℕ → S → Type 0) → Type 0

@@ -47,6 +47,22 @@ closes pieces step part = if nat_lt (pieces + 1) most_pieces then Finish step pa
 abbrev pub spells : List ℕ → ℕ → Move
 spells name byte = if nat_lt (length name) 64 then Stay (Word (name ++ byte ∷ [])) else Dead
 
+-- what a sign does behind a bracket that is open
+abbrev pub next_in_brackets : Part → Sign → Move
+next_in_brackets Open sign.Close = Finish Each Between
+next_in_brackets Open (sign.Digit d) = Stay (Index d)
+next_in_brackets (Index n) (sign.Digit d) = counts Index (longer_number n d)
+next_in_brackets (Index n) sign.Close = Finish (At n) Between
+next_in_brackets (Index n) sign.Colon = Stay (Colon n)
+next_in_brackets (Colon f) sign.Minus = Stay (Minus f)
+next_in_brackets (Colon f) (sign.Digit d) = Stay (Up f d)
+next_in_brackets (Minus f) (sign.Digit d) = if nat_eq d 0 then Dead else Stay (Down f d)
+next_in_brackets (Up f n) (sign.Digit d) = counts (Up f) (longer_number n d)
+next_in_brackets (Up f n) sign.Close = Finish (EachFrom f (pos n)) Between
+next_in_brackets (Down f n) (sign.Digit d) = counts (Down f) (longer_number n d)
+next_in_brackets (Down f n) sign.Close = Finish (EachFrom f (neg_ℤ (pos n))) Between
+next_in_brackets _ _ = Dead
+
 -- what a sign does in a part of a piece behind so many whole ones
 abbrev pub next : Part → ℕ → Sign → Move
 next Between k sign.Dot = opens k Dot
@@ -61,19 +77,7 @@ next Hash k (sign.Digit d) = Stay (Number d)
 next (Number n) k (sign.Digit d) = counts Number (longer_number n d)
 next (Number n) k sign.Dot = closes k (Group n) Dot
 next (Number n) k sign.Open = closes k (Group n) Open
-next Open k sign.Close = Finish Each Between
-next Open k (sign.Digit d) = Stay (Index d)
-next (Index n) k (sign.Digit d) = counts Index (longer_number n d)
-next (Index n) k sign.Close = Finish (At n) Between
-next (Index n) k sign.Colon = Stay (Colon n)
-next (Colon f) k sign.Minus = Stay (Minus f)
-next (Colon f) k (sign.Digit d) = Stay (Up f d)
-next (Minus f) k (sign.Digit d) = if nat_eq d 0 then Dead else Stay (Down f d)
-next (Up f n) k (sign.Digit d) = counts (Up f) (longer_number n d)
-next (Up f n) k sign.Close = Finish (EachFrom f (pos n)) Between
-next (Down f n) k (sign.Digit d) = counts (Down f) (longer_number n d)
-next (Down f n) k sign.Close = Finish (EachFrom f (neg_ℤ (pos n))) Between
-next _ k _ = Dead
+next part k s = next_in_brackets part s
 
 -- the steps of the whole pieces read so far, and the part of the next one
 pub record Spot : Type 0 where

@@ -1,7 +1,7 @@
 ghost use Rattle.std.specs.Prelude.{◌≡◌, ℕ, ◌<◌, ◌≤◌, ◌++◌, ◌∷◌, ◌||◌, [], pos, neg_ℤ, IfOk, IfErr, IsTrue, length};
 ghost use Rattle.fm_layout.specs.Name.{is_letter, is_digit};
 ghost use Rattle.fm_path_text.specs.Grammar.{most_number, most_pieces};
-ghost use Rattle.fm_path_text.specs.Reader.{longer_number, next, opens, closes, spells, IsSound, IsBounded, whole, Holds};
+ghost use Rattle.fm_path_text.specs.Reader.{longer_number, next, next_in_brackets, opens, closes, spells, IsSound, IsBounded, whole, Holds};
 
 use crate::name_text::NameText;
 use crate::sign::Sign;
@@ -74,13 +74,24 @@ impl Part {
             ),
             (Part::Number(n), Sign::Dot) => closes(pieces, PathStep::Group(n), Part::Dot),
             (Part::Number(n), Sign::Open) => closes(pieces, PathStep::Group(n), Part::Open),
-            (Part::Open, Sign::Close) => Move::Finish(PathStep::Each, Part::Between),
+            (part, sign) => part.next_in_brackets(sign),
+        }
+    }
+
+    /// What a sign does behind a bracket that is open.
+    fn next_in_brackets(self, sign: Sign) -> Move
+        requires sound { IsSound sign }
+        requires bounded { IsBounded self }
+        ensures { result ≡ next_in_brackets self sign }
+    {
+        match (self, sign) {
+            (Part::Open, Sign::Close) => ends(PathStep::Each),
             (Part::Open, Sign::Digit(digit)) => Move::Stay(Part::Index(u64::from(digit))),
             (Part::Index(n), Sign::Digit(digit)) => longer_number(n, digit).map_or(
                 Move::Dead,
                 |n| Move::Stay(Part::Index(n)),
             ),
-            (Part::Index(n), Sign::Close) => Move::Finish(PathStep::At(n), Part::Between),
+            (Part::Index(n), Sign::Close) => ends(PathStep::At(n)),
             (Part::Index(n), Sign::Colon) => Move::Stay(Part::Colon(n)),
             (Part::Colon(first), Sign::Minus) => Move::Stay(Part::Minus(first)),
             (Part::Colon(first), Sign::Digit(digit)) => Move::Stay(Part::Up(
@@ -96,18 +107,12 @@ impl Part {
                 Move::Dead,
                 |n| Move::Stay(Part::Up(first, n)),
             ),
-            (Part::Up(first, n), Sign::Close) => Move::Finish(
-                PathStep::EachFrom(first, up(n)),
-                Part::Between,
-            ),
+            (Part::Up(first, n), Sign::Close) => ends(PathStep::EachFrom(first, up(n))),
             (Part::Down(first, n), Sign::Digit(digit)) => longer_number(n, digit).map_or(
                 Move::Dead,
                 |n| Move::Stay(Part::Down(first, n)),
             ),
-            (Part::Down(first, n), Sign::Close) => Move::Finish(
-                PathStep::EachFrom(first, down(n)),
-                Part::Between,
-            ),
+            (Part::Down(first, n), Sign::Close) => ends(PathStep::EachFrom(first, down(n))),
             _ => Move::Dead,
         }
     }
@@ -159,6 +164,13 @@ fn closes(pieces: usize, step: PathStep, part: Part) -> Move
     } else {
         Move::Dead
     }
+}
+
+/// The end of a piece whose bracket closes.
+fn ends(step: PathStep) -> Move
+    ensures { result ≡ Move.Finish step Part.Between }
+{
+    Move::Finish(step, Part::Between)
 }
 
 /// One more byte of a name, if there is room.

@@ -15,7 +15,7 @@ use Rattle.fm_layout.specs.Tree.{Tree, Label, alignment_of}
 use Rattle.fm_layout.specs.Size.{size_of}
 use Rattle.fm_layout.specs.Parts.{form_of, IsValue}
 use Rattle.fm_segment_access.specs.Found.{DoesAt}
-use Rattle.fm_segment.specs.Access.{if_tiling, HasKind, IsKnown, place_of, writable_place_of, offset_of_index}
+use Rattle.fm_segment.specs.Access.{if_tiling, HasKind, IsKnown, place_of, writable_place_of, offset_of_index, StandsAtIndex}
 use Rattle.fm_segment.specs.Region.{Region}
 
 -- ---- by the layout
@@ -54,13 +54,13 @@ past_end : (n : ℕ) (t : Tree) (r : Region) → r.size < n → place_of n t r �
 past_end n t r h = rw (lt-leb (n + size_of t) r.size (omega arith)) refl
 
 -- One past the end is as far past as need be.
-pub capped : (n : ℕ) (t : Tree) (r : Region) → place_of (min n (r.size + 1)) t r ≡ place_of n t r
+capped : (n : ℕ) (t : Tree) (r : Region) → place_of (min n (r.size + 1)) t r ≡ place_of n t r
 capped n t r = elim (cases_lt r.size n) [
   | inl past ↦ past_end (min n (r.size + 1)) t r (omega arith) ∙ sym (past_end n t r past)
   | inr below ↦ (let same : min n (r.size + 1) ≡ n = omega arith in ap (λ k. place_of k t r) same)
 ]
 
-pub writable_capped : (n : ℕ) (t : Tree) (r : Region) → writable_place_of (min n (r.size + 1)) t r ≡ writable_place_of n t r
+writable_capped : (n : ℕ) (t : Tree) (r : Region) → writable_place_of (min n (r.size + 1)) t r ≡ writable_place_of n t r
 writable_capped n t r = ap (λ (x : Result ℕ Refusal). if r.read_only then Err ReadOnly else x) (capped n t r)
 
 -- Tests that come first.
@@ -73,9 +73,15 @@ tested_ok true n m x first h = cc
 tested_ok false n m x first h = cc
 
 module _ (i : ℕ) (t : Tree) (r : Region) (At : ℕ → Result ℕ Refusal) where
-  pub index_err : {e : Refusal} → offset_of_index i t r ≡ Err e → if_tiling t (At (i * size_of t)) ≡ Err e
+  index_err : {e : Refusal} → offset_of_index i t r ≡ Err e → if_tiling t (At (i * size_of t)) ≡ Err e
   index_err {e} h = tested_err (nat_le (alignment_of t) (size_of t)) (min (i * size_of t) (r.size + 1)) (At (i * size_of t)) Unsupported e h
 
-  pub index_ok : ((n : ℕ) → At (min n (r.size + 1)) ≡ At n) → {n : ℕ} → offset_of_index i t r ≡ Ok n → At n ≡ if_tiling t (At (i * size_of t))
+  index_ok : ((n : ℕ) → At (min n (r.size + 1)) ≡ At n) → {n : ℕ} → offset_of_index i t r ≡ Ok n → At n ≡ if_tiling t (At (i * size_of t))
   index_ok cap {n} h =
       sym (tested_ok (nat_le (alignment_of t) (size_of t)) (min (i * size_of t) (r.size + 1)) n At Unsupported h) ∙ ap (if_tiling t) (cap (i * size_of t))
+
+-- Where the element of an index stands.
+pub stands_at_index : (i : ℕ) (t : Tree) (r : Region) (found : Result ℕ Refusal) → found ≡ offset_of_index i t r → StandsAtIndex i t r found
+stands_at_index i t r (Ok n) e =
+    (index_ok i t r (λ k. place_of k t r) (λ k. capped k t r) (sym e), index_ok i t r (λ k. writable_place_of k t r) (λ k. writable_capped k t r) (sym e))
+stands_at_index i t r (Err x) e = (index_err i t r (λ k. place_of k t r) (sym e), index_err i t r (λ k. writable_place_of k t r) (sym e))

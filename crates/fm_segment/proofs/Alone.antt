@@ -60,21 +60,20 @@ take-part width at size place all within =
 
 -- ---- getting and setting
 
--- A value at the place is the region's, at the offset.
-pub finds_there : (old new : View) (r : Region) (k : ValueKind) (o : Order) (l : Label) (offset p : ℕ) (v : Value) → Stands p offset (tree.Value k o l) r
-    → here.FindsValue old new k o r.arena p v → FindsValue old new r (tree.Value k o l) offset v
-finds_there old new r k o l offset p v at f =
-    let all = bytes_of_arena old.state r.arena in
-    let there : take (width_of k) (drop p (bytes_of_arena old.state r.arena)) ≡ take (width_of k) (drop offset (bytes_of_region old.state r)) =
-    ap (λ n. take (width_of k) (drop n all)) at.at ∙ sym (take-part (width_of k) offset r.size r.first all at.fits) in
-    record { value = f.value ∙ ap (value_of k o) there; same = f.same }
+module _ (old new : View) (r : Region) (k : ValueKind) (o : Order) (l : Label) (offset p : ℕ) (v : Value) (at : Stands p offset (tree.Value k o l) r) where
+  -- A value at the place is the region's, at the offset.
+  pub finds_there : here.FindsValue old new k o r.arena p v → FindsValue old new r (tree.Value k o l) offset v
+  finds_there f =
+      let all = bytes_of_arena old.state r.arena in
+      let there : take (width_of k) (drop p (bytes_of_arena old.state r.arena)) ≡ take (width_of k) (drop offset (bytes_of_region old.state r)) =
+      ap (λ n. take (width_of k) (drop n all)) at.at ∙ sym (take-part (width_of k) offset r.size r.first all at.fits) in
+      record { value = f.value ∙ ap (value_of k o) there; same = f.same }
 
--- A value that was put at the place is put at the offset.
-pub puts_there : (old new : View) (r : Region) (k : ValueKind) (o : Order) (l : Label) (offset p : ℕ) (v : Value) → Stands p offset (tree.Value k o l) r
-    → here.PutsValue old new k o r.arena p v → PutsValue old new r (tree.Value k o l) offset v
-puts_there old new r k o l offset p v at f =
-    let P : ℕ → Type 0 = λ n. ChangesBytes old new r.arena n (bytes_of_value o v) in
-    record { bytes = subst P at.at f.bytes; within = (let w = f.within in let e = at.at in omega arith) }
+  -- A value that was put at the place is put at the offset.
+  pub puts_there : here.PutsValue old new k o r.arena p v → PutsValue old new r (tree.Value k o l) offset v
+  puts_there f =
+      let P : ℕ → Type 0 = λ n. ChangesBytes old new r.arena n (bytes_of_value o v) in
+      record { bytes = subst P at.at f.bytes; within = (let w = f.within in let e = at.at in omega arith) }
 
 -- What was set is got.
 pub sets_then_gets : (r : Region) (t : Tree) (offset : ℕ) (v : Value) → HasKind t (kind_of v)

@@ -50,6 +50,11 @@ place_at_index index t r = if_tiling t (place_of (index * size_of t) t r)
 abbrev pub writable_place_at_index : ℕ → Tree → Region → Result ℕ Refusal
 writable_place_at_index index t r = if_tiling t (writable_place_of (index * size_of t) t r)
 
+-- the element of an index stands where a layout at this offset stands, to be read and to be written
+abbrev pub StandsAtIndex : ℕ → Tree → Region → Result ℕ Refusal → Type 0
+StandsAtIndex index t r (Ok n) = (place_of n t r ≡ place_at_index index t r) × (writable_place_of n t r ≡ writable_place_at_index index t r)
+StandsAtIndex index t r (Err e) = (place_at_index index t r ≡ Err e) × (writable_place_at_index index t r ≡ Err e)
+
 -- ---- what is done there
 
 -- reading the value of a layout at a place

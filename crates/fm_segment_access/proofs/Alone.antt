@@ -51,20 +51,6 @@ pub record RunReads (s t : State) (id : ArenaId) (end : ℕ) (x : Reading) (answ
   pub answers : Answers s id end x answer
   pub same : t ≡ s
 
--- The end of a run of reads.
-reads_end : (limit : ℕ) (c : Caller) (id : ArenaId) (end : ℕ) (s : State) (x : Reading) (own : List Entry) (answer : Option (List ℕ))
-    → EndsReading c id end x own answer → IsLegal limit s own → RunReads s (state_after limit s own) id end x answer
-reads_end limit c id end s x own (Some bytes) e legal =
-    let none : end - x.at ≡ 0 = (let h = e.0 in omega arith) in
-    let rest : take (end - x.at) (drop x.at (bytes_of_arena s id)) ≡ [] = ap (λ n. take n (drop x.at (bytes_of_arena s id))) none in
-    record {
-      answers = e.1 ∙ sym (ap (λ bs. x.bytes ++ bs) rest ∙ append-nil x.bytes);
-      same = ap (state_after limit s) e.2;
-    }
-reads_end limit c id end s x own None e legal =
-    let v = visit_refused limit c s id own e.1 legal in
-    record { answers = v.over; same = v.same }
-
 -- One piece more, and the rest.
 answers_on : (s : State) (id : ArenaId) (end width v : ℕ) (x y : Reading) (answer : Option (List ℕ)) → width ≤ end - x.at
     → bytes_of width v ≡ take width (drop x.at (bytes_of_arena s id))
@@ -83,21 +69,36 @@ answers_on s id end width v x y (Some all) h e at bytes a =
     ∙ append_assoc x.bytes (bytes_of width v) (take (end - y.at) (drop y.at b))
     ∙ ap (λ bs. x.bytes ++ bs) (sym two)
 
--- A run of reads finds the bytes that stand there, and changes nothing.
-reads_run : (limit : ℕ) (c : Caller) (id : ArenaId) (end : ℕ) (s : State) (x : Reading) (own : List Entry) (answer : Option (List ℕ))
-    → Run (ReadsOn c id end) (EndsReading c id end) x own answer → IsLegal limit s own → RunReads s (state_after limit s own) id end x answer
-reads_run limit c id end s x own answer (ends e) legal = reads_end limit c id end s x own answer e legal
-reads_run limit c id end s x own answer (goes_on y first rest step run) legal =
-    let parts = IsLegal-split limit s first rest legal in
-    let fits : x.at % 8 + piece_width x.at end ≤ 8 = omega arith in
-    let part : piece_width x.at end ≤ end - x.at = omega arith in
-    let v = visit_reads limit c s id x.at (piece_width x.at end) step.v first step.piece fits parts.0 in
-    let left : IsLegal limit s rest = subst (λ (t : State). IsLegal limit t rest) v.same parts.1 in
-    let more = reads_run limit c id end s y rest answer run left in
-    record {
-      answers = answers_on s id end (piece_width x.at end) step.v x y answer part v.value step.at step.bytes more.answers;
-      same = state_after-append limit s first rest ∙ ap (λ (t : State). state_after limit t rest) v.same ∙ more.same;
-    }
+module _ (limit : ℕ) (c : Caller) (id : ArenaId) (end : ℕ) where
+  -- The end of a run of reads.
+  reads_end : (s : State) (x : Reading) (own : List Entry) (answer : Option (List ℕ))
+      → EndsReading c id end x own answer → IsLegal limit s own → RunReads s (state_after limit s own) id end x answer
+  reads_end s x own (Some bytes) e legal =
+      let none : end - x.at ≡ 0 = (let h = e.0 in omega arith) in
+      let rest : take (end - x.at) (drop x.at (bytes_of_arena s id)) ≡ [] = ap (λ n. take n (drop x.at (bytes_of_arena s id))) none in
+      record {
+        answers = e.1 ∙ sym (ap (λ bs. x.bytes ++ bs) rest ∙ append-nil x.bytes);
+        same = ap (state_after limit s) e.2;
+      }
+  reads_end s x own None e legal =
+      let v = visit_refused limit c s id own e.1 legal in
+      record { answers = v.over; same = v.same }
+
+  -- A run of reads finds the bytes that stand there, and changes nothing.
+  reads_run : (s : State) (x : Reading) (own : List Entry) (answer : Option (List ℕ))
+      → Run (ReadsOn c id end) (EndsReading c id end) x own answer → IsLegal limit s own → RunReads s (state_after limit s own) id end x answer
+  reads_run s x own answer (ends e) legal = reads_end s x own answer e legal
+  reads_run s x own answer (goes_on y first rest step run) legal =
+      let parts = IsLegal-split limit s first rest legal in
+      let fits : x.at % 8 + piece_width x.at end ≤ 8 = omega arith in
+      let part : piece_width x.at end ≤ end - x.at = omega arith in
+      let v = visit_reads limit c s id x.at (piece_width x.at end) step.v first step.piece fits parts.0 in
+      let left : IsLegal limit s rest = subst (λ (t : State). IsLegal limit t rest) v.same parts.1 in
+      let more = reads_run s y rest answer run left in
+      record {
+        answers = answers_on s id end (piece_width x.at end) step.v x y answer part v.value step.at step.bytes more.answers;
+        same = state_after-append limit s first rest ∙ ap (λ (t : State). state_after limit t rest) v.same ∙ more.same;
+      }
 
 module _ {X : Type 0} (mean : List ℕ → X) (old now : View) (id : ArenaId) (place width : ℕ) where
   -- What the only caller reads is what the bytes that stand there mean.

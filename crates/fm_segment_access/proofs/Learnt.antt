@@ -32,15 +32,6 @@ after_get {old} {new} {id} {place} {width} {result} can d =
     (read_alone number_of old new id place width) (read_shut number_of old new id place width)
     (λ n d. got_fits old.caller id place width n d.own d.does) result d
 
--- All that is learnt of a call that puts bytes, whichever its steps are.
-pub after_put : {Step : Caller → ArenaId → Putting → List Entry → Putting → Type 0} → ArePuts Step → {old new : View} {id : ArenaId} {place : ℕ}
-    → {bytes : List ℕ} {result : Result (Unit {0}) Refusal} → old.inside ≡ None → has_arena old.state id ≡ true → AreBytes bytes
-    → Did old new (DoesPutBy Step old.caller id place bytes result)
-    → AfterPutBy old new id place bytes (DoesPutBy Step old.caller id place bytes) (UseCause id old.caller) result
-after_put puts_them {old} {new} {id} {place} {bytes} {result} out has are d =
-    after_call (puts puts_them old.caller id bytes place) out (λ e u. u) (λ l. l.known id has)
-    (λ u d h. put_alone puts_them old new id place bytes u are has d h) (λ e d h. put_shut puts_them old new id place bytes e are d h) (λ u d. tt) result d
-
 -- ---- calls that may have no byte to put
 
 pub after_no_bytes : {old : View} {id : ArenaId} {place : ℕ} (Step : Caller → ArenaId → Putting → List Entry → Putting → Type 0) (n : ℕ) (bytes : List ℕ)
@@ -49,15 +40,23 @@ after_no_bytes {old} {id} {place} Step n bytes can none empty =
     after_did can.outside (record { own = []; does = rw none (refl, refl); makes = Makes-none old }) tt refl
     (λ h. changes old old id place bytes can.known (puts_none old.state id place bytes empty)) (λ h. tt) (λ l. can.known) tt
 
-pub after_bytes : {Step : Caller → ArenaId → Putting → List Entry → Putting → Type 0} → ArePuts Step → {old new : View} {id : ArenaId} {place : ℕ}
-    → {bytes : List ℕ} {result : Result (Unit {0}) Refusal} (n : ℕ) → CanTouch old id place n → 0 < n → AreBytes bytes
-    → Did old new (DoesPutBy Step old.caller id place bytes result)
-    → AfterSome old new id place bytes n (DoesPutBy Step old.caller id place bytes) result
-after_bytes {Step} puts_them {old} {new} {id} {place} {bytes} {result} n can some are d =
-    let all = after_put puts_them can.outside can.known are d in
-    let more : (n == 0) ≡ false = grind (arith, nat_tests) in
-    after_said _ _ _ _ _ _ result all (λ own x. rw more x)
-    (if_err (UseCause id old.caller) (λ e. (0 < n) × UseCause id old.caller e) result (λ e x. (some, x))) (λ h x. x) (λ h x. x) all.known (λ x. x)
+module _ {Step : Caller → ArenaId → Putting → List Entry → Putting → Type 0} (puts_them : ArePuts Step) {old new : View} {id : ArenaId} {place : ℕ}
+    {bytes : List ℕ} {result : Result (Unit {0}) Refusal} where
+  -- All that is learnt of a call that puts bytes, whichever its steps are.
+  pub after_put : old.inside ≡ None → has_arena old.state id ≡ true → AreBytes bytes → Did old new (DoesPutBy Step old.caller id place bytes result)
+      → AfterPutBy old new id place bytes (DoesPutBy Step old.caller id place bytes) (UseCause id old.caller) result
+  after_put out has are d =
+      after_call (puts puts_them old.caller id bytes place) out (λ e u. u) (λ l. l.known id has)
+      (λ u d h. put_alone puts_them old new id place bytes u are has d h) (λ e d h. put_shut puts_them old new id place bytes e are d h) (λ u d. tt) result d
+
+  -- The same of one that may have none.
+  pub after_bytes : (n : ℕ) → CanTouch old id place n → 0 < n → AreBytes bytes → Did old new (DoesPutBy Step old.caller id place bytes result)
+      → AfterSome old new id place bytes n (DoesPutBy Step old.caller id place bytes) result
+  after_bytes n can some are d =
+      let all = after_put can.outside can.known are d in
+      let more : (n == 0) ≡ false = grind (arith, nat_tests) in
+      after_said _ _ _ _ _ _ result all (λ own x. rw more x)
+      (if_err (UseCause id old.caller) (λ e. (0 < n) × UseCause id old.caller e) result (λ e x. (some, x))) (λ h x. x) (λ h x. x) all.known (λ x. x)
 
 -- ---- values
 

@@ -102,25 +102,6 @@ agrees_next s a b offset left width v next h e first second =
     ∙ later-later offset (length p) next (first_difference (take rest (drop width xs)) (take rest (drop width ys))) sum
     ∙ rw (past a, past b) refl)
 
--- The end of a comparison.
-compare_ends : (limit : ℕ) (c : Caller) (a b : Side) (count : ℕ) (s : State) (left : ℕ) (own : List Entry) (answer : Option (Option ℕ)) → left ≤ count
-    → EndsComparing c a b count left own answer → IsLegal limit s own → RunCompares s (state_after limit s own) a b count left answer
-compare_ends limit c a b count s left own None h e legal =
-    let shut = piece_refused limit c s a b (next_piece Up a b count left) own e.1 (next_piece_fits Up a b count left e.0 h).at legal in
-    record { answers = shut.over; same = shut.same }
-compare_ends limit c a b count s left own (Some None) h e legal = record {
-  answers = sym (ap (λ n. later (count - left) (first_difference (take n (bytes_from s a (count - left))) (take n (bytes_from s b (count - left))))) e.0);
-  same = ap (λ (es : List Entry). state_after limit s es) e.1;
-}
-compare_ends limit c a b count s left own (Some (Some offset)) h e legal =
-    let p = next_piece Up a b count left in
-    let fits = next_piece_fits Up a b count left e.more h in
-    let q = piece_compared limit c s a b p (Some e.at) own e.piece fits.at legal in
-    record {
-      answers = ap (λ n. Some n) e.offset_is ∙ sym (differs_next s a b (count - left) left p.width q.v q.w e.at fits.room q.first q.second q.answer);
-      same = q.same;
-    }
-
 -- A piece that agrees, and the rest.
 answers_on : (s : State) (a b : Side) (count left next width v : ℕ) (answer : Option (Option ℕ)) → width ≤ left → left ≤ count → next ≡ left - width
     → bytes_of width v ≡ take width (bytes_from s a (count - left)) → bytes_of width v ≡ take width (bytes_from s b (count - left))
@@ -132,23 +113,43 @@ answers_on s a b count left next width v (Some found) h k e first second more =
     ∙ ap (λ n. difference_from s a b (count - next) n) e
     ∙ sym (agrees_next s a b (count - left) left width v (count - next) h sum first second)
 
--- A comparison finds the first difference, and leaves the state.
-compare_run : (limit : ℕ) (c : Caller) (a b : Side) (count : ℕ) (s : State) (left : ℕ) (own : List Entry) (answer : Option (Option ℕ)) → left ≤ count
-    → Run (AgreesOn c a b count) (EndsComparing c a b count) left own answer → IsLegal limit s own → RunCompares s
-    (state_after limit s own) a b count left answer
-compare_run limit c a b count s left own answer h (ends e) legal = compare_ends limit c a b count s left own answer h e legal
-compare_run limit c a b count s left own answer h (goes_on next one rest step run) legal =
-    let p = next_piece Up a b count left in
-    let fits = next_piece_fits Up a b count left step.more h in
-    let parts = both_legal limit s (one ++ rest) one rest refl legal in
-    let q = piece_compared limit c s a b p None one step.piece fits.at parts.first in
-    let below : next ≤ count = (let e = step.then in omega arith) in
-    let more = compare_run limit c a b count s next rest answer below run (parts.rest q.same) in
-    let second : bytes_of p.width q.v ≡ take p.width (bytes_from s b p.offset) = ap (bytes_of p.width) q.answer ∙ q.second in
-    record {
-      answers = answers_on s a b count left next p.width q.v answer fits.room h step.then q.first second more.answers;
-      same = parts.after q.same ∙ more.same;
-    }
+module _ (limit : ℕ) (c : Caller) (a b : Side) (count : ℕ) where
+  -- The end of a comparison.
+  compare_ends : (s : State) (left : ℕ) (own : List Entry) (answer : Option (Option ℕ)) → left ≤ count
+      → EndsComparing c a b count left own answer → IsLegal limit s own → RunCompares s (state_after limit s own) a b count left answer
+  compare_ends s left own None h e legal =
+      let shut = piece_refused limit c s a b (next_piece Up a b count left) own e.1 (next_piece_fits Up a b count left e.0 h).at legal in
+      record { answers = shut.over; same = shut.same }
+  compare_ends s left own (Some None) h e legal = record {
+    answers = sym (ap (λ n. later (count - left) (first_difference (take n (bytes_from s a (count - left))) (take n (bytes_from s b (count - left))))) e.0);
+    same = ap (λ (es : List Entry). state_after limit s es) e.1;
+  }
+  compare_ends s left own (Some (Some offset)) h e legal =
+      let p = next_piece Up a b count left in
+      let fits = next_piece_fits Up a b count left e.more h in
+      let q = piece_compared limit c s a b p (Some e.at) own e.piece fits.at legal in
+      record {
+        answers = ap (λ n. Some n) e.offset_is ∙ sym (differs_next s a b (count - left) left p.width q.v q.w e.at fits.room q.first q.second q.answer);
+        same = q.same;
+      }
+
+  -- A comparison finds the first difference, and leaves the state.
+  compare_run : (s : State) (left : ℕ) (own : List Entry) (answer : Option (Option ℕ)) → left ≤ count
+      → Run (AgreesOn c a b count) (EndsComparing c a b count) left own answer → IsLegal limit s own → RunCompares s
+      (state_after limit s own) a b count left answer
+  compare_run s left own answer h (ends e) legal = compare_ends s left own answer h e legal
+  compare_run s left own answer h (goes_on next one rest step run) legal =
+      let p = next_piece Up a b count left in
+      let fits = next_piece_fits Up a b count left step.more h in
+      let parts = both_legal limit s (one ++ rest) one rest refl legal in
+      let q = piece_compared limit c s a b p None one step.piece fits.at parts.first in
+      let below : next ≤ count = (let e = step.then in omega arith) in
+      let more = compare_run s next rest answer below run (parts.rest q.same) in
+      let second : bytes_of p.width q.v ≡ take p.width (bytes_from s b p.offset) = ap (bytes_of p.width) q.answer ∙ q.second in
+      record {
+        answers = answers_on s a b count left next p.width q.v answer fits.room h step.then q.first second more.answers;
+        same = parts.after q.same ∙ more.same;
+      }
 
 -- ---- the call
 

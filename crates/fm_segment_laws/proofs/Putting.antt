@@ -40,19 +40,6 @@ part_stays c a end x y own h s =
       (rw s.bytes (All-drop (λ b. b < 256) (next_width x) x.bytes h.0), omega arith),
     )
 
--- Bytes that are put piece by piece.
-pub put_stays : (c : Caller) (a : ArenaId) (end place : ℕ) (bytes : List ℕ) (result : Result (Unit {0}) Refusal) (own : List Entry) → AreBytes bytes
-    → place + length bytes ≤ end → DoesPut c a place bytes result own → StayBelow a end own
-put_stays c a end place bytes result own are h d =
-    put_kept (stay_kept a end c) a PutsOn (AreBelow end) (part_stays c a end) place bytes result own (are, h) d
-
--- A value.
-pub value_stays : (c : Caller) (a : ArenaId) (end place : ℕ) (k : ValueKind) (o : Order) (v : Value) (result : Result (Unit {0}) Refusal) (own : List Entry)
-    → kind_of v ≡ k → place + width_of k ≤ end → DoesPut c a place (bytes_of_value o v) result own → StayBelow a end own
-value_stays c a end place k o v result own is h d =
-    let len : length (bytes_of_value o v) ≡ width_of k = length-value o v ∙ ap width_of is in
-    put_stays c a end place (bytes_of_value o v) result own (AreBytes-value o v) (omega arith) d
-
 -- ---- whole words
 
 -- The words that are written end where their bytes do.
@@ -81,9 +68,23 @@ more_stays : (c : Caller) (a : ArenaId) (end : ℕ) (x y : Putting) (own : List 
 more_stays c a end x y own h (inl p) = words_stay c a end x y own h p
 more_stays c a end x y own h (inr p) = part_stays c a end x y own h p.piece
 
--- Bytes that are put with all whole words in one visit.
-pub put_all_stays : (c : Caller) (a : ArenaId) (end place : ℕ) (bytes : List ℕ) (result : Result (Unit {0}) Refusal) (own : List Entry) → AreBytes bytes
-    → place + length bytes ≤ end → DoesPutAll c a place bytes result own → StayBelow a end own
-put_all_stays c a end place bytes result own are h d =
-    stay_unless a end (length bytes == 0) result own (DoesPutBy PutsMore c a place bytes result own)
-    (λ x. put_kept (stay_kept a end c) a PutsMore (AreBelow end) (more_stays c a end) place bytes result own (are, h) x) d
+-- ---- all bytes
+
+module _ (c : Caller) (a : ArenaId) (end place : ℕ) (bytes : List ℕ) (result : Result (Unit {0}) Refusal) (own : List Entry) (are : AreBytes bytes)
+    (h : place + length bytes ≤ end) where
+  -- Bytes that are put piece by piece.
+  pub put_stays : DoesPut c a place bytes result own → StayBelow a end own
+  put_stays d = put_kept (stay_kept a end c) a PutsOn (AreBelow end) (part_stays c a end) place bytes result own (are, h) d
+
+  -- Bytes that are put with all whole words in one visit.
+  pub put_all_stays : DoesPutAll c a place bytes result own → StayBelow a end own
+  put_all_stays d =
+      stay_unless a end (length bytes == 0) result own (DoesPutBy PutsMore c a place bytes result own)
+      (λ x. put_kept (stay_kept a end c) a PutsMore (AreBelow end) (more_stays c a end) place bytes result own (are, h) x) d
+
+-- A value.
+pub value_stays : (c : Caller) (a : ArenaId) (end place : ℕ) (k : ValueKind) (o : Order) (v : Value) (result : Result (Unit {0}) Refusal) (own : List Entry)
+    → kind_of v ≡ k → place + width_of k ≤ end → DoesPut c a place (bytes_of_value o v) result own → StayBelow a end own
+value_stays c a end place k o v result own is h d =
+    let len : length (bytes_of_value o v) ≡ width_of k = length-value o v ∙ ap width_of is in
+    put_stays c a end place (bytes_of_value o v) result own (AreBytes-value o v) (omega arith) d

@@ -1,10 +1,21 @@
 ghost use Rattle.std.specs.Prelude.{◌≡◌, length, IfOk};
-ghost use Rattle.fm_handle.specs.Place.{FindsWhere, RootStands, ValueStands, can_update, fills_word, is_word, root_place, place_of, writable_place_of};
+ghost use Rattle.fm_handle.specs.Place.{FindsWhere, Lies, RootStands, ValueStands, can_update, fills_word, is_word, root_place, place_of, supports, writable_place_of};
 
 use super::VarHandle;
 use fm_base::Refusal;
 use fm_lanes::{Order, ValueKind};
 use fm_segment::{Segment, is_aligned};
+
+/// Which values a call works on.
+#[derive(Clone, Copy)]
+pub(super) enum Support {
+    /// A number that lies in one word.
+    Number,
+    /// A long that fills a word.
+    Long,
+    /// A long that is a word.
+    Word,
+}
 
 impl VarHandle {
     /// The place in the arena of the layout at the base. Refused, in this order: `Bounds`, `Misaligned`.
@@ -50,24 +61,38 @@ impl VarHandle {
     }
 
     /// The same for a call that doesn't work on every value. Refused first: `Unsupported`, where it doesn't on this one.
+    /// Inlined, so that which values are asked for is a constant in each call.
+    #[inline(always)]
     pub(super) fn update_place_of(
         &self,
-        supported: bool,
+        support: Support,
         s: &Segment,
         base: u64,
         indices: &[u64],
     ) -> Result<u64, Refusal>
         requires { length indices.now ≡ length self.now.dims }
-        ensures { FindsWhere supported base indices.now self.now s.now result }
+        ensures finds { FindsWhere (supports support self.now.value) base indices.now self.now s.now result }
+        ensures lies { IfOk result (Lies support self.now.value) }
     {
-        if !supported {
+        if !self.supports(support) {
             return Err(Refusal::Unsupported);
         }
         self.writable_place_of(s, base, indices)
     }
 
+    #[inline(always)]
+    fn supports(&self, support: Support) -> bool
+        ensures { result ≡ supports support self.now.value }
+    {
+        match support {
+            Support::Number => self.can_update(),
+            Support::Long => self.fills_word(),
+            Support::Word => self.is_word(),
+        }
+    }
+
     /// Whether the value is a number that lies in one word: an int or a long, at a multiple of its size.
-    pub(super) fn can_update(&self) -> bool
+    fn can_update(&self) -> bool
         ensures { result ≡ can_update self.now.value }
     {
         let value = self.resolved.value();
@@ -79,7 +104,7 @@ impl VarHandle {
     }
 
     /// Whether the value is a long that fills a word.
-    pub(super) fn fills_word(&self) -> bool
+    fn fills_word(&self) -> bool
         ensures { result ≡ fills_word self.now.value }
     {
         let value = self.resolved.value();
@@ -87,7 +112,7 @@ impl VarHandle {
     }
 
     /// Whether the value is a long whose bytes are a word's, in the word's order.
-    pub(super) fn is_word(&self) -> bool
+    fn is_word(&self) -> bool
         ensures { result ≡ is_word self.now.value }
     {
         self.fills_word() && matches!(self.resolved.value().order, Order::Little)

@@ -1,6 +1,7 @@
 ghost use Rattle.fm_handle.specs.Learnt.{CanPut, CanExchange, AfterCompareAndSet, AfterExchange, AfterAdd};
 
 use super::VarHandle;
+use super::place::Support;
 use crate::visits::{add_value, exchange_value};
 use crate::word::is_same;
 use fm_base::{Memory, Refusal};
@@ -47,7 +48,7 @@ impl VarHandle {
         requires { CanExchange (M.view m.old) self.now s.now indices.now expected v }
         ensures { AfterExchange (M.view m.old) (M.view m.new) self.now s.now base indices.now expected v result }
     {
-        let place = self.update_place_of(self.can_update(), s, base, indices)?;
+        let place = self.update_place_of(Support::Number, s, base, indices)?;
         let order = self.resolved.value().order;
         exchange_value(rt, m, s.arena(), place, order, expected, v)
     }
@@ -68,7 +69,7 @@ impl VarHandle {
         requires { CanPut (M.view m.old) self.now s.now indices.now delta }
         ensures { AfterAdd (M.view m.old) (M.view m.new) self.now s.now base indices.now delta result }
     {
-        let place = self.update_place_of(self.can_update(), s, base, indices)?;
+        let place = self.update_place_of(Support::Number, s, base, indices)?;
         let order = self.resolved.value().order;
         add_value(rt, m, s.arena(), place, order, delta)
     }

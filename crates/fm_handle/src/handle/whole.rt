@@ -1,6 +1,7 @@
 ghost use Rattle.fm_handle.specs.Learnt.{CanCall, AfterSetLong, AfterExchangeLong, AfterAddLong};
 
 use super::VarHandle;
+use super::place::Support;
 use crate::visits::{add_long, exchange_long, store_long};
 use fm_base::{Memory, Refusal};
 use fm_segment::Segment;
@@ -21,7 +22,7 @@ impl VarHandle {
         requires { CanCall (M.view m.old) self.now s.now indices.now }
         ensures { AfterSetLong (M.view m.old) (M.view m.new) self.now s.now base indices.now v result }
     {
-        let place = self.update_place_of(self.fills_word(), s, base, indices)?;
+        let place = self.update_place_of(Support::Long, s, base, indices)?;
         store_long(m, s.arena(), place, self.resolved.value().order, v)
     }
 
@@ -41,7 +42,7 @@ impl VarHandle {
         requires { CanCall (M.view m.old) self.now s.now indices.now }
         ensures { AfterExchangeLong (M.view m.old) (M.view m.new) self.now s.now base indices.now expected v result }
     {
-        let place = self.update_place_of(self.fills_word(), s, base, indices)?;
+        let place = self.update_place_of(Support::Long, s, base, indices)?;
         let order = self.resolved.value().order;
         exchange_long(m, s.arena(), place, order, expected, v)
     }
@@ -62,7 +63,7 @@ impl VarHandle {
         requires { CanCall (M.view m.old) self.now s.now indices.now }
         ensures { AfterAddLong (M.view m.old) (M.view m.new) self.now s.now base indices.now delta result }
     {
-        let place = self.update_place_of(self.is_word(), s, base, indices)?;
+        let place = self.update_place_of(Support::Word, s, base, indices)?;
         add_long(m, s.arena(), place, delta)
     }
 }

@@ -1,6 +1,6 @@
 ghost use Rattle.std.specs.Prelude.{◌≡◌};
 ghost use Rattle.fm_layout.specs.Parts.{IsValue, form_of};
-ghost use Rattle.fm_segment.specs.Access.{offset_of_index, place_of, writable_place_of};
+ghost use Rattle.fm_segment.specs.Access.{StandsAtIndex, offset_of_index, place_of, writable_place_of};
 ghost use Rattle.fm_segment.specs.Learnt.{CanGet, CanSet, AfterGet, AfterSet, AfterGetIndex, AfterSetIndex};
 
 use super::Segment;
@@ -88,7 +88,8 @@ impl Segment {
     ///
     /// Refused: `Unsupported` where elements can't stand side by side, as the layout's alignment is over its size.
     fn offset_of_index(&self, layout: &Layout, index: u64) -> Result<u64, Refusal>
-        ensures { result ≡ offset_of_index index layout.now self.now }
+        ensures offset { result ≡ offset_of_index index layout.now self.now }
+        ensures stands { StandsAtIndex index layout.now self.now result }
     {
         let size = layout.size();
         if layout.alignment() > size {

@@ -5,15 +5,18 @@ use Rattle.serde_json.specs.View.{view}
 use Rattle.fm_base.specs.declared.refusal.Refusal.TheVariants.{BadJson}
 use Rattle.fm_ljson.specs.Answer.{layout_of_json}
 use Rattle.fm_ljson.specs.Built.{OrMemory}
+use Rattle.fm_ljson.specs.Causes.{IsJsonOf}
 use Rattle.fm_ljson.proofs.Causing.{refused_read, refused_unread}
 use Rattle.fm_ljson.proofs.Reading.{value_read, not_read, not_so}
 use Rattle.fm_ljson.proofs.read.layout_from_json.Goals as goal
 
 pub returns-in-Ok : goal.returns-in-Ok
-returns-in-Ok c = record {
-  read = value_read c.args.bytes.now (view c.in-Ok.value) c.layout_of.result c.in-Ok.ensures.ok c.layout_of.ensures;
-  refused = refused_read c.args.bytes.now (view c.in-Ok.value) c.layout_of.result c.in-Ok.ensures.ok c.layout_of.ensures;
-}
+returns-in-Ok c =
+    let is : IsJsonOf c.args.bytes.now (view c.in-Ok.value) = record { utf8 = c.in-Ok.ensures.ok.0; reading = c.in-Ok.ensures.ok.1 } in
+    record {
+      read = value_read c.args.bytes.now (view c.in-Ok.value) c.layout_of.result is c.layout_of.ensures;
+      refused = refused_read c.args.bytes.now (view c.in-Ok.value) c.layout_of.result is c.layout_of.ensures;
+    }
 
 pub returns-else-is_memory : goal.returns-else-is_memory
 returns-else-is_memory c =

@@ -7,15 +7,18 @@ use Rattle.fm_path.specs.Resolution.{IsResolved, at_step, no_value, no_memory}
 use Rattle.fm_path.proofs.Resolving.{stays_inside, is_resolved}
 use Rattle.fm_path.proofs.resolution.resolve.Goals as goal
 
-pub returns-in-Err-clause-refused : goal.returns-in-Err-clause-refused
-returns-in-Err-clause-refused c = at_step c.in-Err.refusal
+pub returns-in_err-moved-clause-refused : goal.returns-in_err-moved-clause-refused
+returns-in_err-moved-clause-refused c =
+    let p = err_from_is_err_and c.from_residual.result c.from_residual.ensures.1 in
+    rw (p.1, p.2) (at_step c.in_err-moved.field-0.0
     (refused c.args.path.now c.args.layout.now _
-    (on_way_err move _ _ _ _ _ _ c.index-path-k.result c.in-Err.refusal c.loop-k.invariant c.loop-k-test.true c.index-path-k.is c.in-Err.ensures))
+    (on_way_err move _ _ _ _ _ _ c.index-path-k.result c.in_err-moved.field-0.0 c.loop-k.invariant c.loop-k-test.true c.index-path-k.is
+    c.in_err-moved.ensures)))
 
 pub loop-k-preserved : goal.loop-k-preserved
 loop-k-preserved c =
-    on_way_more move _ _ _ _ _ _ c.index-path-k.result (record { by = c.in-Ok.moved.by; dim = c.in-Ok.moved.dim; to = c.in-Ok.moved.to.now }) _ _
-    c.loop-k.invariant c.loop-k-test.true c.index-path-k.is c.in-Ok.ensures (omega (arith, c.saturating_add-offset.ensures)) c.in_ok-add.ensures.ok
+    on_way_more move _ _ _ _ _ _ c.index-path-k.result (record { by = c.in_ok-moved.moved.by; dim = c.in_ok-moved.moved.dim; to = c.in_ok-moved.moved.to.now })
+    _ _ c.loop-k.invariant c.loop-k-test.true c.index-path-k.is c.in_ok-moved.ensures (omega (arith, c.saturating_add-offset.ensures)) c.in_ok-add.ensures.ok
 
 pub of-requires : goal.of-requires
 of-requires c =
@@ -34,5 +37,5 @@ returns-in-None-clause-refused c =
     no_value (record { last = c.loop-k.here.now; ends = leads_end _ _ _ _ _ l; no_value = c.in-None.ensures })
 
 pub returns-in_err-add-clause-refused : goal.returns-in_err-add-clause-refused
-returns-in_err-add-clause-refused c = let p = err_from_is_err_and c.from_residual.result c.from_residual.ensures.1 in
+returns-in_err-add-clause-refused c = let p = err_from_is_err_and c.from_residual-in_err-add.result c.from_residual-in_err-add.ensures.1 in
     rw (p.1, p.2, c.in_err-add.ensures.memory) no_memory

@@ -1,4 +1,4 @@
-use Rattle.std.proofs.Common.{arith, sym, subst, length, drop, ◌+◌, ◌*◌, ◌≤◌, ◌≡◌}
+use Rattle.std.proofs.Common.{arith, sym, subst, drop, ◌*◌}
 use Rattle.std.proofs.lemmas.List.{length-take}
 use Rattle.fm_base.specs.Learnt.{AfterStores}
 use Rattle.fm_base.proofs.Storing.{stores_none, stores_reach, stores_more}
@@ -13,28 +13,26 @@ loop-k-init g c = (stores_none c.args.first c.args.count c.requires.sound c.requ
 
 pub store_words-requires : goal.store_words-requires
 store_words-requires g c =
-    let bytes = c.args.bytes.now in
     let k = c.loop-k.k in
     let n = c.min-more.result in
     let least = c.min-more.ensures in
-    let within : k + n ≤ c.args.count = omega arith in
-    let size : length c.read_u64_into.new.dst ≡ n = (let d = c.read_u64_into.auto.dst in omega (arith, length-take n c.loop-k.words)) in
-    let read = words_read bytes c.read_u64_into.new.dst c.loop-k.words k n size (let whole = c.requires.whole in omega arith) c.read_u64_into.ensures in
-    rw (read, length-words_from n (drop (8 * k) bytes))
-    (stores_reach c.loop-k.invariant.0 k (length-words_from k bytes) c.args.count n c.requires.reach within)
+    let read = words_read c.args.bytes.now c.read_u64_into.new.dst c.loop-k.words k n
+    (let d = c.read_u64_into.auto.dst in omega (arith, length-take n c.loop-k.words))
+    (let whole = c.requires.whole in omega arith) c.read_u64_into.ensures in
+    rw (read, length-words_from n (drop (8 * k) c.args.bytes.now))
+    (stores_reach c.loop-k.invariant.0 k (length-words_from k c.args.bytes.now) c.args.count n c.requires.reach (omega arith))
 
 pub loop-k-preserved : goal.loop-k-preserved
 loop-k-preserved g c =
     let v = g.M.Memory.view in
     let bytes = c.args.bytes.now in
-    let k = c.loop-k.k in
     let n = c.min-more.result in
     let least = c.min-more.ensures in
-    let within : k + n ≤ c.args.count = omega arith in
-    let size : length c.read_u64_into.new.dst ≡ n = (let d = c.read_u64_into.auto.dst in omega (arith, length-take n c.loop-k.words)) in
-    let read = words_read bytes c.read_u64_into.new.dst c.loop-k.words k n size (let whole = c.requires.whole in omega arith) c.read_u64_into.ensures in (
-      subst (λ ws. AfterStores (v c.args.m.now) (v c.store_words.new.self) c.args.first ws) (sym (words_from-append k n bytes))
-          (stores_more c.loop-k.invariant.0 k (length-words_from k bytes) (words_from n (drop (8 * k) bytes))
+    let read = words_read bytes c.read_u64_into.new.dst c.loop-k.words c.loop-k.k n
+    (let d = c.read_u64_into.auto.dst in omega (arith, length-take n c.loop-k.words))
+    (let whole = c.requires.whole in omega arith) c.read_u64_into.ensures in (
+      subst (λ ws. AfterStores (v c.args.m.now) (v c.store_words.new.self) c.args.first ws) (sym (words_from-append c.loop-k.k n bytes))
+          (stores_more c.loop-k.invariant.0 c.loop-k.k (length-words_from c.loop-k.k bytes) (words_from n (drop (8 * c.loop-k.k) bytes))
           (rw read at c.store_words.ensures)),
-      within,
+      omega arith,
     )

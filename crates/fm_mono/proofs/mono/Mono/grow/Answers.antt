@@ -1,30 +1,49 @@
-use Rattle.std.proofs.Common.{arith, ◌∙◌, ap, ◌≡◌, ◌+◌, ◌-◌, ◌≤◌, ◌<◌, ◌++◌, refl, replicate, take, length, vec_len}
+use Rattle.std.proofs.Common.{arith, ◌∙◌, ap, ◌≡◌, ℕ, set, ◌+◌, ◌-◌, ◌≤◌, ◌<◌, ◌++◌, refl, replicate, take, length, vec_len}
 use Rattle.std.specs.Prelude.{vec_capacity}
 use Rattle.std.proofs.lemmas.Result.{err_from_is_err_and}
 use Rattle.fm_base.specs.Arenas.{State, changed}
 use Rattle.fm_base.specs.Calls.{Given}
 use Rattle.fm_base.specs.Machine.{rounded_up, words_within, given_up_to}
 use Rattle.fm_base.proofs.Growing.{power_pos}
-use Rattle.fm_mono.specs.Shown.{shown_all}
+use Rattle.fm_mono.specs.Shown.{shown_all, IsSoundMono}
 use Rattle.fm_mono.proofs.Inside.{entered_of, inside_of-set}
-use Rattle.fm_mono.proofs.Steps.{IsPlaced, placed}
-use Rattle.fm_mono.proofs.Allotting.{IsRead, is_read, no_room, gives_place, grows, unchanged, same_shown, allotted_shown, wants_words, is_grown}
+use Rattle.fm_mono.proofs.Allotting.{IsRead, placed_for, read_for, no_room, gives_place, grows, unchanged, same_shown, allotted_shown, wants_words, is_grown}
 use Rattle.fm_mono.proofs.mono.Mono.grow.Goals as goal
-use Rattle.fm_mono.proofs.mono.Mono.grow.Goals.{After-struct_known-1, After-index_mut-arena}
-
-found : (c : After-struct_known-1) → IsPlaced c.self.inside.limit (entered_of c.self.inside) c.self.inside.arenas.items c.args.id
-found c = let r = rw (← c.self.view_is) at c.requires in
-    placed c.self.inside.limit (entered_of c.self.inside) c.self.inside.arenas.items c.args.id c.self.invariant.arenas.names r.known
+use Rattle.fm_mono.proofs.mono.Mono.grow.Goals.{After-index_mut-arena, In_ok-resize}
 
 here : (c : After-index_mut-arena) → IsRead c.self.inside.limit (entered_of c.self.inside) c.self.inside.arenas.items c.args.id c.index_mut-arena.result.now
 here c =
+    read_for c.self.inside c.self.invariant c.self.view_is c.requires.known c.index_mut-arena.result.now c.index_mut-arena.ensures.value c.requires.alive
+
+-- the arenas once the words are resized
+allotted : (c : In_ok-resize)
+    → let f = c.self.inside in
+    let end : ℕ = c.rounded-place.result + c.from.result in
+    let arenas = set f.arenas.items c.args.id.slot (record c.index_mut-arena.result.now { words = c.resize.new.self; given = end }) in
+    (shown_all f.limit (entered_of f) arenas ≡ changed (shown_all f.limit (entered_of f) f.arenas.items) c.args.id (given_up_to end))
+    × IsSoundMono f.limit (entered_of f) arenas
+allotted c =
+    let f = c.self.inside in
+    let h =
+    read_for c.self.inside c.self.invariant c.self.view_is c.requires.known c.index_mut-arena.result.now c.index_mut-arena.ensures.value c.requires.alive in
+    let o = c.index_mut-arena.result.now in
+    let end = c.rounded-place.result + c.from.result in
+    let fits : end ≤ f.limit = omega (arith, c.if-end-from.false, c.from-2.ensures) in
     let r = rw (← c.self.view_is) at c.requires in
-    is_read c.self.inside.limit (entered_of c.self.inside) c.self.inside.arenas.items c.args.id c.index_mut-arena.result.now
-    (placed c.self.inside.limit (entered_of c.self.inside) c.self.inside.arenas.items c.args.id c.self.invariant.arenas.names r.known)
-    c.index_mut-arena.ensures.value r.alive
+    let more : length o.words.items ≤ words_within end =
+    rw (c.rounded-place.ensures, c.from.ensures)
+    (grows f.limit (entered_of f) f.arenas.items c.args.id o c.self.invariant.arenas h c.args.size c.args.align (power_pos c.args.align r.power)) in
+    let len : vec_len o.words ≡ length o.words.items = omega (arith, o.words.ok.0) in
+    let grown = is_grown o.words.items c.resize.new.self.items (words_within end) more (c.in_ok-resize.ensures.items
+    ∙ ap (λ l. take (words_within end) o.words.items ++ replicate (words_within end - l) 0) len) in
+    allotted_shown f.limit (entered_of f) f.arenas.items c.args.id o c.self.invariant.arenas h end (record o {
+      words = c.resize.new.self;
+      given = end;
+    }) fits refl refl refl more grown
 
 pub index_mut-arena-requires : goal.index_mut-arena-requires
-index_mut-arena-requires c = omega (arith, (found c).in_range, c.self.inside.arenas.ok.0)
+index_mut-arena-requires c =
+    omega (arith, (placed_for c.self.inside c.self.invariant c.self.view_is c.requires.known).in_range, c.self.inside.arenas.ok.0)
 
 pub returns-then-end-from-clause-got : goal.returns-then-end-from-clause-got
 returns-then-end-from-clause-got c =
@@ -71,20 +90,9 @@ invariant_of-self-2 c =
     let f = c.self.inside in
     let h = here (goal.at.invariant_of-self-2 c).After-index_mut-arena in
     let o = c.index_mut-arena.result.now in
-    let end = c.rounded-place.result + c.from.result in
-    let fits : end ≤ f.limit = omega (arith, c.if-end-from.false, c.from-2.ensures) in
-    let r = rw (← c.self.view_is) at c.requires in
-    let more : length o.words.items ≤ words_within end =
-    rw (c.rounded-place.ensures, c.from.ensures)
-    (grows f.limit (entered_of f) f.arenas.items c.args.id o c.self.invariant.arenas h c.args.size c.args.align (power_pos c.args.align r.power)) in
-    let len : vec_len o.words ≡ length o.words.items = omega (arith, o.words.ok.0) in
-    let grown = is_grown o.words.items c.resize.new.self.items (words_within end) more (c.in_ok-resize.ensures.items
-    ∙ ap (λ l. take (words_within end) o.words.items ++ replicate (words_within end - l) 0) len) in
-    rw (inside_of-set f.is_inside f.current c.args.id.slot f.arenas.items o (record o { words = c.resize.new.self; given = end }) h.place refl) (record {
-      arenas = (allotted_shown f.limit (entered_of f) f.arenas.items c.args.id o c.self.invariant.arenas h end (record o {
-        words = c.resize.new.self;
-        given = end;
-      }) fits refl refl refl more grown).1;
+    rw (inside_of-set f.is_inside f.current c.args.id.slot f.arenas.items o
+    (record o { words = c.resize.new.self; given = c.rounded-place.result + c.from.result }) h.place refl) (record {
+      arenas = (allotted (goal.at.invariant_of-self-2 c).In_ok-resize).1;
       place = c.self.invariant.place;
     })
 
@@ -94,19 +102,9 @@ returns-clause-got c =
     let h = here (goal.at.returns-clause-got c).After-index_mut-arena in
     let o = c.index_mut-arena.result.now in
     let end = c.rounded-place.result + c.from.result in
-    let fits : end ≤ f.limit = omega (arith, c.if-end-from.false, c.from-2.ensures) in
-    let r = rw (← c.self.view_is) at c.requires in
-    let more : length o.words.items ≤ words_within end =
-    rw (c.rounded-place.ensures, c.from.ensures)
-    (grows f.limit (entered_of f) f.arenas.items c.args.id o c.self.invariant.arenas h c.args.size c.args.align (power_pos c.args.align r.power)) in
-    let len : vec_len o.words ≡ length o.words.items = omega (arith, o.words.ok.0) in
-    let grown = is_grown o.words.items c.resize.new.self.items (words_within end) more (c.in_ok-resize.ensures.items
-    ∙ ap (λ l. take (words_within end) o.words.items ++ replicate (words_within end - l) 0) len) in
-    let e = allotted_shown f.limit (entered_of f) f.arenas.items c.args.id o c.self.invariant.arenas h end (record o {
-      words = c.resize.new.self;
-      given = end;
-    }) fits refl refl refl more grown in
-    let room : rounded_up o.given c.args.align + c.args.size ≤ f.limit = omega (arith, fits, c.from.ensures, c.rounded-place.ensures) in
+    let e = allotted (goal.at.returns-clause-got c).In_ok-resize in
+    let room : rounded_up o.given c.args.align + c.args.size ≤ f.limit =
+    omega (arith, c.if-end-from.false, c.from-2.ensures, c.from.ensures, c.rounded-place.ensures) in
     let same : end ≡ c.rounded-place.result + c.args.size = omega (arith, c.from.ensures) in
     rw (
       ← c.self.view_is,

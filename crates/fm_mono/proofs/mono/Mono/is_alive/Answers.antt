@@ -2,27 +2,22 @@ use Rattle.std.proofs.Common.{arith, ap}
 use Rattle.fm_base.specs.Arenas.{Arena}
 use Rattle.fm_mono.proofs.Inside.{entered_of}
 use Rattle.fm_mono.proofs.Showing.{nobody}
-use Rattle.fm_mono.proofs.Steps.{IsPlaced, placed, placed_read, nobody_shown}
+use Rattle.fm_mono.proofs.Allotting.{placed_for}
+use Rattle.fm_mono.proofs.Steps.{placed_read, nobody_shown}
 use Rattle.fm_mono.proofs.mono.Mono.is_alive.Goals as goal
-use Rattle.fm_mono.proofs.mono.Mono.is_alive.Goals.{After-struct_known-1}
-
-here : (c : After-struct_known-1) → IsPlaced c.self.inside.limit (entered_of c.self.inside) c.self.inside.arenas.items c.args.id
-here c =
-    let r = rw (← c.self.view_is) at c.requires in
-    placed c.self.inside.limit (entered_of c.self.inside) c.self.inside.arenas.items c.args.id c.self.invariant.arenas.names r.known
 
 pub index-requires : goal.index-requires
-index-requires c = omega (arith, (here c).in_range, c.self.inside.arenas.ok.0)
+index-requires c = omega (arith, (placed_for c.self.inside c.self.invariant c.self.view_is c.requires.known).in_range, c.self.inside.arenas.ok.0)
 
 pub returns-clause-life : goal.returns-clause-life
 returns-clause-life c =
-    let p = here (goal.at.returns-clause-life c).After-struct_known-1 in
+    let p = placed_for c.self.inside c.self.invariant c.self.view_is c.requires.known in
     let same = placed_read c.self.inside.arenas.items c.args.id.slot p.arena c.index.result.now p.place c.index.ensures in
     rw (← c.self.view_is, ← same) (ap (λ (x : Arena). x.life) p.looked)
 
 pub returns-clause-can : goal.returns-clause-can
 returns-clause-can c =
-    let p = here (goal.at.returns-clause-can c).After-struct_known-1 in
+    let p = placed_for c.self.inside c.self.invariant c.self.view_is c.requires.known in
     let r = rw (← c.self.view_is) at c.requires in
     let f = c.self.inside in
     rw (← c.self.view_is) (record {

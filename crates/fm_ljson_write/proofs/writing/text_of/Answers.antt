@@ -1,0 +1,30 @@
+use Rattle.std.proofs.Common.{◌∙◌, ◌≡◌, ◌≤◌, ap, false, arith, inl, inr}
+use Rattle.std.proofs.lemmas.Str.{is_utf8-from_IsUtf8}
+use Rattle.serde_json.specs.Data.{depth}
+use Rattle.serde_json.specs.Read.{max_depth}
+use Rattle.serde_json.specs.View.{view}
+use Rattle.serde_json.specs.Written.{has_float}
+use Rattle.fm_ljson_write.proofs.Again.{stands_again}
+use Rattle.fm_ljson_write.proofs.Deep.{document_depth, json_depth}
+use Rattle.fm_ljson_write.proofs.Floats.{no_float, no_float_document}
+use Rattle.fm_ljson_write.proofs.writing.text_of.Goals as goal
+
+pub returns-in-Ok-clause-text : goal.returns-in-Ok-clause-text
+returns-in-Ok-clause-text c =
+    let t = c.args.layout.now in
+    let plain : has_float (view c.args.json.now) ≡ false = elim c.requires [
+      | inl is ↦ ap has_float is ∙ no_float t
+      | inr is ↦ ap has_float is ∙ no_float_document t
+    ] in
+    c.in-Ok.ensures.text plain
+
+pub returns-in-Ok-clause-reads_back : goal.returns-in-Ok-clause-reads_back
+returns-in-Ok-clause-reads_back c = λ within.
+    let t = c.args.layout.now in
+    let known = c.size-size.ensures in
+    let shallow : depth (view c.args.json.now) ≤ max_depth = elim c.requires [
+      | inl is ↦ omega (arith, ap depth is, json_depth t, within.levels)
+      | inr is ↦ omega (arith, ap depth is, document_depth t, within.levels)
+    ] in
+    stands_again t c.in-Ok.bytes.items known.well_formed known.named within (is_utf8-from_IsUtf8 c.in-Ok.bytes.items c.in-Ok.ensures.utf8)
+    c.requires (c.in-Ok.ensures.reads_back shallow)
