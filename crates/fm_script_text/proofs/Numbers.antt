@@ -57,18 +57,22 @@ named_literal kind z word small spelled =
     rw (value, same) refl
 
 -- the numbers of a kind have 64 bits
-fits : (kind : ValueKind) → (above kind ≤ 2 ^ 63) × (below kind ≤ 2 ^ 63)
-fits Byte = (omega arith, omega arith)
-fits Boolean = (omega arith, omega arith)
-fits Char = (omega arith, omega arith)
-fits Short = (omega arith, omega arith)
-fits Int = (omega arith, omega arith)
-fits Long = (omega arith, omega arith)
+record Fits (kind : ValueKind) : Type 0 where
+  upwards : above kind ≤ 2 ^ 63
+  downwards : below kind ≤ 2 ^ 63
 
--- a number of a kind has 64 bits
+fits : (kind : ValueKind) → Fits kind
+fits Byte = record { upwards = omega arith; downwards = omega arith }
+fits Boolean = record { upwards = omega arith; downwards = omega arith }
+fits Char = record { upwards = omega arith; downwards = omega arith }
+fits Short = record { upwards = omega arith; downwards = omega arith }
+fits Int = record { upwards = omega arith; downwards = omega arith }
+fits Long = record { upwards = omega arith; downwards = omega arith }
+
+-- so has each of them
 pub kind_is_small : (kind : ValueKind) (z : ℤ) → is_of_kind kind z ≡ true → mag z < 2 ^ 63
-kind_is_small kind (pos n) t = let h = ltb-true _ _ t in let f = (fits kind).0 in omega (arith, h, f)
-kind_is_small kind (negsuc n) t = let h = ltb-true _ _ t in let f = (fits kind).1 in omega (arith, h, f)
+kind_is_small kind (pos n) t = let h = ltb-true _ _ t in let f = (fits kind).upwards in omega (arith, h, f)
+kind_is_small kind (negsuc n) t = let h = ltb-true _ _ t in let f = (fits kind).downwards in omega (arith, h, f)
 
 -- ---- as the machine holds them
 

@@ -127,20 +127,19 @@ named_kind kind.Shared = refl
 pub kind_is : (word : List ℕ) (k : Kind) → arena_kind_named word ≡ Some k → word ≡ arena_kind_text k
 kind_is word k e = find_is arena_kind_text word (kind.Global ∷ kind.Automatic ∷ kind.Confined ∷ kind.Shared ∷ []) k e
 
+-- what holds in both orders holds in each
+both : (P : Order → Type 0) → P Little → P Big → (o : Order) → P o
+both P little big Little = little
+both P little big Big = big
+
 -- what holds of each type in their list holds of each kind in both orders
 pub every_type : (P : ValueKind × Order → Type 0) → AllByRecursion P types → (k : ValueKind) (o : Order) → P (k, o)
-every_type P h Byte Little = h.0
-every_type P h Byte Big = h.1.0
-every_type P h Boolean Little = h.1.1.0
-every_type P h Boolean Big = h.1.1.1.0
-every_type P h Char Little = h.1.1.1.1.0
-every_type P h Char Big = h.1.1.1.1.1.0
-every_type P h Short Little = h.1.1.1.1.1.1.0
-every_type P h Short Big = h.1.1.1.1.1.1.1.0
-every_type P h Int Little = h.1.1.1.1.1.1.1.1.0
-every_type P h Int Big = h.1.1.1.1.1.1.1.1.1.0
-every_type P h Long Little = h.1.1.1.1.1.1.1.1.1.1.0
-every_type P h Long Big = h.1.1.1.1.1.1.1.1.1.1.1.0
+every_type P h Byte = both (λ o. P (Byte, o)) h.0 h.1.0
+every_type P h Boolean = both (λ o. P (Boolean, o)) h.1.1.0 h.1.1.1.0
+every_type P h Char = both (λ o. P (Char, o)) h.1.1.1.1.0 h.1.1.1.1.1.0
+every_type P h Short = both (λ o. P (Short, o)) h.1.1.1.1.1.1.0 h.1.1.1.1.1.1.1.0
+every_type P h Int = both (λ o. P (Int, o)) h.1.1.1.1.1.1.1.1.0 h.1.1.1.1.1.1.1.1.1.0
+every_type P h Long = both (λ o. P (Long, o)) h.1.1.1.1.1.1.1.1.1.1.0 h.1.1.1.1.1.1.1.1.1.1.1.0
 
 -- a type is read as itself
 pub named_type : (k : ValueKind) (o : Order) → type_named (type_text k o) ≡ Some (k, o)
