@@ -12,9 +12,7 @@ use Rattle.std.proofs.lemmas.Fmt.{decimal_is_IsNumeral}
 use Rattle.std.proofs.lemmas.Option.{same_Some, option_and_then_some}
 use Rattle.fm_base.specs.declared.kind.Kind.{Kind}
 use Rattle.fm_lanes.specs.declared.order.Order.{Order}
-use Rattle.fm_lanes.specs.declared.order.Order.TheVariants.{Little, Big}
 use Rattle.fm_lanes.specs.declared.value_kind.ValueKind.{ValueKind}
-use Rattle.fm_lanes.specs.declared.value_kind.ValueKind.TheVariants.{Byte, Boolean, Char, Short, Int, Long}
 use Rattle.fm_layout.specs.Name.{IsName, IsNameEnd, is_letter, is_digit}
 use Rattle.fm_script_text.proofs.Cuts.{IsFree, cut_behind, cut_gives, row3, row4, row5, cut3_row, cut4_row, cut5_row, cut3_gives, cut4_gives, cut5_gives}
 use Rattle.fm_script_text.proofs.Spelling.{named_name, name_is, named_up_to, number_is, named_value, value_is, named_kind, kind_is, every_type, named_type, type_is}

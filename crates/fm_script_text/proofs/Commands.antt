@@ -1,6 +1,5 @@
 -- A line is read as what it says, and says what it is read as.
 use Rattle.std.proofs.Common.{◌≡◌, refl, sym, ap, subst, ◌∙◌, ℕ, true, false, Option, Some, None, List, [], ◌∷◌, not, eqb, if◌then◌else◌, arith, codes}
-use Rattle.std.specs.Fmt.{decimal, signed_decimal}
 use Rattle.std.specs.List.{list_all}
 use Rattle.std.specs.Option.{option_zip, option_map, option_and_then}
 use Rattle.std.specs.Str.{bytes_eq}
@@ -16,8 +15,8 @@ use Rattle.fm_script_text.specs.declared.who.Who.{Who}
 use Rattle.fm_script_text.specs.declared.who.Who.TheVariants.{First, Worker, Last}
 use Rattle.fm_script_text.specs.declared.line.Line.{Line}
 use Rattle.fm_script_text.specs.Rules.{IsAdmitted}
-use Rattle.fm_script_text.specs.Reader.{name_named, who_named, cut3, opening, two, filled, sized, got, valued, swapped, command_named, line_named}
-use Rattle.fm_script_text.specs.Syntax.{Says, who_text, words_of, spaced, arena_kind_text, type_text, IsWho, IsSpelled}
+use Rattle.fm_script_text.specs.Reader.{who_named, cut3, command_named, line_named}
+use Rattle.fm_script_text.specs.Syntax.{Says, who_text, words_of, spaced, IsWho, IsSpelled}
 
 -- the verb and the arguments are the command's
 pub record Spells (verb args : List ℕ) (c : Command) : Type 0 where

@@ -1,17 +1,15 @@
 -- Words that spell numbers.
-use Rattle.std.proofs.Common.{◌≡◌, refl, sym, ap, subst, ◌∙◌, ℕ, ◌<◌, ◌≤◌, ◌^◌, suc, Bool, true, false, if◌then◌else◌, nat_le, eqb, Option, Some, None, Result, Ok, Err, List, [], ◌∷◌, arith, w64}
+use Rattle.std.proofs.Common.{◌≡◌, refl, sym, ap, subst, ◌∙◌, ℕ, ◌<◌, ◌≤◌, ◌^◌, suc, true, false, if◌then◌else◌, nat_le, eqb, Option, Some, None, List, [], ◌∷◌, arith, w64}
 use Rattle.std.specs.Prelude.{ℤ, pos, negsuc, neg_ℤ}
 use Rattle.std.specs.Fmt.{decimal, signed_decimal}
 use Rattle.std.specs.Int.Signed.{mag}
 use Rattle.std.specs.Char.{digit_value}
 use Rattle.std.specs.Str.{bytes_eq}
-use Rattle.std.specs.Str.Parse.{ParsesUnsigned, ParsesSigned, IsNumeral, digits_value}
+use Rattle.std.specs.Str.Parse.{IsNumeral, digits_value}
 use Rattle.std.proofs.lemmas.Bool.{cond_both, eqb-true, ltb-true}
-use Rattle.std.proofs.lemmas.Bool.Decides.{not_from_Decides}
-use Rattle.std.proofs.lemmas.Fmt.{parse-decimal, parse-signed_decimal, decimal_is_IsNumeral}
+use Rattle.std.proofs.lemmas.Fmt.{decimal_is_IsNumeral}
 use Rattle.std.proofs.lemmas.Int.{ints, to_z-of_z}
 use mir.Val.{to_z, of_z}
-use Rattle.std.specs.Int.RustNames.{FitsSigned}
 use Rattle.std.proofs.lemmas.Slice.Eq.{bytes_eq-Decides}
 use Rattle.fm_lanes.specs.declared.value_kind.ValueKind.{ValueKind}
 use Rattle.fm_lanes.specs.declared.value_kind.ValueKind.TheVariants.{Byte, Boolean, Char, Short, Int, Long}

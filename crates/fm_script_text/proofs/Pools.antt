@@ -1,5 +1,5 @@
 -- The pool's line is read as the shape that it says, and says what it is read as.
-use Rattle.std.proofs.Common.{◌≡◌, refl, sym, ap, subst, ◌∙◌, ℕ, ◌*◌, ◌<◌, ◌≤◌, if◌then◌else◌, Option, Some, None, List, ◌∷◌, ◌++◌, arith, lit<, rules, codes}
+use Rattle.std.proofs.Common.{◌≡◌, refl, sym, ap, subst, ◌∙◌, ℕ, ◌*◌, ◌<◌, ◌≤◌, if◌then◌else◌, Option, Some, None, List, ◌∷◌, ◌++◌, arith, lit<, codes}
 use Rattle.std.specs.Fmt.{decimal}
 use Rattle.std.specs.Option.{option_zip, option_and_then}
 use Rattle.std.specs.Str.{bytes_eq}
