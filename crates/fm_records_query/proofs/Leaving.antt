@@ -67,7 +67,7 @@ marks_leaves is cs OfCondition d p b (Some ps) e at live =
 pub leaves : (is : List ItemSyntax) (cs : List ConditionSyntax) (s : Stage) (b : ℕ) → IsCounted is cs s → IsLive s
     → Leaves is cs s b (next (length is) (length cs) s b)
 leaves is cs Start b at live = starts_leaves is cs b at
-leaves is cs (Spelling w n) b at live = spells_leaves is cs w n b at live
+leaves is cs (Spelling w n) b at live = spells_leaves is cs at w n b live
 leaves is cs (InPath r d p) b at live =
     cond_both (is_mark b) (marks r b (path.whole d p)) (goes r (path.onward (Some (path.spot d p)) b)) (Leaves is cs (InPath r d p) b)
     (λ _. marks_leaves is cs r d p b (path.whole d p) refl at live)

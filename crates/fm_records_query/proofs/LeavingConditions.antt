@@ -39,34 +39,33 @@ equal_leaves is cs p o b at h e = tt
 digit_text : (b : ℕ) → is_digit b ≡ true → b ∷ [] ≡ decimal (b - 48)
 digit_text b h = let d = digit_is b h in ap (λ x. x ∷ []) d.0 ∙ sym (decimal_digit (b - 48) d.1)
 
--- a byte behind an operator
-pub compares_leaves : (is : List ItemSyntax) (cs : List ConditionSyntax) (p : List PathStep) (o : Operator) (b : ℕ) → IsAtCondition is cs 1 → IsPath p
-    → Leaves is cs (Compare p o) b (compares p o b)
-compares_leaves is cs p o b at h =
-    cond_both (nat_eq b 61) _ _ (Leaves is cs (Compare p o) b) (λ e. equal_leaves is cs p o b at h (eqb-true b 61 e)) (λ _.
-    cond_both (nat_eq b 45) _ _ (Leaves is cs (Compare p o) b) (λ e.
-    (refl, simp (append_assoc, eqb-true b 45 e), at, h)) (λ _.
-    cond_both (is_digit b) _ _ (Leaves is cs (Compare p o) b) (λ e. (
-      refl,
-      simp (append_assoc, append-nil, digit_text b e),
-      (at, λ lt. absurd (omega arith)),
-      (h, omega (arith, (digit_is b e).1), omega arith),
-    )) (λ _. tt)))
+module _ (is : List ItemSyntax) (cs : List ConditionSyntax) (p : List PathStep) (o : Operator) (b : ℕ) (at : IsAtCondition is cs 1) (h : IsPath p) where
+  -- a byte behind an operator
+  pub compares_leaves : Leaves is cs (Compare p o) b (compares p o b)
+  compares_leaves =
+      cond_both (nat_eq b 61) _ _ (Leaves is cs (Compare p o) b) (λ e. equal_leaves is cs p o b at h (eqb-true b 61 e)) (λ _.
+      cond_both (nat_eq b 45) _ _ (Leaves is cs (Compare p o) b) (λ e.
+      (refl, simp (append_assoc, eqb-true b 45 e), at, h)) (λ _.
+      cond_both (is_digit b) _ _ (Leaves is cs (Compare p o) b) (λ e. (
+        refl,
+        simp (append_assoc, append-nil, digit_text b e),
+        (at, λ lt. absurd (omega arith)),
+        (h, omega (arith, (digit_is b e).1), omega arith),
+      )) (λ _. tt)))
 
--- a byte behind a minus
-pub negates_leaves : (is : List ItemSyntax) (cs : List ConditionSyntax) (p : List PathStep) (o : Operator) (b : ℕ) → IsAtCondition is cs 1 → IsPath p
-    → Leaves is cs (Minus p o) b (negates p o b)
-negates_leaves is cs p o b at h = cond_both (is_digit b && not (nat_eq b 48)) _ _ (Leaves is cs (Minus p o) b) (λ e.
-    let q = and_parts (is_digit b) (not (nat_eq b 48)) e in
-    let gt = above b q.0 q.1 in (
-      refl,
-      simp (append_assoc, append-nil, digit_text b q.0, minus_text (b - 48) gt),
-      (at, λ lt. absurd (omega arith)),
-      (h, (gt, omega (arith, (digit_is b q.0).1)), omega arith),
-    )) (λ _. tt)
-  where
-    above : (b : ℕ) → is_digit b ≡ true → not (nat_eq b 48) ≡ true → 0 < b - 48
-    above b h g = grind (arith, nat_tests)
+  -- a byte behind a minus
+  pub negates_leaves : Leaves is cs (Minus p o) b (negates p o b)
+  negates_leaves = cond_both (is_digit b && not (nat_eq b 48)) _ _ (Leaves is cs (Minus p o) b) (λ e.
+      let q = and_parts (is_digit b) (not (nat_eq b 48)) e in
+      let gt = above b q.0 q.1 in (
+        refl,
+        simp (append_assoc, append-nil, digit_text b q.0, minus_text (b - 48) gt),
+        (at, λ lt. absurd (omega arith)),
+        (h, (gt, omega (arith, (digit_is b q.0).1)), omega arith),
+      )) (λ _. tt)
+    where
+      above : (b : ℕ) → is_digit b ≡ true → not (nat_eq b 48) ≡ true → 0 < b - 48
+      above b h g = grind (arith, nat_tests)
 
 -- a condition with one more byte of its number
 grown : (p : List PathStep) (o : Operator) (xs ys : List ℕ) (b : ℕ) → xs ++ b ∷ [] ≡ ys

@@ -25,35 +25,35 @@ starts_leaves is cs b at =
     cond_both (nat_eq b 109) _ _ (Leaves is cs Start b) (λ h. (refl, ap (λ x. x ∷ []) (eqb-true b 109 h), at, omega arith)) (λ _.
     cond_both (nat_eq b 108) _ _ (Leaves is cs Start b) (λ h. (refl, ap (λ x. x ∷ []) (eqb-true b 108 h), at, omega arith)) (λ _. tt))))
 
--- a byte of a word
-spelled_leaves : (is : List ItemSyntax) (cs : List ConditionSyntax) (w : Word) (n b : ℕ) → IsAtItem is cs → n < length (word_text w)
-    → nat_eq (get_or (word_text w) n 0) b ≡ true → Leaves is cs (Spelling w n) b (Stay (spelled w (n + 1)))
-spelled_leaves is cs Counting n b at lt h =
-    cond_both (nat_eq (n + 1) 5) (Behind Count 0) (Spelling Counting (n + 1)) (λ t. Leaves is cs (Spelling Counting n) b (Stay t))
-    (λ e. (refl, whole_take (codes "count") n b lt h (eqb-true (n + 1) 5 e), at, (tt, omega arith)))
-    (λ e. (refl, longer_take (codes "count") n b lt h, at, below (n + 1) 5 (omega arith) e))
-spelled_leaves is cs (Folding f) n b at lt h =
-    cond_both (nat_eq (n + 1) (length (word_text (Folding f)))) (InPath (OfItem f) [] Between) (Spelling (Folding f) (n + 1))
-    (λ t. Leaves is cs (Spelling (Folding f) n) b (Stay t))
-    (λ e. (refl, whole_take (word_text (Folding f)) n b lt h (eqb-true (n + 1) _ e) ∙ sym (append-nil (word_text (Folding f))), at, refl))
-    (λ e. (refl, longer_take (word_text (Folding f)) n b lt h, at, below (n + 1) (length (word_text (Folding f))) (omega arith) e))
+module _ (is : List ItemSyntax) (cs : List ConditionSyntax) (at : IsAtItem is cs) where
+  -- a byte of a word
+  spelled_leaves : (w : Word) (n b : ℕ) → n < length (word_text w) → nat_eq (get_or (word_text w) n 0) b ≡ true
+      → Leaves is cs (Spelling w n) b (Stay (spelled w (n + 1)))
+  spelled_leaves Counting n b lt h =
+      cond_both (nat_eq (n + 1) 5) (Behind Count 0) (Spelling Counting (n + 1)) (λ t. Leaves is cs (Spelling Counting n) b (Stay t))
+      (λ e. (refl, whole_take (codes "count") n b lt h (eqb-true (n + 1) 5 e), at, (tt, omega arith)))
+      (λ e. (refl, longer_take (codes "count") n b lt h, at, below (n + 1) 5 (omega arith) e))
+  spelled_leaves (Folding f) n b lt h =
+      cond_both (nat_eq (n + 1) (length (word_text (Folding f)))) (InPath (OfItem f) [] Between) (Spelling (Folding f) (n + 1))
+      (λ t. Leaves is cs (Spelling (Folding f) n) b (Stay t))
+      (λ e. (refl, whole_take (word_text (Folding f)) n b lt h (eqb-true (n + 1) _ e) ∙ sym (append-nil (word_text (Folding f))), at, refl))
+      (λ e. (refl, longer_take (word_text (Folding f)) n b lt h, at, below (n + 1) (length (word_text (Folding f))) (omega arith) e))
 
--- a byte of the other word that begins so
-turns_leaves : (is : List ItemSyntax) (cs : List ConditionSyntax) (w : Word) (n b : ℕ) → IsAtItem is cs → Leaves is cs (Spelling w n) b (turns w n b)
-turns_leaves is cs (Folding Least) n b at =
-    cond_both (nat_eq n 1 && nat_eq b 97) _ _ (Leaves is cs (Spelling (Folding Least) n) b)
-    (λ h.
-    let q = and_parts (nat_eq n 1) (nat_eq b 97) h in
-    (refl, ap (λ k. take k (codes "min(") ++ b ∷ []) (eqb-true n 1 q.0) ∙ ap (λ x. 109 ∷ x ∷ []) (eqb-true b 97 q.1), at, omega arith))
-    (λ _. tt)
-turns_leaves is cs w n b at = tt
+  -- a byte of the other word that begins so
+  turns_leaves : (w : Word) (n b : ℕ) → Leaves is cs (Spelling w n) b (turns w n b)
+  turns_leaves (Folding Least) n b =
+      cond_both (nat_eq n 1 && nat_eq b 97) _ _ (Leaves is cs (Spelling (Folding Least) n) b)
+      (λ h.
+      let q = and_parts (nat_eq n 1) (nat_eq b 97) h in
+      (refl, ap (λ k. take k (codes "min(") ++ b ∷ []) (eqb-true n 1 q.0) ∙ ap (λ x. 109 ∷ x ∷ []) (eqb-true b 97 q.1), at, omega arith))
+      (λ _. tt)
+  turns_leaves w n b = tt
 
--- a byte of an item's word
-pub spells_leaves : (is : List ItemSyntax) (cs : List ConditionSyntax) (w : Word) (n b : ℕ) → IsAtItem is cs → n < length (word_text w)
-    → Leaves is cs (Spelling w n) b (spells w n b)
-spells_leaves is cs w n b at lt =
-    cond_both (nat_eq (get_or (word_text w) n 0) b) (Stay (spelled w (n + 1))) (turns w n b) (Leaves is cs (Spelling w n) b)
-    (λ h. spelled_leaves is cs w n b at lt h) (λ _. turns_leaves is cs w n b at)
+  -- a byte of an item's word
+  pub spells_leaves : (w : Word) (n b : ℕ) → n < length (word_text w) → Leaves is cs (Spelling w n) b (spells w n b)
+  spells_leaves w n b lt =
+      cond_both (nat_eq (get_or (word_text w) n 0) b) (Stay (spelled w (n + 1))) (turns w n b) (Leaves is cs (Spelling w n) b)
+      (λ h. spelled_leaves w n b lt h) (λ _. turns_leaves w n b)
 
 -- a byte behind a whole item
 pub behind_leaves : (is : List ItemSyntax) (cs : List ConditionSyntax) (i : ItemSyntax) (n b : ℕ) → IsAtItem is cs → IsItem i → n < 7

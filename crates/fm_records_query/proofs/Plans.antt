@@ -43,19 +43,18 @@ pub zip_more : {A B : Type 0} (R : A → B → Type 0) (xs : List A) (ys more : 
     → x ≡ get_or xs k x → R x y → more ≡ ys ++ y ∷ [] → AllZip R (take (k + 1) xs) more
 zip_more R xs ys more k x y h lt is r longer = rw (longer, take_more xs k x lt, ← is) (zip_push R (take k xs) ys x y h r)
 
--- the first that is refused, behind k that are admitted
-pub refused_at : {A B : Type 0} (R : A → B → Type 0) (Refuses : A → Refusal → Type 0) (xs : List A) (ys : List B) (k : ℕ) (x : A) (e : Refusal)
-    → AllZip R (take k xs) ys → k < length xs → x ≡ get_or xs k x → Refuses x e → IsFirstRefused (λ x. (y : B) × R x y) Refuses xs e
-refused_at R Refuses [] ys k x e h lt is r = absurd (omega arith)
-refused_at R Refuses (z ∷ xs) ys zero x e h lt is r = inl (subst (λ z. Refuses z e) is r)
-refused_at R Refuses (z ∷ xs) [] (suc k) x e h lt is r = absurd h
-refused_at R Refuses (z ∷ xs) (y ∷ ys) (suc k) x e h lt is r = inr ((y, h.0), refused_at R Refuses xs ys k x e h.1 (omega arith) is r)
-
--- the same, where memory may have run out
+-- the first that is refused, behind k that are admitted, where memory may have run out
 pub refused_or : {A B : Type 0} (R : A → B → Type 0) (Refuses : A → Refusal → Type 0) (xs : List A) (ys : List B) (k : ℕ) (x : A) (e : Refusal)
     → AllZip R (take k xs) ys → k < length xs → x ≡ get_or xs k x → OrMemory (Refuses x) e → OrMemory (IsFirstRefused (λ x. (y : B) × R x y) Refuses xs) e
-refused_or R Refuses xs ys k x e h lt is (inl r) = inl (refused_at R Refuses xs ys k x e h lt is r)
 refused_or R Refuses xs ys k x e h lt is (inr m) = inr m
+refused_or {A} {B} R Refuses xs ys k x e h lt is (inl r) = inl (first xs ys k h lt is)
+  where
+    first : (xs : List A) (ys : List B) (k : ℕ) → AllZip R (take k xs) ys → k < length xs → x ≡ get_or xs k x
+        → IsFirstRefused (λ x. (y : B) × R x y) Refuses xs e
+    first [] ys k h lt is = absurd (omega arith)
+    first (z ∷ xs) ys zero h lt is = inl (subst (λ z. Refuses z e) is r)
+    first (z ∷ xs) [] (suc k) h lt is = absurd h
+    first (z ∷ xs) (y ∷ ys) (suc k) h lt is = inr ((y, h.0), first xs ys k h.1 (omega arith) is)
 
 -- what each comes to is admitted
 pub all_admitted : {A B : Type 0} (R : A → B → Type 0) (xs : List A) (ys : List B) → AllZip R xs ys → AllByRecursion (λ x. (y : B) × R x y) xs

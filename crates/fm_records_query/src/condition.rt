@@ -1,5 +1,5 @@
 use crate::operator::Operator;
-use crate::text::Text;
+use fm_base_text::Text;
 use fm_path::Resolved;
 
 /// A condition of a query: its text, and how the path's value in a record compares with a number.

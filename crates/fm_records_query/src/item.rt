@@ -1,5 +1,5 @@
 use crate::fold::Fold;
-use crate::text::Text;
+use fm_base_text::Text;
 use fm_path::Resolved;
 
 /// An item of a query: its text, and what it asks of the chosen records.

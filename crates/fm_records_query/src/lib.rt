@@ -18,10 +18,10 @@ mod spot;
 mod stage;
 mod steps;
 mod syntax;
-mod text;
 mod word;
 
 pub use condition::Condition;
+pub use fm_base_text::Text;
 pub use fold::Fold;
 pub use item::{Asked, Item};
 pub use laws::{
@@ -33,4 +33,3 @@ pub use operator::Operator;
 pub use parse::parse_query;
 pub use query::Query;
 pub use record::check_record;
-pub use text::Text;

@@ -4,7 +4,7 @@ ghost use Rattle.fm_path_text.specs.Grammar.{piece_of, path_text};
 ghost use Rattle.fm_records_query.specs.Grammar.{item_text, condition_text};
 
 use crate::syntax::{ConditionSyntax, ItemSyntax};
-use crate::text::Text;
+use fm_base_text::Text;
 use fm_path::{NameText, PathStep};
 use std::alloc::{AllocError, Global};
 

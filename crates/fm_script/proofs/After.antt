@@ -7,7 +7,6 @@ use Rattle.fm_script_text.specs.declared.line.Line.{Line}
 use Rattle.fm_script_lines.specs.declared.numbers.Numbers.{Numbers}
 use Rattle.fm_script_lines.specs.declared.reply.Reply.{Reply}
 use Rattle.fm_script_lines.specs.declared.standing.Standing.{Standing}
-use Rattle.fm_script_lines.specs.declared.standing.Standing.TheVariants as standing
 use Rattle.fm_script_lines.specs.declared.standing.Standing.TheVariants.{Nothing}
 use Rattle.fm_script_lines.specs.Lines.{behind}
 use Rattle.fm_script_lines.specs.Numbers.{number_at}
@@ -71,14 +70,6 @@ module _ (number : List ℕ → Option ℕ) where
   after_made k (e ∷ ds) names (suc i) d low =
       ap (λ (m : ℕ). lent (names_after number (k + 1) ds (names_behind number k e names) m)) (omega arith)
       ∙ after_made (k + 1) ds (names_behind number k e names) i d (omega (arith, low))
-
-pub lent_twice : (s : Standing) → lent (lent s) ≡ lent s
-lent_twice standing.Nothing = refl
-lent_twice (standing.Arena id) = refl
-lent_twice (standing.Automatic id h) = refl
-lent_twice (standing.Segment r) = refl
-lent_twice (standing.Hold h) = refl
-lent_twice (standing.Handle h) = refl
 
 -- What a pass's names stand for to others behind its lines: what they did before, and what the lines made.
 module _ {p q : View} {names : Numbers} {base : List Standing} {start : ℕ} {own next : List Standing} {lines : List Line} {replies : List Reply}

@@ -1,5 +1,6 @@
 -- What the run of a script begins with, and what it leaves.
 use Rattle.std.proofs.Common.{◌≡◌, ℕ, ◌+◌, ◌-◌, ◌<◌, ◌≤◌, ◌^◌, List, length, sym, ap, ◌∙◌, subst, arith}
+use Rattle.std.specs.Borrow.{Bor}
 use Rattle.fm_base.specs.declared.caller.Caller.{Caller}
 use Rattle.fm_base.specs.Finds.{Rest}
 use Rattle.fm_arena.specs.Shares.{CanShare}
@@ -13,7 +14,7 @@ use Rattle.fm_script_text.specs.declared.line.Line.{Line}
 use Rattle.fm_script_text.specs.Scripts.{ScriptOf}
 use Rattle.fm_script_lines.specs.declared.numbers.Numbers.{Numbers}
 use Rattle.fm_script_lines.specs.Numbers.{AreNumbers}
-use Rattle.fm_script_lines.specs.Ordering.{AreStarts, in_order}
+use Rattle.fm_script_lines.specs.Ordering.{AreStarts, in_order, lines_at}
 use Rattle.fm_script.specs.declared.main_lines.MainLines.{MainLines}
 use Rattle.fm_script.specs.declared.player.Player.{Player}
 use Rattle.fm_script.specs.Players.{ArePlayers}
@@ -41,6 +42,28 @@ few_workers s starts w a =
 
 pub some_pass : (s : ScriptOf) → IsWritten s → 1 ≤ s.shape.passes
 some_pass s w = w.valid.passes.0
+
+-- a script's lines in the order of printing, its workers and the pool's first pass
+pub record Begun (s : ScriptOf) (order : List Line) (starts : List ℕ) (players : List Player) (home : List ℕ) (p : View) : Type 0 where
+  pub in_printing : order ≡ in_order (s.shape.passes - 1) s.lines
+  pub are_starts : AreStarts s.lines (s.shape.passes - 1) starts
+  pub are_players : ArePlayers s.lines starts players
+  pub first : p ≡ first_pass home s.shape
+
+-- They are those of the script, as the lines and the shape that they were made of are.
+pub begun : (s : ScriptOf) {lines : List Line} {z other : Shape} {all ordered : List (Bor Line)} {starts made : List ℕ} {players : List Player}
+    {home : List ℕ} {p : View} → lines ≡ s.lines → z ≡ s.shape → all ≡ ordered → lines_at ordered ≡ in_order (z.passes - 1) lines → starts ≡ made
+    → AreStarts lines (z.passes - 1) made → ArePlayers lines starts players → other ≡ s.shape → p ≡ first_pass home other
+    → Begun s (lines_at all) starts players home p
+begun s {lines} {z} {other} {all} {ordered} {starts} {made} {players} {home} lines_are shape_is same ordering given are_starts are_players again first =
+    record {
+      in_printing = ap (λ (ls : List (Bor Line)). lines_at ls) same ∙ (ordering ∙ (λ i. in_order ((shape_is i).passes - 1) (lines_are i)));
+      are_starts = subst (λ (xs : List ℕ). AreStarts s.lines (s.shape.passes - 1) xs) (sym given)
+          (subst (λ (y : Shape). AreStarts s.lines (y.passes - 1) made) shape_is
+          (subst (λ (ls : List Line). AreStarts ls (z.passes - 1) made) lines_are are_starts));
+      are_players = subst (λ (ls : List Line). ArePlayers ls starts players) lines_are are_players;
+      first = first ∙ ap (λ (y : Shape). first_pass home y) again;
+    }
 
 module _ (s : ScriptOf) (w : IsWritten s) (order : List Line) (names : Numbers) (starts : List ℕ) (players : List Player)
     (in_printing : order ≡ in_order (s.shape.passes - 1) s.lines) (numbers : AreNumbers order names)

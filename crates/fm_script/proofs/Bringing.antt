@@ -14,7 +14,7 @@ use Rattle.fm_base.proofs.Names.{same_id-self}
 use Rattle.fm_base_lists.proofs.Each.{all_both}
 use Rattle.fm_rule_facts.specs.Holds.{one_if}
 use Rattle.fm_script_report.specs.Told.{opened_of}
-use Rattle.fm_script_lines.specs.declared.outcome.Outcome.{Outcome}
+use Rattle.fm_script_lines.specs.declared.outcome.LineOutcome.{LineOutcome}
 use Rattle.fm_script_lines.specs.declared.reply.Reply.TheVariants as reply
 use Rattle.fm_script_lines.specs.declared.standing.Standing.{Standing}
 use Rattle.fm_script_lines.specs.Calls.{Adds, Allocates, Asks, CallDoes, Closes, Compares, Copies, Exchanges, Fills, Gets, GivesBack, Holds, Line, On, Sets, TakesAgain, Unholds, arena_at, coming, fine, number, segment_at, segment_made}
@@ -34,16 +34,17 @@ use Rattle.fm_script_text.specs.Scripts.{ScriptOf}
 module _ (a : ArenaId) where
   -- ---- a line that opened it has its entry
 
-  abbrev NoArena : Outcome → Type 0
+  abbrev NoArena : LineOutcome → Type 0
   NoArena out = arena_of out.made ≡ None
 
-  by_answer : {X : Type 0} (ok : X → Outcome) → ((x : X) → NoArena (ok x)) → (result : Result X Refusal) (out : Outcome) → out ≡ coming ok result → NoArena out
-  by_answer ok f (Ok x) out is = ap (λ (o : Outcome). arena_of o.made) is ∙ f x
-  by_answer ok f (Err r) out is = ap (λ (o : Outcome). arena_of o.made) is
+  by_answer : {X : Type 0} (ok : X → LineOutcome) → ((x : X) → NoArena (ok x)) → (result : Result X Refusal) (out : LineOutcome) → out ≡ coming ok result
+      → NoArena out
+  by_answer ok f (Ok x) out is = ap (λ (o : LineOutcome). arena_of o.made) is ∙ f x
+  by_answer ok f (Err r) out is = ap (λ (o : LineOutcome). arena_of o.made) is
 
-  by_name : {X : Type 0} (o : Option X) (Does : X → Line) (out : Outcome) (own : List Entry) → ((x : X) → Does x out own → NoArena out)
+  by_name : {X : Type 0} (o : Option X) (Does : X → Line) (out : LineOutcome) (own : List Entry) → ((x : X) → Does x out own → NoArena out)
       → On o Does out own → NoArena out
-  by_name None Does out own f d = ap (λ (x : Outcome). arena_of x.made) d.0
+  by_name None Does out own f d = ap (λ (x : LineOutcome). arena_of x.made) d.0
   by_name (Some x) Does out own f d = f x d
 
   opened_arena : (m : MadeBy) (k : Kind) (id : ArenaId) → arena_of (opened_as m k id) ≡ Some id
@@ -52,10 +53,11 @@ module _ (a : ArenaId) where
   opened_arena m kind.Confined id = refl
   opened_arena m kind.Shared id = refl
 
-  open_brings : (c : Caller) (m : MadeBy) (k : Kind) (result : Result ArenaId Refusal) (out : Outcome) (own : List Entry) → DoesOpen c k result (but_loans own)
+  open_brings : (c : Caller) (m : MadeBy) (k : Kind) (result : Result ArenaId Refusal) (out : LineOutcome) (own : List Entry)
+      → DoesOpen c k result (but_loans own)
       → out ≡ coming (λ id. outcome reply.Fine (opened_as m k id)) result → arena_of out.made ≡ Some a → 1 ≤ openings a own
   open_brings c m k (Ok id) out own d is makes =
-      let arena : Some id ≡ Some a = sym (ap (λ (x : Outcome). arena_of x.made) is ∙ opened_arena m k id) ∙ makes in
+      let arena : Some id ≡ Some a = sym (ap (λ (x : LineOutcome). arena_of x.made) is ∙ opened_arena m k id) ∙ makes in
       let same : id ≡ a = cc in
       let this : same_id id a ≡ true = ap (λ (x : ArenaId). same_id x a) same ∙ same_id-self a in
       let one : one_if (is_opening a (Open id)) ≡ 1 = ap one_if this in
@@ -63,13 +65,13 @@ module _ (a : ArenaId) where
       let less = kept a (λ e. not (is_loan e.call)) own in
       omega (arith, one, but, less)
   open_brings c m k (Err r) out own d is makes =
-      let none : arena_of out.made ≡ None = ap (λ (x : Outcome). arena_of x.made) is in
+      let none : arena_of out.made ≡ None = ap (λ (x : LineOutcome). arena_of x.made) is in
       absurd (let no : ⊥ = cc in no)
 
-  no_arena : (out : Outcome) (own : List Entry) → NoArena out → arena_of out.made ≡ Some a → 1 ≤ openings a own
+  no_arena : (out : LineOutcome) (own : List Entry) → NoArena out → arena_of out.made ≡ Some a → 1 ≤ openings a own
   no_arena out own none makes = absurd (let no : ⊥ = cc in no)
 
-  module _ (c : Caller) (stands : List ℕ → Standing) (out : Outcome) (own : List Entry) where
+  module _ (c : Caller) (stands : List ℕ → Standing) (out : LineOutcome) (own : List Entry) where
     on_arena : (name : List ℕ) (Does : ArenaId → Line) → ((id : ArenaId) → Does id out own → NoArena out) → On (arena_at c stands name) Does out own
         → NoArena out
     on_arena name Does f d = by_name (arena_at c stands name) Does out own f d
@@ -102,12 +104,12 @@ module _ (a : ArenaId) where
     none_made (command.Hold arena name) o d =
         on_arena arena (Holds c) (λ id e. by_answer (λ u. outcome reply.Fine (held_as e.0 id)) (λ x. refl) e.1.0 out e.1.2) d
     none_made (command.Unhold hold) o d =
-        by_name (hold_of (stands hold)) (Unholds c) out own (λ id e. ap (λ (x : Outcome). arena_of x.made) e.0) d
+        by_name (hold_of (stands hold)) (Unholds c) out own (λ id e. ap (λ (x : LineOutcome). arena_of x.made) e.0) d
     none_made (command.Again handle name) o d =
         by_name (handle_of (stands handle)) (TakesAgain c) out own
         (λ id e. by_answer (λ u. outcome reply.Fine (handled_as e.0 id)) (λ x. refl) e.1.0 out e.1.2) d
     none_made (command.Back handle) o d =
-        by_name (handle_of (stands handle)) (GivesBack c) out own (λ id e. ap (λ (x : Outcome). arena_of x.made) e.2) d
+        by_name (handle_of (stands handle)) (GivesBack c) out own (λ id e. ap (λ (x : LineOutcome). arena_of x.made) e.2) d
     none_made (command.Close arena) o d = on_arena arena (Closes c) (λ id e. by_answer fine (λ x. refl) e.0 out e.2) d
 
     line_brings : (k : Command) → CallDoes c stands k out own → arena_of out.made ≡ Some a → 1 ≤ openings a own

@@ -22,31 +22,32 @@ use Rattle.fm_script_lines.specs.Standings.{IsBacked, lent, standing_as, standin
 use Rattle.fm_script_lines.specs.Tokens.{Backs}
 use Rattle.fm_gate.specs.Makers.{made_by_pass}
 use Rattle.fm_script_lines.proofs.Backing.{backs_still}
+use Rattle.fm_script_lines.proofs.Lent.{stays_lent}
 use Rattle.fm_workers_crew.specs.Crew.{AreDone, CrewWorked, IsWhole}
 use Rattle.fm_workers_crew.proofs.Wanting.{few_last}
 use Rattle.fm_script.specs.declared.player.Player.{Player}
 use Rattle.fm_script.specs.Players.{Playing, Plays, PlaysLines}
 use Rattle.fm_script.specs.Runs.{AllPlayed, names_lent}
-use Rattle.fm_script.proofs.After.{lent_twice, next_at}
+use Rattle.fm_script.proofs.After.{next_at}
 use Rattle.fm_script.proofs.Gathered.{lent_only, plain_at}
 use Rattle.fm_script.proofs.Made.{names_known}
 
--- A crew that has a pass for each task is refused for want of memory alone.
-pub crew_refused : {T : Type 0} (Does : View → T → T → List Entry → Type 0) (old new : View) (tasks done : List T) (r : Refusal)
-    → CrewWorked Does old new tasks done (Err r) → IsWhole old → length old.gathered + (1 + length tasks) ≤ old.shape.passes → r ≡ Memory
-crew_refused Does old new tasks done NoPass w whole enough = elim (w.wanting whole refl) [
-  | inl few ↦ (let last = few_last old.gathered in absurd (omega (arith, few, last, enough)))
-  | inr many ↦ (let passes = whole.sound.valid.passes.1 in absurd (omega (arith, many, passes, enough)))
-]
-crew_refused Does old new tasks done Memory w whole enough = refl
-crew_refused Does old new tasks done r w whole enough = absurd w.ends
+module _ {T : Type 0} (Does : View → T → T → List Entry → Type 0) (old new : View) (tasks done : List T) where
+  -- A crew that has a pass for each task is refused for want of memory alone.
+  pub crew_refused : (r : Refusal) → CrewWorked Does old new tasks done (Err r) → IsWhole old → length old.gathered + (1 + length tasks) ≤ old.shape.passes
+      → r ≡ Memory
+  crew_refused NoPass w whole enough = elim (w.wanting whole refl) [
+    | inl few ↦ (let last = few_last old.gathered in absurd (omega (arith, few, last, enough)))
+    | inr many ↦ (let passes = whole.sound.valid.passes.1 in absurd (omega (arith, many, passes, enough)))
+  ]
+  crew_refused Memory w whole enough = refl
+  crew_refused r w whole enough = absurd w.ends
 
--- And then no task was begun.
-pub crew_unbegun : {T : Type 0} (Does : View → T → T → List Entry → Type 0) (old new : View) (tasks done : List T) (r : Refusal)
-    → CrewWorked Does old new tasks done (Err r) → done ≡ tasks
-crew_unbegun Does old new tasks done NoPass w = w.ends.3
-crew_unbegun Does old new tasks done Memory w = w.ends.3
-crew_unbegun Does old new tasks done r w = absurd w.ends
+  -- And then no task was begun.
+  pub crew_unbegun : (r : Refusal) → CrewWorked Does old new tasks done (Err r) → done ≡ tasks
+  crew_unbegun NoPass w = w.ends.3
+  crew_unbegun Memory w = w.ends.3
+  crew_unbegun r w = absurd w.ends
 
 lasts_of : (p q : View) → Lasts p q → q.shape ≡ p.shape → q.caller ≡ p.caller → memory.Lasts (view_of_pass p) (view_of_pass q)
 lasts_of p q l shape caller = record { known = l.known; given = l.given; limit = ap limit_of shape; caller = caller }
@@ -67,7 +68,7 @@ module _ (w : Playing) (p : View) (sound : IsSound p) (known : All (λ s. IsBack
       (go (nat_lt n (length w.firsts)) refl)
     where
       twice : (s : Standing) → IsBacked p (lent s) → IsBacked p (lent (lent s))
-      twice s b = subst (λ (x : Standing). IsBacked p x) (sym (lent_twice s)) b
+      twice s b = subst (λ (x : Standing). IsBacked p x) (sym (stays_lent s).twice) b
 
       go : (b : Bool) → nat_lt n (length w.firsts) ≡ b → IsBacked p (lent (lent (get_or w.firsts n Nothing)))
       go true e = twice (get_or w.firsts n Nothing) (known n Nothing (ltb-true n (length w.firsts) e))

@@ -50,6 +50,12 @@ module _ (s : ScriptOf) (order : List Line) (names : Numbers) (caller : Caller) 
   abbrev pub all_replies : List Reply
   all_replies = main.firsts.items ++ (flat_map (λ (p : Player). p.replies.items) players ++ main.lasts.items)
 
+  -- Replies that were put together in that order are they.
+  pub replies_put : {all put lasts : List Reply} → all ≡ put → put ≡ main.firsts.items ++ (flat_map (λ (p : Player). p.replies.items) players ++ lasts)
+      → lasts ≡ main.lasts.items → all ≡ all_replies
+  replies_put same are last =
+      same ∙ (are ∙ ap (λ (rs : List Reply). main.firsts.items ++ (flat_map (λ (p : Player). p.replies.items) players ++ rs)) last)
+
   abbrev pub played : Played
   played = telling.the_played names s.lines h.old h.new h.tasks players h.ran.own main.firsts.items main.lasts.items h.can h.ran.all
 

@@ -18,7 +18,7 @@ use Rattle.fm_segment.specs.Region.{Region, region_of}
 use Rattle.fm_segment.specs.Slices.{slice_of}
 use Rattle.fm_script_text.specs.declared.command.Command.{Command}
 use Rattle.fm_script_text.specs.declared.command.Command.TheVariants as command
-use Rattle.fm_script_lines.specs.declared.outcome.Outcome.{Outcome}
+use Rattle.fm_script_lines.specs.declared.outcome.LineOutcome.{LineOutcome}
 use Rattle.fm_script_lines.specs.declared.reply.Reply.TheVariants as reply
 use Rattle.fm_script_lines.specs.declared.standing.Standing.{Standing}
 use Rattle.fm_script_lines.specs.declared.standing.Standing.TheVariants as standing
@@ -29,6 +29,7 @@ use Rattle.fm_script_lines.specs.Report.{Done, AreRun, names_after, names_behind
 use Rattle.fm_gate.specs.Makers.{Made as MadeBy}
 use Rattle.fm_script_lines.specs.Standings.{IsBacked, Names, hold_of, handle_of, handled_as, held_as, lent, opened_as, stands_of, unheld, handed_back}
 use Rattle.fm_script_lines.proofs.Backing.{segment_known}
+use Rattle.fm_script_lines.proofs.Lent.{stays_lent}
 use Rattle.fm_script_lines.proofs.Lines.{slice_known}
 use Rattle.fm_script.proofs.Known.{opened_there, given_there}
 
@@ -44,17 +45,17 @@ module _ (p : View) (sound : IsSound p) where
   by_kind m kind.Confined id known = known
   by_kind m kind.Shared id known = known
 
-  opens : (c : Caller) (m : MadeBy) (k : Kind) (result : Result ArenaId Refusal) (out : Outcome) (own : List Entry) → DoesOpen c k result (but_loans own)
+  opens : (c : Caller) (m : MadeBy) (k : Kind) (result : Result ArenaId Refusal) (out : LineOutcome) (own : List Entry) → DoesOpen c k result (but_loans own)
       → out ≡ coming (λ id. outcome reply.Fine (opened_as m k id)) result → ((e : Entry) → IsAmong e own → IsAmong e p.seen)
       → IsBacked p (lent out.made)
   opens c m k (Ok id) out own did is seen =
       let e : Entry = entry_of c (Open id) Fine in
       let among : IsAmong e (but_loans own) = subst (λ (es : List Entry). IsAmong e es) (sym did.2) (inl refl) in
       let known = opened_there (limit_of p.shape) [] p.seen e id sound.legal (seen e (among_kept (λ x. not (is_loan x.call)) e own among)) refl in
-      subst (λ (x : Outcome). IsBacked p (lent x.made)) (sym is) (by_kind m k id known)
-  opens c m k (Err r) out own did is seen = backed_nothing out.made (ap (λ (y : Outcome). lent y.made) is)
+      subst (λ (x : LineOutcome). IsBacked p (lent x.made)) (sym is) (by_kind m k id known)
+  opens c m k (Err r) out own did is seen = backed_nothing out.made (ap (λ (y : LineOutcome). lent y.made) is)
 
-  allocates : (c : Caller) (id : ArenaId) (size align : ℕ) (result : Result ℕ Refusal) (out : Outcome) (own : List Entry)
+  allocates : (c : Caller) (id : ArenaId) (size align : ℕ) (result : Result ℕ Refusal) (out : LineOutcome) (own : List Entry)
       → DoesAllocate c id size align result (but_loans own)
       → out ≡ coming (λ place. outcome (reply.Place place) (standing.Segment (region_of id place size))) result
       → ((e : Entry) → IsAmong e own → IsAmong e p.seen) → IsBacked p (lent out.made)
@@ -63,35 +64,35 @@ module _ (p : View) (sound : IsSound p) where
       let among : IsAmong e (but_loans own) = subst (λ (es : List Entry). IsAmong e es) (sym did.2) (inr (inl refl)) in
       let g = given_there (limit_of p.shape) [] p.seen e id size align place sound.legal
       (seen e (among_kept (λ x. not (is_loan x.call)) e own among)) refl refl in
-      subst (λ (x : Outcome). IsBacked p (lent x.made)) (sym is) (record { arena = g.there; given = g.given })
-  allocates c id size align (Err r) out own did is seen = backed_nothing out.made (ap (λ (y : Outcome). lent y.made) is)
+      subst (λ (x : LineOutcome). IsBacked p (lent x.made)) (sym is) (record { arena = g.there; given = g.given })
+  allocates c id size align (Err r) out own did is seen = backed_nothing out.made (ap (λ (y : LineOutcome). lent y.made) is)
 
-  slices : (offset size : ℕ) (r : Region) (result : Result Region Refusal) (out : Outcome) → segment.IsKnown (view_of_pass p) r
+  slices : (offset size : ℕ) (r : Region) (result : Result Region Refusal) (out : LineOutcome) → segment.IsKnown (view_of_pass p) r
       → result ≡ slice_of offset size r → out ≡ coming segment_made result → IsBacked p (lent out.made)
   slices offset size r (Ok s) out known answer is =
-      subst (λ (x : Outcome). IsBacked p (lent x.made)) (sym is) (slice_known p offset size r s answer known)
-  slices offset size r (Err e) out known answer is = backed_nothing out.made (ap (λ (y : Outcome). lent y.made) is)
+      subst (λ (x : LineOutcome). IsBacked p (lent x.made)) (sym is) (slice_known p offset size r s answer known)
+  slices offset size r (Err e) out known answer is = backed_nothing out.made (ap (λ (y : LineOutcome). lent y.made) is)
 
-  some_segment : (o : Option Region) (Does : Region → Line) (out : Outcome) (own : List Entry) → IfSome o (segment.IsKnown (view_of_pass p))
+  some_segment : (o : Option Region) (Does : Region → Line) (out : LineOutcome) (own : List Entry) → IfSome o (segment.IsKnown (view_of_pass p))
       → On o Does out own → ((r : Region) → segment.IsKnown (view_of_pass p) r → Does r out own → IsBacked p (lent out.made)) → IsBacked p (lent out.made)
-  some_segment None Does out own known r h = backed_nothing out.made (ap (λ (x : Outcome). lent x.made) r.0)
+  some_segment None Does out own known r h = backed_nothing out.made (ap (λ (x : LineOutcome). lent x.made) r.0)
   some_segment (Some s) Does out own known r h = h s known r
 
   -- Of a call's answer.
-  by_answer : {X : Type 0} (ok : X → Outcome) → ((x : X) → IsBacked p (lent (ok x).made)) → (out : Outcome) (result : Result X Refusal)
+  by_answer : {X : Type 0} (ok : X → LineOutcome) → ((x : X) → IsBacked p (lent (ok x).made)) → (out : LineOutcome) (result : Result X Refusal)
       → out ≡ coming ok result → IsBacked p (lent out.made)
-  by_answer ok known out (Ok x) e = subst (λ (o : Outcome). IsBacked p (lent o.made)) (sym e) (known x)
-  by_answer ok known out (Err r) e = subst (λ (o : Outcome). IsBacked p (lent o.made)) (sym e) tt
+  by_answer ok known out (Ok x) e = subst (λ (o : LineOutcome). IsBacked p (lent o.made)) (sym e) (known x)
+  by_answer ok known out (Err r) e = subst (λ (o : LineOutcome). IsBacked p (lent o.made)) (sym e) tt
 
   -- Of what a name stands for.
-  by_name : {X : Type 0} (o : Option X) (Does : X → Line) (out : Outcome) (own : List Entry)
+  by_name : {X : Type 0} (o : Option X) (Does : X → Line) (out : LineOutcome) (own : List Entry)
       → ((x : X) → Does x out own → IsBacked p (lent out.made)) → On o Does out own → IsBacked p (lent out.made)
-  by_name None Does out own f d = subst (λ (o : Outcome). IsBacked p (lent o.made)) (sym d.0) tt
+  by_name None Does out own f d = subst (λ (o : LineOutcome). IsBacked p (lent o.made)) (sym d.0) tt
   by_name (Some x) Does out own f d = f x d
 
   module _ (c : Caller) (stands : List ℕ → Standing) (known : (name : List ℕ) → IsBacked p (lent (stands name))) where
     -- What a line made is known.
-    pub line_known : (k : Command) (out : Outcome) (own : List Entry) → CallDoes c stands k out own → ((e : Entry) → IsAmong e own → IsAmong e p.seen)
+    pub line_known : (k : Command) (out : LineOutcome) (own : List Entry) → CallDoes c stands k out own → ((e : Entry) → IsAmong e own → IsAmong e p.seen)
         → IsBacked p (lent out.made)
     line_known (command.Open name kind) out own d seen = opens c d.0 kind d.1.0 out own d.1.1.1 d.1.2 seen
     line_known (command.Alloc arena name size align) out own d seen =
@@ -101,7 +102,7 @@ module _ (p : View) (sound : IsSound p) where
         (λ r k a. slices offset size r a.0 out k a.1.0 a.2)
     line_known (command.Readonly segment name) out own d seen =
         some_segment (segment_at c stands segment) _ out own (segment_known p (stands segment) (known segment)) d
-        (λ r k a. subst (λ (x : Outcome). IsBacked p (lent x.made)) (sym (a.2 ∙ ap (λ (x : Result Region Refusal). coming segment_made x) a.1.0))
+        (λ r k a. subst (λ (x : LineOutcome). IsBacked p (lent x.made)) (sym (a.2 ∙ ap (λ (x : Result Region Refusal). coming segment_made x) a.1.0))
         (record { arena = k.arena; given = k.given }))
     line_known (command.Get cell) out own d seen =
         by_name (segment_at c stands cell.segment) (Gets c cell) out own (λ r a. by_answer number (λ v. tt) out a.0 a.2) d
@@ -124,44 +125,28 @@ module _ (p : View) (sound : IsSound p) where
     line_known (command.Hold arena name) out own d seen =
         by_name (arena_at c stands arena) (Holds c) out own (λ id a. by_answer (λ u. outcome reply.Fine (held_as a.0 id)) (λ v. tt) out a.1.0 a.1.2) d
     line_known (command.Unhold hold) out own d seen =
-        by_name (hold_of (stands hold)) (Unholds c) out own (λ id a. subst (λ (o : Outcome). IsBacked p (lent o.made)) (sym a.0) tt) d
+        by_name (hold_of (stands hold)) (Unholds c) out own (λ id a. subst (λ (o : LineOutcome). IsBacked p (lent o.made)) (sym a.0) tt) d
     line_known (command.Again handle name) out own d seen =
         by_name (handle_of (stands handle)) (TakesAgain c) out own
         (λ id a. by_answer (λ u. outcome reply.Fine (handled_as a.0 id)) (λ v. tt) out a.1.0 a.1.2) d
     line_known (command.Back handle) out own d seen =
-        by_name (handle_of (stands handle)) (GivesBack c) out own (λ id a. subst (λ (o : Outcome). IsBacked p (lent o.made)) (sym a.2) tt) d
+        by_name (handle_of (stands handle)) (GivesBack c) out own (λ id a. subst (λ (o : LineOutcome). IsBacked p (lent o.made)) (sym a.2) tt) d
     line_known (command.Close arena) out own d seen =
         by_name (arena_at c stands arena) (Closes c) out own (λ id a. by_answer fine (λ v. tt) out a.0 a.2) d
 
 -- ---- all names
-
-lent_unheld : (s : Standing) → lent (unheld s) ≡ lent s
-lent_unheld standing.Nothing = refl
-lent_unheld (standing.Arena id) = refl
-lent_unheld (standing.Automatic id h) = refl
-lent_unheld (standing.Segment r) = refl
-lent_unheld (standing.Hold h) = refl
-lent_unheld (standing.Handle h) = refl
-
-lent_handed : (s : Standing) → lent (handed_back s) ≡ lent s
-lent_handed standing.Nothing = refl
-lent_handed (standing.Arena id) = refl
-lent_handed (standing.Automatic id h) = refl
-lent_handed (standing.Segment r) = refl
-lent_handed (standing.Hold h) = refl
-lent_handed (standing.Handle h) = refl
 
 -- A line takes from a name at most what others may not use.
 pub lent_behind : (number : List ℕ → Option ℕ) (k : Command) (n : ℕ) (s : Standing) → lent (behind number k n s) ≡ lent s
 lent_behind number (command.Unhold hold) n s = go (is_number (number hold) n)
   where
     go : (b : Bool) → lent (if b then unheld s else s) ≡ lent s
-    go true = lent_unheld s
+    go true = (stays_lent s).once_unheld
     go false = refl
 lent_behind number (command.Back handle) n s = go (is_number (number handle) n)
   where
     go : (b : Bool) → lent (if b then handed_back s else s) ≡ lent s
-    go true = lent_handed s
+    go true = (stays_lent s).once_handed
     go false = refl
 lent_behind number (command.Open name kind) n s = refl
 lent_behind number (command.Alloc arena name size align) n s = refl

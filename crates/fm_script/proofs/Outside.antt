@@ -1,5 +1,7 @@
 -- A pass that went on by lines is of the pool that it was of.
-use Rattle.std.proofs.Common.{◌≡◌, ℕ, List, ◌++◌, drop, sym, ap, ◌∙◌}
+use Rattle.std.proofs.Common.{◌≡◌, ℕ, List, ◌++◌, drop, sym, ap, subst, ◌∙◌}
+use Rattle.fm_arena.specs.Learnt.{AfterIntoPass}
+use Rattle.fm_arena.specs.Shares.{CanShare}
 use Rattle.fm_base.specs.Calls.{Entry}
 use Rattle.fm_base.specs.Finds.{Rest}
 use Rattle.fm_rule_calls.specs.Kept.{shape_numbers}
@@ -16,3 +18,11 @@ same_home p q w =
 
 pub still_of : (pool : Pool) (p q : View) {own : List Entry} → Went p q own → IsOf pool p → IsOf pool q
 still_of pool p q w of = (same_home p q w ∙ of.0, w.same_shape ∙ of.1)
+
+-- So the pass is outside, once it is taken back from the calls over a table's end.
+pub shares_still : (pool : Pool) (before memory settled pass : View) {own : List Entry} → memory ≡ before → Went memory settled own
+    → AfterIntoPass settled pass → IsOf pool before → CanShare pool pass
+shares_still pool before memory settled pass is went after of = record {
+  outside = after.outside pool (still_of pool memory settled went (subst (λ (p : View). IsOf pool p) (sym is) of));
+  no_page = after.no_page;
+}

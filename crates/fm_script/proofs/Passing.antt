@@ -22,12 +22,13 @@ use Rattle.fm_script_lines.specs.Tokens.{Backs, IsReady}
 use Rattle.fm_script_lines.proofs.Backing.{backed_lent}
 use Rattle.fm_script_lines.proofs.Ending.{backs_none}
 use Rattle.fm_workers_crew.specs.Crew.{IsWhole}
+use Rattle.fm_script_lines.proofs.Rows.{ran_many}
 use Rattle.fm_script.specs.declared.player.Player.{Player}
 use Rattle.fm_script.specs.Players.{CanPlay, playing}
 use Rattle.fm_script.specs.Runs.{AllRan, CanRun, Worked, names_lent}
 use Rattle.fm_script.specs.Staying.{lent_later}
 use Rattle.fm_script.proofs.Crewed.{players_known}
-use Rattle.fm_script.proofs.Running.{all_can_play, as_many, in_order_many, names_many, nothing_left, workers_of}
+use Rattle.fm_script.proofs.Running.{all_can_play, in_order_many, names_many, nothing_left, workers_of}
 
 -- ---- what came to nothing and what didn't
 
@@ -109,7 +110,7 @@ pub record Behind (names : Numbers) (lines : List Line) (p q : View) (own : List
 module _ (names : Numbers) (lines : List Line) (p q : View) (tasks : List Player) (can : CanRun names lines p tasks) (own : List Standing)
     (firsts : List Reply) (b : Behind names lines p q own firsts) where
   first_many : length own ≡ length (lines_by is_first lines)
-  first_many = let many = as_many b.first in omega (arith, many)
+  first_many = let many = ran_many b.first in omega (arith, many)
 
   first_known : All (IsBacked q) own
   first_known = (ready_backs p q own b.backs).backs.own_known
@@ -150,7 +151,7 @@ module _ (names : Numbers) (lines : List Line) (old new : View) (tasks players :
   pub all_spent : AllRan names lines old new tasks players own firsts lasts → All IsSpent own
   all_spent a =
       let crew = a.worked.crew.crew in
-      let many = as_many a.first in
+      let many = ran_many a.first in
       nothing_left names lines old tasks can old a.before a.between new a.first_names own firsts lasts crew.more crew.passes players a.first
       (workers_of names lines old tasks can a.before a.first_names (omega (arith, many)) crew.more crew.passes players a.worked.crew.ends
       a.worked.played) a.last

@@ -24,6 +24,7 @@ use Rattle.fm_script_lines.proofs.AdmittedMade.{lent_spent}
 use Rattle.fm_script_lines.proofs.AdmittedNumbers.{in_order_numbered, numbered_same, numbered_split}
 use Rattle.fm_script_lines.proofs.Backing.{backed_lent}
 use Rattle.fm_workers_crew.specs.Crew.{AreDone}
+use Rattle.fm_script_lines.proofs.Rows.{ran_many}
 use Rattle.fm_script.specs.declared.player.Player.{Player}
 use Rattle.fm_script.specs.Players.{CanPlay, IsPlayer, Plays, playing}
 use Rattle.fm_script.specs.Runs.{AllPlayed, CanRun, names_lent}
@@ -35,15 +36,6 @@ pub all_spelled : (lines : List Line) → KeepRules lines → All (λ l. IsSpell
 all_spelled lines rules =
     All-from_recursion (λ (l : Line). IsSpelled l.command) lines
     (all_weaker IsSaid (λ (l : Line). IsSpelled l.command) (λ l s. s.is_spelled) lines rules.said)
-
--- A pass's lines are as many as they ran.
-pub as_many : {p q : View} {names : Numbers} {base : List Standing} {start : ℕ} {own next : List Standing} {lines : List Line} {replies : List Reply}
-    → LinesRan p q names base start own next lines replies → length next ≡ length own + length lines
-as_many {lines = lines} r =
-    let many = r.many in
-    let same = ap (λ (xs : List Line). length xs) r.are in
-    let mapped = length-map r.dones (λ (d : Done). d.line) in
-    omega (arith, many, same, mapped)
 
 pub in_order_many : (n : ℕ) (lines : List Line)
     → length (in_order n lines) ≡ length (lines_by is_first lines) + (length (worker_lines n 1 lines) + length (lines_by is_last lines))
@@ -149,7 +141,7 @@ module _ (names : Numbers) (lines : List Line) (old : View) (tasks : List Player
       → Reported (playing names lines firsts) more 0 vs tasks players
       → LinesRan r t names [] 0 (firsts ++ names_lent players) next (lines_by is_last lines) others → All IsSpent next
   nothing_left p q r t firsts next replies others more vs players first worked last =
-      let one = as_many first in
+      let one = ran_many first in
       let two = names_many firsts more vs players worked in
       main_spent lines p q r t names firsts (names_lent players) next replies others can.rules first_split.0
       (subst (λ (m : ℕ). AreNumbered (number_at names) m (lines_by is_last lines)) (omega (arith, one, two)) rest_split.1)

@@ -1,5 +1,5 @@
 -- The first lines, the workers and the last lines over one table, where memory may be wanting to each.
-use Rattle.std.specs.Prelude.{Vec}
+use Rattle.std.specs.Prelude.{OnOk, Vec}
 use Rattle.std.specs.Result.{is_err}
 use Rattle.std.specs.declared.alloc.Global.{Global}
 use Rattle.std.proofs.Common.{◌≡◌, ◌+◌, ◌≤◌, true, false, List, [], ◌++◌, length, length-append, vec_capacity, All, Result, refl, sym, ap, ◌∙◌, subst, arith}
@@ -23,11 +23,18 @@ use Rattle.fm_script_lines.specs.Tokens.{Backs, IsReady}
 use Rattle.fm_script_lines.proofs.Returning.{keeps_then}
 use Rattle.fm_script.specs.declared.main_lines.MainLines.{MainLines}
 use Rattle.fm_script.specs.declared.player.Player.{Player}
-use Rattle.fm_script.specs.Mains.{AfterAll, CanRunAll, CanWork}
+use Rattle.fm_script.specs.Mains.{AfterAll, CanRunAll, CanWork, TakesOver}
 use Rattle.fm_script.specs.Players.{playing}
 use Rattle.fm_script.specs.Runs.{Worked, names_lent}
 use Rattle.fm_script.proofs.Passing.{Behind, all_many, all_ran, backs_at, first_can, gathered_still, lent_known, not_ok, on_ok, ran_from, ready_backs, ready_none, whole_still}
 use Rattle.fm_script.proofs.Running.{all_spelled, in_order_many}
+
+-- The workers did, over what the first lines left of names.
+pub worked_over : {F : Type 0} (names : Numbers) (lines : List Line) (q u : View) (tasks players : List Player) {ss own : List Standing} → ss ≡ own
+    → (result : Result (Unit {0}) F) → is_err result ≡ false → OnOk result (Worked (playing names lines ss) q u tasks players)
+    → Worked (playing names lines own) q u tasks players
+worked_over names lines q u tasks players is result ok worked =
+    subst (λ (ss : List Standing). Worked (playing names lines ss) q u tasks players) is (on_ok result ok worked)
 
 module _ (pool : Pool) (p : View) (names : Numbers) (lines : List Line) (t : Table) (tasks : List Player) (m : MainLines)
     (can : CanRunAll pool p names lines t tasks m) where
@@ -102,11 +109,9 @@ module _ (pool : Pool) (p : View) (names : Numbers) (lines : List Line) (t : Tab
         pub over_room : length one.own.items + length (names_lent players) ≤ vec_capacity one.own
         over_room = let many = many in omega (arith, many)
 
-        module _ (two : Table) (keeps : KeepsTable one two) (is : two.own.items ≡ one.own.items ++ names_lent players)
-            (over : (v : View) (holds handles : List ArenaId) → Backs v holds handles one.base.now one.own.items → All (IsBacked v) (names_lent players)
-            → Backs v holds handles one.base.now two.own.items) where
+        module _ (two : Table) (over : TakesOver one two players) where
           kept : KeepsTable t two
-          kept = keeps_then a.keeps keeps
+          kept = keeps_then a.keeps over.keeps
 
           none : two.base.now ≡ []
           none = (λ i. (kept.base i).now) ∙ can.fresh.base
@@ -115,7 +120,7 @@ module _ (pool : Pool) (p : View) (names : Numbers) (lines : List Line) (t : Tab
           over_backs holds handles b =
               let base : one.base.now ≡ [] = (λ i. (a.keeps.base i).now) ∙ can.fresh.base in
               subst (λ (bs : List Standing). Backs u holds handles bs two.own.items) base
-              (over u holds handles (subst (λ (bs : List Standing). Backs u holds handles bs one.own.items) (sym base)
+              (over.backs u holds handles (subst (λ (bs : List Standing). Backs u holds handles bs one.own.items) (sym base)
               (backs holds handles [] one.own.items (backs_first holds handles b)))
               (lent_known names lines p q tasks can.can one.own.items firsts.items done u players w sound))
 
@@ -126,9 +131,9 @@ module _ (pool : Pool) (p : View) (names : Numbers) (lines : List Line) (t : Tab
             spelled = all_spelled lines can.can.rules;
             room =
                 let many = many in
-                let long = ap (λ (xs : List Standing). length xs) is in
+                let long = ap (λ (xs : List Standing). length xs) over.own in
                 let parts = length-append one.own.items (names_lent players) in
-                let same = keeps.room in
+                let same = over.keeps.room in
                 omega (arith, many, long, parts, same);
             ready = subst (λ (bs : List Standing). IsReady u bs two.own.items) (sym none) (ready_backs p u two.own.items over_backs);
             no_reply = can.room.no_last;
@@ -142,14 +147,14 @@ module _ (pool : Pool) (p : View) (names : Numbers) (lines : List Line) (t : Tab
           all_after v three lasts result b share = record {
             ran = on_ok_weaker result
                 (λ l. all_ran names lines p q tasks can.can one.own.items firsts.items done u players w v two.base.now two.start two.own.items
-                three.own.items lasts.items none (kept.start ∙ can.fresh.start) is a.went sound
+                three.own.items lasts.items none (kept.start ∙ can.fresh.start) over.own a.went sound
                 (subst (λ (ns : Numbers). LinesRan u v ns two.base.now two.start two.own.items three.own.items (lines_by is_last lines) lasts.items)
                 ((λ i. (kept.names i).now) ∙ can.fresh.names) l))
                 b.ran;
             keeps = keeps_then kept b.keeps;
             room =
                 let all = all_many names lines p q tasks can.can one.own.items firsts.items done u players w in
-                let long = ap (λ (xs : List Standing). length xs) is in
+                let long = ap (λ (xs : List Standing). length xs) over.own in
                 let parts = length-append one.own.items (names_lent players) in
                 let most = b.many in
                 omega (arith, all, long, parts, most);

@@ -31,15 +31,17 @@ use Rattle.fm_script_lines.specs.Standings.{Names, lent, standing_at}
 use Rattle.fm_script_laws.specs.Slots.{FindsTold}
 use Rattle.fm_script_laws.proofs.Workers.{workers_find}
 use Rattle.fm_workers_crew.specs.Crew.{CrewGathered, IsFresh, callers as crew_callers}
+use Rattle.fm_script_lines.proofs.Lent.{stays_lent}
+use Rattle.fm_script_lines.proofs.Rows.{ran_many}
 use Rattle.fm_script.specs.declared.player.Player.{Player}
 use Rattle.fm_script.specs.Players.{playing}
 use Rattle.fm_script.specs.Runs.{AllRan, CanRun, names_lent}
 use Rattle.fm_script.proofs.Finding.{all_told, callers_gathered, no_slot_still, none_held}
-use Rattle.fm_script.proofs.After.{lent_next, lent_twice, made_lent}
+use Rattle.fm_script.proofs.After.{lent_next, made_lent}
 use Rattle.fm_script.proofs.Gathered.{gathered_table, plain_at}
 use Rattle.fm_script.proofs.Paged.{have_pages}
 use Rattle.fm_script.proofs.Reported.{Reported, start_at, worked_lines}
-use Rattle.fm_script.proofs.Running.{as_many, workers_of}
+use Rattle.fm_script.proofs.Running.{workers_of}
 
 -- The entries of one caller are its own.
 own_kept : (c : Caller) (es : List Entry) → AllByRecursion (λ e. e.caller ≡ c) (made_by c es)
@@ -69,7 +71,7 @@ module _ (names : Numbers) (lines : List Line) (old new : View) (tasks players :
   last_dones = all.last.dones
 
   pub as_many_first : length first_names ≡ length (lines_by is_first lines)
-  as_many_first = let many = as_many all.first in omega (arith, many)
+  as_many_first = let many = ran_many all.first in omega (arith, many)
 
   abbrev pub workers : Reported (playing names lines first_names) crew.more 0 crew.passes tasks players
   workers = workers_of names lines old tasks can all.before first_names as_many_first crew.more crew.passes players
@@ -282,7 +284,7 @@ module _ (names : Numbers) (lines : List Line) (old new : View) (tasks players :
     where
       twice : (ds : List Done) → map lent (map made_lent ds) ≡ map made_lent ds
       twice [] = refl
-      twice (d ∷ ds) = λ i. lent_twice d.made i ∷ twice ds i
+      twice (d ∷ ds) = λ i. (stays_lent d.made).twice i ∷ twice ds i
 
       lent_workers : map lent (names_lent players) ≡ map made_lent (worked workers.ps)
       lent_workers = ap (λ (xs : List Standing). map lent xs) workers.lent ∙ twice (worked workers.ps)

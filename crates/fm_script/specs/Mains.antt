@@ -1,5 +1,5 @@
 -- What the passes of a script's run ask for, and what is learnt of them.
-use Rattle.std.specs.Prelude.{◌≡◌, ℕ, ◌+◌, ◌≤◌, List, [], length, vec_capacity, Result, All, OnOk}
+use Rattle.std.specs.Prelude.{◌≡◌, ℕ, ◌+◌, ◌++◌, ◌≤◌, List, [], length, vec_capacity, Result, All, OnOk}
 use Rattle.fm_arena.specs.Shares.{CanShare}
 use Rattle.fm_base.specs.declared.arena_id.ArenaId.{ArenaId}
 use Rattle.fm_rule.specs.declared.pool.Pool.{Pool}
@@ -10,12 +10,13 @@ use Rattle.fm_script_lines.specs.declared.table.Table.{Table}
 use Rattle.fm_script_lines.specs.Learnt.{IsFresh, KeepsTable}
 use Rattle.fm_script_lines.specs.Ordering.{in_order}
 use Rattle.fm_script_lines.specs.Report.{is_first, is_last, lines_by}
+use Rattle.fm_script_lines.specs.Standings.{IsBacked}
 use Rattle.fm_script_lines.specs.Tokens.{Backs}
 use Rattle.fm_workers_crew.specs.Crew.{IsWhole}
 use Rattle.fm_script.specs.declared.main_lines.MainLines.{MainLines}
 use Rattle.fm_script.specs.declared.player.Player.{Player}
 use Rattle.fm_script.specs.Players.{CanPlay, Playing}
-use Rattle.fm_script.specs.Runs.{AllRan, CanRun}
+use Rattle.fm_script.specs.Runs.{AllRan, CanRun, names_lent}
 
 -- nothing was replied yet, and there is room for the first lines' replies, the last ones', and so many names
 pub record HasRoom (lines : List Line) (names : ℕ) (m : MainLines) : Type 0 where
@@ -40,6 +41,13 @@ pub record CanRunAll (pool : Pool) (p : View) (names : Numbers) (lines : List Li
   pub can : CanRun names lines p players
   pub fresh : IsFresh names [] 0 (length (in_order (length players) lines)) t
   pub room : HasRoom lines (length (in_order (length players) lines)) m
+
+-- the workers' names stand behind those of the table
+pub record TakesOver (old new : Table) (players : List Player) : Type 0 where
+  pub keeps : KeepsTable old new
+  pub own : new.own.items ≡ old.own.items ++ names_lent players
+  pub backs : (p : View) (holds handles : List ArenaId) → Backs p holds handles old.base.now old.own.items
+      → All (IsBacked p) (names_lent players) → Backs p holds handles old.base.now new.own.items
 
 pub record AfterAll {E : Type 0} (pool : Pool) (old new : View) (names : Numbers) (lines : List Line) (was now : Table)
     (tasks players : List Player) (before after : MainLines) (result : Result (Unit {0}) E) : Type 0 where

@@ -16,7 +16,8 @@ use std::alloc::{AllocError, Global};
 
 /// The arena that each of the names stands for, if it does.
 pub(crate) fn opened_by(alloc: Global, lent: &[Bound]) -> Result<Vec<Option<ArenaId>>, AllocError>
-    ensures { IfOk result (λ opened. opened.items ≡ map (λ name. arena_of (standing_as name)) lent.now) }
+    ensures { IfOk result (λ opened. opened.items
+        ≡ map (λ name. arena_of (standing_as name)) lent.now) }
 {
     let mut opened = Vec::new(alloc);
     for name in lent {
@@ -31,7 +32,8 @@ pub(crate) fn callers_of(
     main: Caller,
     players: &[Player],
 ) -> Result<Vec<Caller>, AllocError>
-    ensures { IfOk result (λ callers. callers.items ≡ main ∷ map (λ player. player.caller) players.now) }
+    ensures { IfOk result (λ callers. callers.items
+        ≡ main ∷ map (λ player. player.caller) players.now) }
 {
     let mut callers = Vec::new(alloc);
     callers.push(main)?;

@@ -18,6 +18,9 @@
 //! worker, and of all where it is a last line. So what a worker's names stand for needs no other worker; each caller's
 //! entries in the history are the runs of its lines, one after another, and nothing else.
 //!
+//! This crate is the door of scripts: [`parse_script`] reads one, [`run_script`] runs it, [`print_report`] prints what it
+//! did.
+//!
 //! **What is not promised.** Which report comes: where two workers meet at one arena, any that tells a run of the
 //! script may. A worker's refusals for want of a slot or a page say what its own pass had found. Want of memory ends
 //! the run.
@@ -32,5 +35,8 @@ mod player;
 mod players;
 mod run;
 
+pub use fm_script_lines::Reply;
+pub use fm_script_report::{AliveArena, Report, ReportLine, print_report};
+pub use fm_script_text::{Command, Line, Script, Who, parse_script};
 pub use laws::alive_arenas_fit;
 pub use run::run_script;

@@ -65,7 +65,8 @@ fn play_as<R: Wait, T: Turns>(
 ) -> Result<(), AllocError>
     requires outside { memory.old.inside ≡ None }
     requires can { CanPlay (playing names.now lines.now firsts.now) memory.old player.old }
-    ensures { PlayedAs (playing names.now lines.now firsts.now) memory.old memory.new player.old player.new result }
+    ensures { PlayedAs (playing names.now lines.now firsts.now) memory.old memory.new player.old
+        player.new result }
 {
     let who = Who::Worker(player.number);
     let count = count_lines(lines, who);

@@ -54,7 +54,8 @@ pub(crate) fn play_main<R: Wait>(
 ) -> (Pass, Result<(), AllocError>)
     requires outside { CanShare pool.now pass }
     requires can { CanRunLines pass table.old lines.now who replies.old }
-    ensures after { AfterLines pass result.0 table.old table.new (lines_by (is_by who) lines.now) replies.new.items
+    ensures after { AfterLines pass result.0 table.old table.new
+        (lines_by (is_by who) lines.now) replies.new.items
         result.1 }
     ensures outside { CanShare pool.now result.0 }
     ensures sound { IsSound result.0 }

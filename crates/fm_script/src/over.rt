@@ -1,13 +1,10 @@
-ghost use Rattle.std.specs.Prelude.{◌≡◌, ◌+◌, ◌≤◌, ◌++◌, All, IfOk, OnErr, OnOk, List, length, vec_capacity};
+ghost use Rattle.std.specs.Prelude.{◌≡◌, ◌+◌, ◌≤◌, IfOk, OnErr, OnOk, List, length, vec_capacity};
 ghost use Rattle.fm_base.specs.declared.arena_id.ArenaId.{ArenaId};
 ghost use Rattle.fm_arena.specs.Shares.{CanShare};
-ghost use Rattle.fm_rule_facts.specs.Views.{View};
 ghost use Rattle.fm_script_lines.specs.declared.standing.Standing.{Standing};
-ghost use Rattle.fm_script_lines.specs.Learnt.{KeepsTable};
 ghost use Rattle.fm_script_lines.specs.Ordering.{in_order};
-ghost use Rattle.fm_script_lines.specs.Standings.{IsBacked};
 ghost use Rattle.fm_script_lines.specs.Tokens.{Backs};
-ghost use Rattle.fm_script.specs.Mains.{AfterAll, CanRunAll, CanWork};
+ghost use Rattle.fm_script.specs.Mains.{AfterAll, CanRunAll, CanWork, TakesOver};
 ghost use Rattle.fm_script.specs.Players.{playing};
 ghost use Rattle.fm_script.specs.Runs.{CanRun, IsCutOff, Ran, Worked, names_lent};
 
@@ -41,7 +38,8 @@ pub(crate) fn run_over<R: Threads + Wait + Sync, G: Gate>(
     requires outside { CanShare pool.now pass }
     requires can { CanRun names.now lines.now pass players.old.items }
     requires all { all ≡ length (in_order (length players.old.items) lines.now) }
-    ensures ran { IfOk result.1 (Ran names.now lines.now pass result.0 players.old.items players.new.items) }
+    ensures ran { IfOk result.1 (Ran names.now lines.now pass result.0 players.old.items
+        players.new.items) }
     ensures outside { CanShare pool.now result.0 }
 {
     let mut main = match MainLines::with_room(alloc, lines, all) {
@@ -77,8 +75,10 @@ fn run_all<R: Threads + Wait + Sync, G: Gate>(
     main: &mut MainLines,
     gate: &G,
 ) -> (Pass, Result<(), AllocError>)
-    requires can { CanRunAll pool.now pass names.now lines.now table.old players.old.items main.old }
-    ensures { AfterAll pool.now pass result.0 names.now lines.now table.old table.new players.old.items players.new.items
+    requires can { CanRunAll pool.now pass names.now lines.now table.old players.old.items
+        main.old }
+    ensures { AfterAll pool.now pass result.0 names.now lines.now table.old table.new
+        players.old.items players.new.items
         main.old main.new result.1 }
 {
     let firsts = &mut main.firsts;
@@ -111,11 +111,14 @@ fn work_players<R: Threads + Wait + Sync, G: Gate>(
     work: &Lines<R, G>,
     players: &mut Vec<Player>,
 ) -> Result<(), AllocError>
-    requires can { CanWork pool.now (playing work.now.names.now work.now.lines.now work.now.firsts.now) pass.old
+    requires can { CanWork pool.now (playing work.now.names.now work.now.lines.now
+        work.now.firsts.now) pass.old
         players.old.items }
-    ensures worked { OnOk result (Worked (playing work.now.names.now work.now.lines.now work.now.firsts.now)
+    ensures worked { OnOk result (Worked (playing work.now.names.now work.now.lines.now
+        work.now.firsts.now)
         pass.old pass.new players.old.items players.new.items) }
-    ensures backs { (holds handles : List ArenaId) (base own : List Standing) → Backs pass.old holds handles base own
+    ensures backs { (holds handles : List ArenaId) (base own : List Standing)
+        → Backs pass.old holds handles base own
         → Backs pass.new holds handles base own }
     ensures outside { CanShare pool.now pass.new }
     ensures cut { OnErr result (IsCutOff players.old.items players.new.items) }
@@ -133,12 +136,9 @@ fn work_players<R: Threads + Wait + Sync, G: Gate>(
 
 /// Puts the workers' names behind those of the table.
 fn take_over_all(table: &mut Table, players: &[Player])
-    requires room { length table.old.own.items + length (names_lent players.now) ≤ vec_capacity table.old.own }
-    ensures keeps { KeepsTable table.old table.new }
-    ensures own { table.new.own.items ≡ table.old.own.items ++ names_lent players.now }
-    ensures backs { (p : View) (holds handles : List ArenaId)
-        → Backs p holds handles table.old.base.now table.old.own.items → All (IsBacked p) (names_lent players.now)
-        → Backs p holds handles table.old.base.now table.new.own.items }
+    requires { length table.old.own.items + length (names_lent players.now)
+        ≤ vec_capacity table.old.own }
+    ensures { TakesOver table.old table.new players.now }
 {
     for player in players {
         table.take_over(player.lent.as_slice());

@@ -13,7 +13,7 @@ use Rattle.fm_base.specs.Does.{DoesOpen, DoesAllocate, DoesClose, DoesIsAlive, D
 use Rattle.fm_base.specs.Histories.{state_after}
 use Rattle.fm_base.specs.View.{but_loans}
 use Rattle.fm_base.proofs.Learning.{open_is_new, allocate_gives}
-use Rattle.fm_script_lines.specs.declared.outcome.Outcome.{Outcome}
+use Rattle.fm_script_lines.specs.declared.outcome.LineOutcome.{LineOutcome}
 use Rattle.fm_script_lines.specs.Calls.{coming, fine, Opens, Allocates, Asks, Closes, Holds, Unholds, TakesAgain, GivesBack, OverPool}
 use Rattle.fm_script_lines.specs.declared.reply.Reply.TheVariants.{Fine, Place, Truth}
 use Rattle.fm_script_lines.specs.declared.standing.Standing.TheVariants.{Segment}
@@ -52,7 +52,7 @@ module _ {c : Caller} {limit : ℕ} {s : State} {all own : List Entry} (o : Own 
       opened_there (state_after limit s all) m k id new.known
   open_there m k (Err r) d = nothing_there (state_after limit s all)
 
-  pub opens_come : (k : Kind) (out : Outcome) → Opens c k out own → Comes c limit s all out.made
+  pub opens_come : (k : Kind) (out : LineOutcome) → Opens c k out own → Comes c limit s all out.made
   opens_come k out does =
       making_comes o (λ result es. OverPool (DoesOpen c k) result (but_loans es)) (λ id. outcome Fine (opened_as does.0 k id)) out
       (λ result d. open_tidy k result d.1) (λ result d. open_there does.0 k result d.1) does.1
@@ -77,7 +77,7 @@ module _ {c : Caller} {limit : ℕ} {s : State} {all own : List Entry} (o : Own 
       record { arena = tt; segment = record { arena = (grown o).has id known; given = gives.given } }
   allocate_there id size align known (Err r) d = nothing_there (state_after limit s all)
 
-  pub allocates_come : (size align : ℕ) (id : ArenaId) (out : Outcome) → has_arena s id ≡ true → Allocates c size align id out own
+  pub allocates_come : (size align : ℕ) (id : ArenaId) (out : LineOutcome) → has_arena s id ≡ true → Allocates c size align id out own
       → Comes c limit s all out.made
   allocates_come size align id out known does =
       making_comes o (λ result es. OverPool (DoesAllocate c id size align) result (but_loans es))
@@ -92,7 +92,7 @@ module _ {c : Caller} {limit : ℕ} {s : State} {all own : List Entry} (o : Own 
   alive_tidy id (Err refusal.WrongThread) d = none_tidy o d.1
   alive_tidy id (Err r) d = absurd d
 
-  pub asks_come : (id : ArenaId) (out : Outcome) → Asks c id out own → Comes c limit s all out.made
+  pub asks_come : (id : ArenaId) (out : LineOutcome) → Asks c id out own → Comes c limit s all out.made
   asks_come id out does = plain_comes o (DoesIsAlive c id) (λ alive. plain (Truth alive)) out (λ x. refl) (alive_tidy id) does
 
   close_tidy : (id : ArenaId) (result : Result (Unit {0}) Refusal) → DoesClose c id result (but_loans own) → IsTidyBy c limit s all
@@ -103,7 +103,7 @@ module _ {c : Caller} {limit : ℕ} {s : State} {all own : List Entry} (o : Own 
   close_tidy id (Err (refusal.Held holds)) d = quiet_but o id _ d.3 (tt, tt)
   close_tidy id (Err r) d = absurd d
 
-  pub closes_come : (id : ArenaId) (out : Outcome) → Closes c id out own → Comes c limit s all out.made
+  pub closes_come : (id : ArenaId) (out : LineOutcome) → Closes c id out own → Comes c limit s all out.made
   closes_come id out does = plain_comes o (λ result es. DoesClose c id result (but_loans es)) fine out (λ x. refl) (close_tidy id) does
 
   -- ---- holds and handles
@@ -121,12 +121,12 @@ module _ {c : Caller} {limit : ℕ} {s : State} {all own : List Entry} (o : Own 
   hold_there m id (Ok u) = record { arena = tt; segment = tt }
   hold_there m id (Err r) = nothing_there (state_after limit s all)
 
-  pub holds_come : (id : ArenaId) (out : Outcome) → Holds c id out own → Comes c limit s all out.made
+  pub holds_come : (id : ArenaId) (out : LineOutcome) → Holds c id out own → Comes c limit s all out.made
   holds_come id out does =
       making_comes o (DoesHold c id) (λ u. outcome Fine (held_as does.0 id)) out (hold_tidy id) (λ result d. hold_there does.0 id result) does.1
 
-  pub unholds_come : (id : ArenaId) (out : Outcome) → Unholds c id out own → Comes c limit s all out.made
-  unholds_come id out does = nothing_comes o out.made (ap (λ (x : Outcome). x.made) does.0) (quiet_as o id _ does.1 (tt, tt))
+  pub unholds_come : (id : ArenaId) (out : LineOutcome) → Unholds c id out own → Comes c limit s all out.made
+  unholds_come id out does = nothing_comes o out.made (ap (λ (x : LineOutcome). x.made) does.0) (quiet_as o id _ does.1 (tt, tt))
 
   again_tidy : (id : ArenaId) (result : Result (Unit {0}) Refusal) → DoesAgain c id result own → IsTidyBy c limit s all
   again_tidy id (Ok u) d = quiet_as o id _ d (tt, tt)
@@ -138,7 +138,7 @@ module _ {c : Caller} {limit : ℕ} {s : State} {all own : List Entry} (o : Own 
   again_there m id (Ok u) = record { arena = tt; segment = tt }
   again_there m id (Err r) = nothing_there (state_after limit s all)
 
-  pub takes_come : (id : ArenaId) (out : Outcome) → TakesAgain c id out own → Comes c limit s all out.made
+  pub takes_come : (id : ArenaId) (out : LineOutcome) → TakesAgain c id out own → Comes c limit s all out.made
   takes_come id out does =
       making_comes o (DoesAgain c id) (λ u. outcome Fine (handled_as does.0 id)) out (again_tidy id) (λ result d. again_there does.0 id result) does.1
 
@@ -146,5 +146,5 @@ module _ {c : Caller} {limit : ℕ} {s : State} {all own : List Entry} (o : Own 
   back_tidy id true d = quiet_but o id _ d (tt, tt)
   back_tidy id false d = quiet_but o id _ d (tt, (tt, tt))
 
-  pub gives_back_comes : (id : ArenaId) (out : Outcome) → GivesBack c id out own → Comes c limit s all out.made
-  gives_back_comes id out does = nothing_comes o out.made (ap (λ (x : Outcome). x.made) does.2) (back_tidy id does.0 does.1)
+  pub gives_back_comes : (id : ArenaId) (out : LineOutcome) → GivesBack c id out own → Comes c limit s all out.made
+  gives_back_comes id out does = nothing_comes o out.made (ap (λ (x : LineOutcome). x.made) does.2) (back_tidy id does.0 does.1)

@@ -1,14 +1,19 @@
 -- What names stand for is known in a state, and stays so.
-use Rattle.std.proofs.Common.{◌≡◌, ℕ, ◌+◌, ◌≤◌, ◌==◌, Bool, true, false, if◌then◌else◌, List, Option, Some, None, arith}
+use Rattle.std.proofs.Common.{◌≡◌, ℕ, ◌+◌, ◌≤◌, ◌==◌, Bool, true, false, if◌then◌else◌, List, Option, Some, None, subst, sym, arith}
 use Rattle.std.specs.Prelude.{IfSome}
 use Rattle.fm_base.specs.Arenas.{State, arena_of, has_arena}
+use Rattle.fm_base.specs.declared.arena_id.ArenaId.{ArenaId}
 use Rattle.fm_base.proofs.Growing.{Grows}
 use Rattle.fm_script_lines.specs.declared.standing.Standing.{Standing}
-use Rattle.fm_script_lines.specs.declared.standing.Standing.TheVariants.{Nothing, Arena, Automatic, Segment, Hold, Handle}
+use Rattle.fm_script_lines.specs.declared.standing.Standing.TheVariants.{Nothing}
 use Rattle.fm_script_lines.specs.Lines.{behind, is_number}
 use Rattle.fm_script_lines.specs.Report.{Done, names_behind}
 use Rattle.fm_script_lines.specs.Standings as standing
 use Rattle.fm_script_lines.specs.Standings.{Names, lent, stands_of, unheld, handed_back}
+use Rattle.fm_script_lines.specs.Tables.{SeenAs}
+use Rattle.fm_script_lines.proofs.Backing.{some_weaker}
+use Rattle.fm_script_lines.proofs.Lent.{seen_alike, stays_lent}
+use Rattle.fm_script_lines.proofs.Naming.{lent_seen}
 use Rattle.fm_script_text.specs.declared.command.Command.{Command}
 use Rattle.fm_script_text.specs.declared.command.Command.TheVariants as command
 use Rattle.fm_segment.specs.Region.{Region}
@@ -27,11 +32,6 @@ pub record IsThere (s : State) (t : Standing) : Type 0 where
 abbrev pub AllThere : State → Names → Type 0
 AllThere s names = (n : ℕ) → IsThere s (names n)
 
--- What follows from what is known of a value, if there is one.
-pub some_too : {X : Type 0} (P Q : X → Type 0) (o : Option X) → ((x : X) → P x → Q x) → IfSome o P → IfSome o Q
-some_too P Q None f h = tt
-some_too P Q (Some x) f h = f x h
-
 -- What stands for nothing is there.
 pub nothing_there : (s : State) → IsThere s Nothing
 nothing_there s = record { arena = tt; segment = tt }
@@ -39,31 +39,30 @@ nothing_there s = record { arena = tt; segment = tt }
 -- Later too.
 pub there_on : (s u : State) → Grows s u → (t : Standing) → IsThere s t → IsThere u t
 there_on s u g t h = record {
-  arena = some_too (λ id. has_arena s id ≡ true) (λ id. has_arena u id ≡ true) (standing.arena_of t) g.has h.arena;
-  segment = some_too (IsGiven s) (IsGiven u) (standing.segment_of t)
+  arena = some_weaker (λ id. has_arena s id ≡ true) (λ id. has_arena u id ≡ true) (standing.arena_of t) g.has h.arena;
+  segment = some_weaker (IsGiven s) (IsGiven u) (standing.segment_of t)
       (λ r k. record { arena = g.has r.arena k.arena; given = (let a = k.given in let b = g.given r.arena in omega arith) }) h.segment;
 }
 
 pub all_on : (s u : State) → Grows s u → (names : Names) → AllThere s names → AllThere u names
 all_on s u g names h n = there_on s u g (names n) (h n)
 
--- So is what is left of it: to others, and once a hold or a handle was given back.
+-- So is what may be used as it may.
+there_as : (s : State) (t u : Standing) → SeenAs t u → IsThere s u → IsThere s t
+there_as s t u seen h = record {
+  arena = subst (λ (o : Option ArenaId). IfSome o (λ id. has_arena s id ≡ true)) (sym seen.arena) h.arena;
+  segment = subst (λ (o : Option Region). IfSome o (IsGiven s)) (sym seen.segment) h.segment;
+}
+
+-- What is left of it is: to others, and once a hold or a handle was given back.
 pub lent_there : (s : State) (t : Standing) → IsThere s t → IsThere s (lent t)
-lent_there s Nothing h = h
-lent_there s (Arena id) h = h
-lent_there s (Automatic id handle) h = record { arena = h.arena; segment = tt }
-lent_there s (Segment r) h = h
-lent_there s (Hold hold) h = record { arena = tt; segment = tt }
-lent_there s (Handle handle) h = record { arena = tt; segment = tt }
+lent_there s t = there_as s (lent t) t (lent_seen t)
 
 unheld_there : (s : State) (t : Standing) → IsThere s t → IsThere s (unheld t)
-unheld_there s (Hold hold) h = record { arena = tt; segment = tt }
-unheld_there s t h = h
+unheld_there s t = there_as s (unheld t) t (seen_alike (unheld t) t (stays_lent t).once_unheld)
 
 handed_there : (s : State) (t : Standing) → IsThere s t → IsThere s (handed_back t)
-handed_there s (Automatic id handle) h = record { arena = h.arena; segment = tt }
-handed_there s (Handle handle) h = record { arena = tt; segment = tt }
-handed_there s t h = h
+handed_there s t = there_as s (handed_back t) t (seen_alike (handed_back t) t (stays_lent t).once_handed)
 
 -- One of two that are.
 pub either_there : (s : State) (b : Bool) (t u : Standing) → IsThere s t → IsThere s u → IsThere s (if b then t else u)

@@ -15,7 +15,7 @@ use Rattle.fm_base.specs.Histories.{IsLegal, made_by, state_after}
 use Rattle.fm_base.specs.View.{View, Makes, inside_after}
 use Rattle.fm_base.proofs.Growing.{Grows, Grows-state_after}
 use Rattle.fm_path.specs.Resolution.{Resolution, StaysInside}
-use Rattle.fm_script_lines.specs.declared.outcome.Outcome.{Outcome}
+use Rattle.fm_script_lines.specs.declared.outcome.LineOutcome.{LineOutcome}
 use Rattle.fm_script_lines.specs.declared.standing.Standing.{Standing}
 use Rattle.fm_script_lines.specs.declared.standing.Standing.TheVariants.{Nothing}
 use Rattle.fm_script_lines.specs.Calls.{Line, On, Skips, Called, coming}
@@ -43,7 +43,7 @@ nobody_alone (inl e) = absurd (let no : ⊥ = cc in no)
 nobody_alone (inr e) = absurd e
 
 -- An answer of either kind makes nothing.
-coming_nothing : {X : Type 0} (ok : X → Outcome) → ((x : X) → (ok x).made ≡ Nothing) → (result : Result X Refusal) → (coming ok result).made ≡ Nothing
+coming_nothing : {X : Type 0} (ok : X → LineOutcome) → ((x : X) → (ok x).made ≡ Nothing) → (result : Result X Refusal) → (coming ok result).made ≡ Nothing
 coming_nothing ok h (Ok x) = h x
 coming_nothing ok h (Err e) = refl
 
@@ -95,27 +95,27 @@ module _ {c : Caller} {limit : ℕ} {s : State} {all own : List Entry} (o : Own 
   nothing_comes made is tidy = record { tidy = tidy; there = subst (IsThere (state_after limit s all)) (sym is) (nothing_there (state_after limit s all)) }
 
   -- A line that is skipped.
-  pub skips_come : (out : Outcome) → Skips out own → Comes c limit s all out.made
-  skips_come out h = nothing_comes out.made (ap (λ (x : Outcome). x.made) h.0) (none_tidy h.1)
+  pub skips_come : (out : LineOutcome) → Skips out own → Comes c limit s all out.made
+  skips_come out h = nothing_comes out.made (ap (λ (x : LineOutcome). x.made) h.0) (none_tidy h.1)
 
   -- A line on what a name stands for, if it stands for that.
-  pub on_comes : {X : Type 0} (P : X → Type 0) (found : Option X) (Does : X → Line) (out : Outcome) → IfSome found P
+  pub on_comes : {X : Type 0} (P : X → Type 0) (found : Option X) (Does : X → Line) (out : LineOutcome) → IfSome found P
       → ((x : X) → P x → Does x out own → Comes c limit s all out.made) → On found Does out own → Comes c limit s all out.made
   on_comes P None Does out h f does = skips_come out does
   on_comes P (Some x) Does out h f does = f x h does
 
   -- A call whose answer makes nothing.
-  pub plain_comes : {X : Type 0} (Does : Result X Refusal → List Entry → Type 0) (ok : X → Outcome) (out : Outcome) → ((x : X) → (ok x).made ≡ Nothing)
+  pub plain_comes : {X : Type 0} (Does : Result X Refusal → List Entry → Type 0) (ok : X → LineOutcome) (out : LineOutcome) → ((x : X) → (ok x).made ≡ Nothing)
       → ((result : Result X Refusal) → Does result own → IsTidyBy c limit s all) → Called Does ok out own → Comes c limit s all out.made
   plain_comes Does ok out h f does =
-      nothing_comes out.made (ap (λ (x : Outcome). x.made) does.2 ∙ coming_nothing ok h does.0) (f does.0 does.1)
+      nothing_comes out.made (ap (λ (x : LineOutcome). x.made) does.2 ∙ coming_nothing ok h does.0) (f does.0 does.1)
 
   -- A call whose answer makes what is there.
-  pub making_comes : {X : Type 0} (Does : Result X Refusal → List Entry → Type 0) (ok : X → Outcome) (out : Outcome)
+  pub making_comes : {X : Type 0} (Does : Result X Refusal → List Entry → Type 0) (ok : X → LineOutcome) (out : LineOutcome)
       → ((result : Result X Refusal) → Does result own → IsTidyBy c limit s all)
       → ((result : Result X Refusal) → Does result own → IsThere (state_after limit s all) (coming ok result).made)
       → Called Does ok out own → Comes c limit s all out.made
   making_comes Does ok out f g does = record {
     tidy = f does.0 does.1;
-    there = subst (λ (x : Outcome). IsThere (state_after limit s all) x.made) (sym does.2) (g does.0 does.1);
+    there = subst (λ (x : LineOutcome). IsThere (state_after limit s all) x.made) (sym does.2) (g does.0 does.1);
   }

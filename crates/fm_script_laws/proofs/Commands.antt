@@ -4,7 +4,7 @@ use Rattle.fm_base.specs.declared.arena_id.ArenaId.{ArenaId}
 use Rattle.fm_base.specs.declared.caller.Caller.{Caller}
 use Rattle.fm_base.specs.Arenas.{State, has_arena}
 use Rattle.fm_base.specs.Calls.{Entry}
-use Rattle.fm_script_lines.specs.declared.outcome.Outcome.{Outcome}
+use Rattle.fm_script_lines.specs.declared.outcome.LineOutcome.{LineOutcome}
 use Rattle.fm_script_lines.specs.declared.standing.Standing.{Standing}
 use Rattle.fm_script_lines.specs.Calls.{Line, On, Called, Answers, segment_made, CallDoes, Gets, Sets, Adds, Exchanges, Fills, Copies, Compares, Allocates, Asks, Closes, Holds, Unholds, TakesAgain, GivesBack}
 use Rattle.fm_script_lines.specs.Standings as standing
@@ -25,7 +25,7 @@ any None = tt
 any (Some x) = tt
 
 module _ {c : Caller} {limit : ℕ} {s : State} {all own : List Entry} (o : Own c limit s all own) (stands : List ℕ → Standing)
-    (there : (name : List ℕ) → IsThere s (stands name)) (out : Outcome) where
+    (there : (name : List ℕ) → IsThere s (stands name)) (out : LineOutcome) where
   -- On an arena.
   arena_comes : (name : List ℕ) (Does : ArenaId → Line) → ((id : ArenaId) → has_arena s id ≡ true → Does id out own → Comes c limit s all out.made)
       → On (standing.arena_of (stands name)) Does out own → Comes c limit s all out.made

@@ -13,7 +13,7 @@ use Rattle.fm_base_lists.specs.Among.{IsAmong}
 use Rattle.fm_base_lists.proofs.Among.{among_either}
 use Rattle.fm_rule_facts.specs.Views.{In}
 use Rattle.fm_rule_facts.proofs.Keeping.{in_left, in_right}
-use Rattle.fm_script_lines.specs.declared.outcome.Outcome.{Outcome}
+use Rattle.fm_script_lines.specs.declared.outcome.LineOutcome.{LineOutcome}
 use Rattle.fm_script_lines.specs.declared.reply.Reply.TheVariants as reply
 use Rattle.fm_script_lines.specs.declared.standing.Standing.{Standing}
 use Rattle.fm_script_lines.specs.Calls.{Line, On, Called, Answers, CallDoes, Gets, Sets, Adds, Exchanges, Fills, Copies, Compares, Allocates, Asks, Closes, Holds, Unholds, TakesAgain, GivesBack, coming, segment_made, tree_of}
@@ -37,7 +37,8 @@ use Rattle.fm_script_laws.proofs.Opened.{among_but, but_as, none_opens}
 
 module _ (c : Caller) (own : List Entry) where
   -- On what a name stands for.
-  on_none : {X : Type 0} (o : Option X) (Does : X → Line) (out : Outcome) → ((x : X) → Does x out own → AllOpenNone own) → On o Does out own → AllOpenNone own
+  on_none : {X : Type 0} (o : Option X) (Does : X → Line) (out : LineOutcome) → ((x : X) → Does x out own → AllOpenNone own) → On o Does out own
+      → AllOpenNone own
   on_none None Does out f d = open_as own [] d.1 tt
   on_none (Some x) Does out f d = f x d
 
@@ -83,7 +84,7 @@ module _ (c : Caller) (own : List Entry) where
   back_none id false d = but_as own _ d (tt, (tt, tt))
 
   -- Each command but `open`.
-  module _ (stands : List ℕ → Standing) (out : Outcome) where
+  module _ (stands : List ℕ → Standing) (out : LineOutcome) where
     on_arena : (name : List ℕ) (Does : ArenaId → Line) → ((id : ArenaId) → Does id out own → AllOpenNone own)
         → On (standing.arena_of (stands name)) Does out own → AllOpenNone own
     on_arena name Does f d = on_none (standing.arena_of (stands name)) Does out f d
@@ -132,7 +133,7 @@ module _ (c : Caller) (own : List Entry) where
 -- ---- lines that open one
 
 -- it opened this arena
-record OpenedBy (a : ArenaId) (k : Command) (out : Outcome) : Type 0 where
+record OpenedBy (a : ArenaId) (k : Command) (out : LineOutcome) : Type 0 where
   opens : opens k ≡ true
   fine : out.reply ≡ reply.Fine
   is : standing.arena_of out.made ≡ Some a
@@ -145,7 +146,7 @@ opened_arena m kind.Shared id = refl
 
 module _ (c : Caller) (own : List Entry) (e : Entry) (a : ArenaId) (among : IsAmong e own) (call : e.call ≡ Open a) where
   -- Its one entry but for loans is this.
-  open_opens : (m : Made) (name : List ℕ) (k : Kind) (result : Result ArenaId Refusal) (out : Outcome) → DoesOpen c k result (but_loans own)
+  open_opens : (m : Made) (name : List ℕ) (k : Kind) (result : Result ArenaId Refusal) (out : LineOutcome) → DoesOpen c k result (but_loans own)
       → out ≡ coming (λ id. outcome reply.Fine (opened_as m k id)) result → OpenedBy a (command.Open name k) out
   open_opens m name k (Ok id) out d is =
       let one : IsAmong e (entry_of c (Open id) Fine ∷ []) = subst (λ (es : List Entry). IsAmong e es) d.2 (among_but e a own call among) in
@@ -154,14 +155,14 @@ module _ (c : Caller) (own : List Entry) (e : Entry) (a : ArenaId) (among : IsAm
       let same : id ≡ a = cc in
       record {
         opens = refl;
-        fine = ap (λ (x : Outcome). x.reply) is;
-        is = ap (λ (x : Outcome). standing.arena_of x.made) is ∙ (opened_arena m k id ∙ ap Some same);
+        fine = ap (λ (x : LineOutcome). x.reply) is;
+        is = ap (λ (x : LineOutcome). standing.arena_of x.made) is ∙ (opened_arena m k id ∙ ap Some same);
       }
   open_opens m name k (Err refusal.NoSlot) out d is = absurd (none_opens e a own (but_as own [] d tt) among call)
   open_opens m name k (Err refusal.Memory) out d is = absurd (none_opens e a own (but_as own [] d tt) among call)
   open_opens m name k (Err r) out d is = absurd d
 
-  line_opens : (stands : List ℕ → Standing) (k : Command) (out : Outcome) → CallDoes c stands k out own → OpenedBy a k out
+  line_opens : (stands : List ℕ → Standing) (k : Command) (out : LineOutcome) → CallDoes c stands k out own → OpenedBy a k out
   line_opens stands (command.Open name kind) out does = open_opens does.0 name kind does.1.0 out does.1.1.1 does.1.2
   line_opens stands k out does = absurd (none_opens e a own (call_none c own stands out k refl does) among call)
 

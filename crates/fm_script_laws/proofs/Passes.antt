@@ -12,12 +12,12 @@ use Rattle.fm_script_lines.specs.Outcomes.{outcome}
 use Rattle.fm_script_lines.specs.Runs.{Went}
 use Rattle.fm_script_lines.specs.Standings.{standing_at, standing_of, segment_of}
 use Rattle.fm_script_lines.specs.Tokens.{IsReady}
-use Rattle.fm_script_lines.proofs.Backing.{arena_known, name_known, segment_known}
+use Rattle.fm_script_lines.proofs.Backing.{arena_known, name_known, segment_known, some_weaker}
 use Rattle.fm_script_text.specs.declared.line.Line.{Line}
 use Rattle.fm_segment.specs.Access as segment
 use Rattle.fm_words.specs.declared.shape.Shape.{Shape}
 use Rattle.fm_script_laws.specs.Lines.{FillsWithByte, LineIsTidy, LinesAreTidy}
-use Rattle.fm_script_laws.proofs.Backing.{IsGiven, IsThere, some_too}
+use Rattle.fm_script_laws.proofs.Backing.{IsGiven, IsThere}
 use Rattle.fm_script_laws.proofs.Commands.{call_comes}
 use Rattle.fm_script_laws.proofs.Rows.{row_comes}
 
@@ -29,7 +29,7 @@ ready_there p base own start number ready =
     let known = name_known p ready.backs start number in
     record {
       arena = arena_known p t known;
-      segment = some_too (segment.IsKnown (view_of_pass p)) (IsGiven (state_in p)) (segment_of t) (λ r k. record { arena = k.arena; given = k.given })
+      segment = some_weaker (segment.IsKnown (view_of_pass p)) (IsGiven (state_in p)) (segment_of t) (λ r k. record { arena = k.arena; given = k.given })
           (segment_known p t known);
     }
 

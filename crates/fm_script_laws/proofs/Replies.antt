@@ -13,7 +13,7 @@ use Rattle.fm_handle.specs.Access.{DoesVisit}
 use Rattle.fm_handle.specs.Acts.{Adds as AddsActs, Exchanges as ExchangesActs}
 use Rattle.fm_handle.specs.Place.{can_update, update_place_of}
 use Rattle.fm_base_lists.proofs.Each.{all_both}
-use Rattle.fm_script_lines.specs.declared.outcome.Outcome.{Outcome}
+use Rattle.fm_script_lines.specs.declared.outcome.LineOutcome.{LineOutcome}
 use Rattle.fm_script_lines.specs.declared.reply.Reply.{Reply}
 use Rattle.fm_script_lines.specs.declared.reply.Reply.TheVariants as reply
 use Rattle.fm_script_lines.specs.declared.standing.Standing.{Standing}
@@ -45,14 +45,14 @@ tells c r h = record {
 -- ---- lines
 
 -- The reply that an answer comes to.
-coming_may : {X : Type 0} (ok : X → Outcome) → ((x : X) → MayBe (ok x).reply) → (result : Result X Refusal) → May result → (out : Outcome)
+coming_may : {X : Type 0} (ok : X → LineOutcome) → ((x : X) → MayBe (ok x).reply) → (result : Result X Refusal) → May result → (out : LineOutcome)
     → out ≡ coming ok result → MayBe out.reply
-coming_may ok f (Ok x) may out is = subst (λ (o : Outcome). MayBe o.reply) (sym is) (f x)
-coming_may ok f (Err r) may out is = subst (λ (o : Outcome). MayBe o.reply) (sym is) may
+coming_may ok f (Ok x) may out is = subst (λ (o : LineOutcome). MayBe o.reply) (sym is) (f x)
+coming_may ok f (Err r) may out is = subst (λ (o : LineOutcome). MayBe o.reply) (sym is) may
 
-on_may : {X : Type 0} (found : Option X) (Does : X → Line) (out : Outcome) (own : List Entry) → ((x : X) → Does x out own → MayBe out.reply)
+on_may : {X : Type 0} (found : Option X) (Does : X → Line) (out : LineOutcome) (own : List Entry) → ((x : X) → Does x out own → MayBe out.reply)
     → On found Does out own → MayBe out.reply
-on_may None Does out own f d = subst (λ (o : Outcome). MayBe o.reply) (sym d.0) tt
+on_may None Does out own f d = subst (λ (o : LineOutcome). MayBe o.reply) (sym d.0) tt
 on_may (Some x) Does out own f d = f x d
 
 back_may : (c : Caller) (others_left : Bool) → MayBe (kept_or_ended c others_left)
@@ -62,7 +62,7 @@ back_may c false = tt
 slice_may : (offset size : ℕ) (r : Region) → May (slice_of offset size r)
 slice_may offset size r = if_may (nat_le (offset + size) r.size) (Ok (part_of offset size r)) (Err refusal.Bounds) tt tt
 
-module _ (c : Caller) (stands : List ℕ → Standing) (out : Outcome) (own : List Entry) where
+module _ (c : Caller) (stands : List ℕ → Standing) (out : LineOutcome) (own : List Entry) where
   on_arena : (name : List ℕ) (Does : ArenaId → Line) → ((id : ArenaId) → Does id out own → MayBe out.reply)
       → On (standing.arena_of (stands name)) Does out own → MayBe out.reply
   on_arena name Does f d = on_may (standing.arena_of (stands name)) Does out own f d
@@ -72,11 +72,11 @@ module _ (c : Caller) (stands : List ℕ → Standing) (out : Outcome) (own : Li
   on_segment name Does f d = on_may (standing.segment_of (stands name)) Does out own f d
 
   -- A call whose answer makes no refusal of its own.
-  called : {X : Type 0} (Does : Result X Refusal → List Entry → Type 0) (ok : X → Outcome) → ((x : X) → MayBe (ok x).reply)
+  called : {X : Type 0} (Does : Result X Refusal → List Entry → Type 0) (ok : X → LineOutcome) → ((x : X) → MayBe (ok x).reply)
       → ((result : Result X Refusal) → Does result own → May result) → Called Does ok out own → MayBe out.reply
   called Does ok f may d = coming_may ok f d.0 (may d.0 d.1) out d.2
 
-  got : {X : Type 0} (answer : Result X Refusal) (ok : X → Outcome) → ((x : X) → MayBe (ok x).reply) → May answer → Called (Answers answer) ok out own
+  got : {X : Type 0} (answer : Result X Refusal) (ok : X → LineOutcome) → ((x : X) → MayBe (ok x).reply) → May answer → Called (Answers answer) ok out own
       → MayBe out.reply
   got answer ok f may d = called (Answers answer) ok f (λ result e. subst (λ (x : Result _ Refusal). May x) (sym e.0) may) d
 
@@ -123,20 +123,20 @@ module _ (c : Caller) (stands : List ℕ → Standing) (out : Outcome) (own : Li
   line_may (command.Hold arena name) none d =
       on_arena arena (Holds c) (λ id e. coming_may (λ u. outcome reply.Fine (held_as e.0 id)) (λ v. tt) e.1.0 (hold_may c own id e.1.0 e.1.1) out e.1.2) d
   line_may (command.Unhold hold) none d =
-      on_may (standing.hold_of (stands hold)) (Unholds c) out own (λ id e. subst (λ (o : Outcome). MayBe o.reply) (sym e.0) tt) d
+      on_may (standing.hold_of (stands hold)) (Unholds c) out own (λ id e. subst (λ (o : LineOutcome). MayBe o.reply) (sym e.0) tt) d
   line_may (command.Again handle name) none d =
       on_may (standing.handle_of (stands handle)) (TakesAgain c) out own
       (λ id e. coming_may (λ u. outcome reply.Fine (handled_as e.0 id)) (λ v. tt) e.1.0 (again_may c own id e.1.0 e.1.1) out e.1.2) d
   line_may (command.Back handle) none d =
       on_may (standing.handle_of (stands handle)) (GivesBack c) out own
-      (λ id e. subst (λ (o : Outcome). MayBe o.reply) (sym e.2) (back_may c e.0)) d
+      (λ id e. subst (λ (o : LineOutcome). MayBe o.reply) (sym e.2) (back_may c e.0)) d
   line_may (command.Close arena) none d =
       on_arena arena (Closes c) (λ id e. coming_may fine (λ v. tt) e.0 (close_may c own id e.0 e.1) out e.2) d
 
   -- No allocation takes memory.
   no_memory : (o : Option ArenaId) (size align : ℕ) → On o (Allocates c size align) out own → out.reply ≢ reply.Refused refusal.Memory
-  no_memory None size align d e = let said : reply.Skipped ≡ reply.Refused refusal.Memory = sym (ap (λ (x : Outcome). x.reply) d.0) ∙ e in absurd (cc)
-  no_memory (Some id) size align d e = answered d.0 d.1.0 (sym (ap (λ (x : Outcome). x.reply) d.2) ∙ e)
+  no_memory None size align d e = let said : reply.Skipped ≡ reply.Refused refusal.Memory = sym (ap (λ (x : LineOutcome). x.reply) d.0) ∙ e in absurd (cc)
+  no_memory (Some id) size align d e = answered d.0 d.1.0 (sym (ap (λ (x : LineOutcome). x.reply) d.2) ∙ e)
     where
       answered : (result : Result ℕ Refusal) → MayCome nature_of_shared result
           → (coming (λ place. outcome (reply.Place place) (Segment (region_of id place size))) result).reply ≢ reply.Refused refusal.Memory

@@ -20,7 +20,7 @@ use Rattle.fm_layout.proofs.Sound.{IsPowerOfTwo-width, width_bounds}
 use Rattle.fm_path.specs.Resolution.{Resolution, StaysInside, IsSpecOf}
 use Rattle.fm_path_meaning.specs.declared.dim.Dim.{Dim}
 use Rattle.fm_path_meaning.specs.Found.{HasDims, no_step}
-use Rattle.fm_script_lines.specs.declared.outcome.Outcome.{Outcome}
+use Rattle.fm_script_lines.specs.declared.outcome.LineOutcome.{LineOutcome}
 use Rattle.fm_script_lines.specs.declared.reply.Reply.TheVariants.{Number}
 use Rattle.fm_script_lines.specs.Calls.{Called, Answers, coming, fine, number, segment_made, tree_of, IsHandleOf, Gets, Sets, Adds, Exchanges, Fills, Copies, Compares}
 use Rattle.fm_script_lines.specs.Outcomes.{plain}
@@ -77,7 +77,7 @@ slice_there s r offset size g =
 given_on : (s u : State) → Grows s u → (r : Region) → IsGiven s r → IsGiven u r
 given_on s u g r k = record { arena = g.has r.arena k.arena; given = (let a = k.given in let b = g.given r.arena in omega arith) }
 
-module _ {c : Caller} {limit : ℕ} {s : State} {all own : List Entry} (o : Own c limit s all own) (r : Region) (g : IsGiven s r) (out : Outcome) where
+module _ {c : Caller} {limit : ℕ} {s : State} {all own : List Entry} (o : Own c limit s all own) (r : Region) (g : IsGiven s r) (out : LineOutcome) where
   given_later : IsGiven (state_after limit s all) r
   given_later = given_on s (state_after limit s all) (grown o) r g
 

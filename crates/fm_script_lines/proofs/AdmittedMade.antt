@@ -1,5 +1,5 @@
 -- What a name may stand for, by the line that makes it.
-use Rattle.std.proofs.Common.{◌≡◌, refl, sym, subst, ◌∙◌, ℕ, Option, Some, None, Result, Ok, Err, List, [], ◌∷◌, map, MatchOption, All}
+use Rattle.std.proofs.Common.{◌≡◌, refl, sym, ap, subst, ◌∙◌, ℕ, Option, Some, None, Result, Ok, Err, List, [], ◌∷◌, map, MatchOption, All}
 use Rattle.std.specs.List.{AllByRecursion}
 use Rattle.std.proofs.lemmas.List.Elements.{All-from_recursion}
 use Rattle.std.proofs.lemmas.Bool.{cond_both}
@@ -15,7 +15,7 @@ use Rattle.fm_script_text.specs.declared.thing.Thing.{Thing}
 use Rattle.fm_script_text.specs.declared.thing.Thing.TheVariants as thing
 use Rattle.fm_script_text.specs.Rules.{Made, made, opened}
 use Rattle.fm_segment.specs.Region.{Region, region_of}
-use Rattle.fm_script_lines.specs.declared.outcome.Outcome.{Outcome}
+use Rattle.fm_script_lines.specs.declared.outcome.LineOutcome.{LineOutcome}
 use Rattle.fm_script_lines.specs.declared.reply.Reply.TheVariants.{Fine, Place, Number, Truth}
 use Rattle.fm_script_lines.specs.declared.standing.Standing.{Standing}
 use Rattle.fm_script_lines.specs.declared.standing.Standing.TheVariants as standing
@@ -24,8 +24,11 @@ use Rattle.fm_script_lines.specs.Calls.{Adds, Allocates, Asks, CallDoes, Closes,
 use Rattle.fm_script_lines.specs.Outcomes.{outcome, plain}
 use Rattle.fm_script_lines.specs.Lines.{behind, is_number}
 use Rattle.fm_gate.specs.Makers.{Made as MadeBy}
+use Rattle.std.specs.Option.{option_map}
+use Rattle.fm_arena.specs.declared.handle.AutoHandle.{AutoHandle}
+use Rattle.fm_gate.specs.declared.held.Hold as held
 use Rattle.fm_script_lines.specs.Standings.{IsSpent, hold_of, handle_of, lent, handled_as, held_as, opened_as, unheld, handed_back}
-use Rattle.fm_script_lines.proofs.Naming.{handed-handle, handed-hold, lent-handle, lent-hold, unheld-handle, unheld-hold}
+use Rattle.fm_script_lines.proofs.Naming.{lent_none, tokens_left}
 
 -- a name of such may stand for it
 abbrev pub CanStand : Thing → Standing → Type 0
@@ -55,7 +58,10 @@ nothing_made (Some m) = nothing_stands m.thing
 
 -- What isn't its own pass's has neither.
 pub lent_spent : (s : Standing) → IsSpent (lent s)
-lent_spent s = record { no_hold = lent-hold s; no_handle = lent-handle s }
+lent_spent s = record {
+  no_hold = ap (option_map (λ (h : held.Hold). h.arena)) (lent_none s).0;
+  no_handle = ap (option_map (λ (h : AutoHandle). h.arena)) (lent_none s).1;
+}
 
 pub lents_spent : (ss : List Standing) → All IsSpent (map lent ss)
 lents_spent ss = All-from_recursion IsSpent (map lent ss) (each ss)
@@ -68,15 +74,15 @@ lents_spent ss = All-from_recursion IsSpent (map lent ss) (each ss)
 
 module _ (P : Standing → Type 0) (nothing : P Nothing) where
   -- Of a call's answer.
-  by_answer : {X : Type 0} (ok : X → Outcome) → ((x : X) → P (ok x).made) → (out : Outcome) (result : Result X Refusal) → out ≡ coming ok result
+  by_answer : {X : Type 0} (ok : X → LineOutcome) → ((x : X) → P (ok x).made) → (out : LineOutcome) (result : Result X Refusal) → out ≡ coming ok result
       → P out.made
-  by_answer ok made_ok out (Ok x) e = subst (λ (o : Outcome). P o.made) (sym e) (made_ok x)
-  by_answer ok made_ok out (Err r) e = subst (λ (o : Outcome). P o.made) (sym e) nothing
+  by_answer ok made_ok out (Ok x) e = subst (λ (o : LineOutcome). P o.made) (sym e) (made_ok x)
+  by_answer ok made_ok out (Err r) e = subst (λ (o : LineOutcome). P o.made) (sym e) nothing
 
   -- Of what a name stands for.
-  by_name : {X : Type 0} (o : Option X) (Does : X → Line) (out : Outcome) (own : List Entry) → ((x : X) → Does x out own → P out.made)
+  by_name : {X : Type 0} (o : Option X) (Does : X → Line) (out : LineOutcome) (own : List Entry) → ((x : X) → Does x out own → P out.made)
       → On o Does out own → P out.made
-  by_name None Does out own f d = subst (λ (o : Outcome). P o.made) (sym d.0) nothing
+  by_name None Does out own f d = subst (λ (o : LineOutcome). P o.made) (sym d.0) nothing
   by_name (Some x) Does out own f d = f x d
 
 opens : (m : MadeBy) (k : Kind) (id : ArenaId) → CanStand (opened k) (opened_as m k id)
@@ -89,7 +95,7 @@ segment_spent : (r : Region) → IsSpent (standing.Segment r)
 segment_spent r = record { no_hold = refl; no_handle = refl }
 
 -- Each line's name stands for what such a line may make.
-pub line_makes : (c : Caller) (stands : List ℕ → Standing) (command : Command) (out : Outcome) (own : List Entry) → CallDoes c stands command out own
+pub line_makes : (c : Caller) (stands : List ℕ → Standing) (command : Command) (out : LineOutcome) (own : List Entry) → CallDoes c stands command out own
     → CanMake (made command) out.made
 line_makes c stands (Open name k) out own d =
     by_answer (CanMake (made (Open name k))) (nothing_made (made (Open name k))) (λ id. outcome Fine (opened_as d.0 k id)) (opens d.0 k) out d.1.0 d.1.2
@@ -134,13 +140,13 @@ line_makes c stands (Hold arena name) out own d =
     (λ id e. by_answer (λ s. handle_of s ≡ None) refl (λ u. outcome Fine (held_as e.0 id)) (λ u. refl) out e.1.0 e.1.2) d
 line_makes c stands (Unhold hold) out own d =
     by_name IsSpent nothing_spent (hold_of (stands hold)) (Unholds c) out own
-    (λ id e. subst (λ (o : Outcome). IsSpent o.made) (sym e.0) nothing_spent) d
+    (λ id e. subst (λ (o : LineOutcome). IsSpent o.made) (sym e.0) nothing_spent) d
 line_makes c stands (Again handle name) out own d =
     by_name (λ s. hold_of s ≡ None) refl (handle_of (stands handle)) (TakesAgain c) out own
     (λ id e. by_answer (λ s. hold_of s ≡ None) refl (λ u. outcome Fine (handled_as e.0 id)) (λ u. refl) out e.1.0 e.1.2) d
 line_makes c stands (Back handle) out own d =
     by_name IsSpent nothing_spent (handle_of (stands handle)) (GivesBack c) out own
-    (λ id e. subst (λ (o : Outcome). IsSpent o.made) (sym e.2) nothing_spent) d
+    (λ id e. subst (λ (o : LineOutcome). IsSpent o.made) (sym e.2) nothing_spent) d
 line_makes c stands (Close arena) out own d =
     by_name IsSpent nothing_spent (arena_at c stands arena) (Closes c) out own
     (λ id e. by_answer IsSpent nothing_spent fine (λ v. nothing_spent) out e.0 e.2) d
@@ -150,17 +156,17 @@ line_makes c stands (Close arena) out own d =
 pub behind-hold : (number : List ℕ → Option ℕ) (command : Command) (n : ℕ) (s : Standing) → hold_of s ≡ None
     → hold_of (behind number command n s) ≡ None
 behind-hold number (Unhold hold) n s e =
-    cond_both (is_number (number hold) n) (unheld s) s (λ (x : Standing). hold_of x ≡ None) (λ _. unheld-hold s) (λ _. e)
+    cond_both (is_number (number hold) n) (unheld s) s (λ (x : Standing). hold_of x ≡ None) (λ _. (tokens_left s).unheld_hold) (λ _. e)
 behind-hold number (Back handle) n s e =
-    cond_both (is_number (number handle) n) (handed_back s) s (λ (x : Standing). hold_of x ≡ None) (λ _. handed-hold s ∙ e) (λ _. e)
+    cond_both (is_number (number handle) n) (handed_back s) s (λ (x : Standing). hold_of x ≡ None) (λ _. (tokens_left s).handed_hold ∙ e) (λ _. e)
 behind-hold number command n s e = e
 
 pub behind-handle : (number : List ℕ → Option ℕ) (command : Command) (n : ℕ) (s : Standing) → handle_of s ≡ None
     → handle_of (behind number command n s) ≡ None
 behind-handle number (Unhold hold) n s e =
-    cond_both (is_number (number hold) n) (unheld s) s (λ (x : Standing). handle_of x ≡ None) (λ _. unheld-handle s ∙ e) (λ _. e)
+    cond_both (is_number (number hold) n) (unheld s) s (λ (x : Standing). handle_of x ≡ None) (λ _. (tokens_left s).unheld_handle ∙ e) (λ _. e)
 behind-handle number (Back handle) n s e =
-    cond_both (is_number (number handle) n) (handed_back s) s (λ (x : Standing). handle_of x ≡ None) (λ _. handed-handle s) (λ _. e)
+    cond_both (is_number (number handle) n) (handed_back s) s (λ (x : Standing). handle_of x ≡ None) (λ _. (tokens_left s).handed_handle) (λ _. e)
 behind-handle number command n s e = e
 
 pub behind-spent : (number : List ℕ → Option ℕ) (command : Command) (n : ℕ) (s : Standing) → IsSpent s → IsSpent (behind number command n s)

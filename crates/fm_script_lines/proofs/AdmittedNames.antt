@@ -75,26 +75,22 @@ record GivesBack (before : List Line) (who : Who) (name : List ℕ) (c : Command
   same_pass : pass_of found.who ≡ pass_of who
   gives : returns (named name found.thing) c ≡ true
 
+-- A line of the name's own pass that names it where a hold or a handle is given back.
+given_by : (before : List Line) (who : Who) (name other : List ℕ) (c : Command) (r : Role) → other ≡ name → (w : Used (maker_of other before) who r)
+    → returns (named name w.found.thing) c ≡ true → GivesBack before who name c
+given_by before who name other c r same w gives =
+    record { found = w.found; is = ap (λ (n : List ℕ). maker_of n before) (sym same) ∙ w.is; same_pass = w.same_pass; gives = gives }
+
 gives_back : (before : List Line) (spent : List ℕ → Bool) (who : Who) (name : List ℕ) (c : Command)
     → uses (λ n r. may_use (maker_of n before) (spent n) who r) c ≡ true → is_this name (given_back c) ≡ true → GivesBack before who name c
 gives_back before spent who name (Unhold hold) u t =
-    let same : hold ≡ name = (bytes_eq-Decides hold name).0 t in
     let w = used (maker_of hold before) (spent hold) who role.Hold (λ s m v. refl) u in
-    record {
-      found = w.found;
-      is = ap (λ (n : List ℕ). maker_of n before) (sym same) ∙ w.is;
-      same_pass = w.same_pass;
-      gives = and_from (plays w.found.thing role.Hold) (bytes_eq hold name) w.fits t;
-    }
+    given_by before who name hold (Unhold hold) role.Hold ((bytes_eq-Decides hold name).0 t) w
+    (and_from (plays w.found.thing role.Hold) (bytes_eq hold name) w.fits t)
 gives_back before spent who name (Back handle) u t =
-    let same : handle ≡ name = (bytes_eq-Decides handle name).0 t in
     let w = used (maker_of handle before) (spent handle) who role.Handle (λ s m v. refl) u in
-    record {
-      found = w.found;
-      is = ap (λ (n : List ℕ). maker_of n before) (sym same) ∙ w.is;
-      same_pass = w.same_pass;
-      gives = and_from (plays w.found.thing role.Handle) (bytes_eq handle name) w.fits t;
-    }
+    given_by before who name handle (Back handle) role.Handle ((bytes_eq-Decides handle name).0 t) w
+    (and_from (plays w.found.thing role.Handle) (bytes_eq handle name) w.fits t)
 gives_back before spent who name c u t = absurd (cc)
 
 -- An admitted line that gives a name back.

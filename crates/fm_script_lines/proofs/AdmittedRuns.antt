@@ -24,7 +24,7 @@ use Rattle.fm_script_lines.specs.Playing.{LinesRan}
 use Rattle.fm_script_lines.specs.Report.{AreRun, Done, lines_of, names_after, names_behind}
 use Rattle.fm_script_lines.specs.Standings.{IsSpent, Names, standing_at, stands_of, unheld, handed_back}
 use Rattle.fm_script_lines.proofs.AdmittedMade.{CanMake, CanStand, behind-spent, behind-stands, line_makes}
-use Rattle.fm_script_lines.proofs.Naming.{handed-handle, handed-hold, standing-own, unheld-handle, unheld-hold}
+use Rattle.fm_script_lines.proofs.Naming.{standing-own, tokens_left}
 
 -- What stands for number n is nothing that has to be given back, or a later line gives it back
 pub data Left (number : List ℕ → Option ℕ) (later : List Line) (n : ℕ) (s : Standing) : Type 0 where
@@ -55,15 +55,15 @@ module _ (number : List ℕ → Option ℕ) (n : ℕ) (s : Standing) where
   unheld_spent thing.Arena p c = absurd (cc)
   unheld_spent thing.Automatic p c = absurd (cc)
   unheld_spent thing.Segment p c = absurd (cc)
-  unheld_spent thing.Hold p c = record { no_hold = unheld-hold s; no_handle = unheld-handle s ∙ c }
+  unheld_spent thing.Hold p c = record { no_hold = (tokens_left s).unheld_hold; no_handle = (tokens_left s).unheld_handle ∙ c }
   unheld_spent thing.Handle p c = absurd (cc)
 
   handed_spent : (t : Thing) → plays t role.Handle ≡ true → CanStand t s → IsSpent (handed_back s)
   handed_spent thing.Arena p c = absurd (cc)
-  handed_spent thing.Automatic p c = record { no_hold = handed-hold s ∙ c; no_handle = handed-handle s }
+  handed_spent thing.Automatic p c = record { no_hold = (tokens_left s).handed_hold ∙ c; no_handle = (tokens_left s).handed_handle }
   handed_spent thing.Segment p c = absurd (cc)
   handed_spent thing.Hold p c = absurd (cc)
-  handed_spent thing.Handle p c = record { no_hold = handed-hold s ∙ c; no_handle = handed-handle s }
+  handed_spent thing.Handle p c = record { no_hold = (tokens_left s).handed_hold ∙ c; no_handle = (tokens_left s).handed_handle }
 
   -- The line that gives it back leaves nothing of it.
   given : (m : Made) (c : Command) → number m.name ≡ Some n → CanStand m.thing s → returns m c ≡ true → IsSpent (behind number c n s)

@@ -21,7 +21,7 @@ use Rattle.fm_arena.specs.Opening.{HasNoSlot}
 use Rattle.fm_segment.specs.Region.{region_of}
 use Rattle.fm_script_text.specs.declared.command.Command.{Command}
 use Rattle.fm_script_text.specs.declared.command.Command.TheVariants.{Alloc}
-use Rattle.fm_script_lines.specs.declared.outcome.Outcome.{Outcome}
+use Rattle.fm_script_lines.specs.declared.outcome.LineOutcome.{LineOutcome}
 use Rattle.fm_script_lines.specs.declared.reply.Reply.{Reply}
 use Rattle.fm_script_lines.specs.declared.reply.Reply.TheVariants.{Place, Refused, Skipped}
 use Rattle.fm_script_lines.specs.declared.standing.Standing.{Standing}
@@ -107,8 +107,8 @@ answered_once (Err r) (Err s) e = cc
 -- What a line comes to is what its call answered.
 said_so : (id : ArenaId) (size : ℕ) (reply : Reply) (made : Standing) (result : Result ℕ Refusal)
     → outcome reply made ≡ coming (λ place. outcome (Place place) (Segment (region_of id place size))) result → reply ≡ answered result
-said_so id size reply made (Ok place) e = ap (λ (o : Outcome). o.reply) e
-said_so id size reply made (Err r) e = ap (λ (o : Outcome). o.reply) e
+said_so id size reply made (Ok place) e = ap (λ (o : LineOutcome). o.reply) e
+said_so id size reply made (Err r) e = ap (λ (o : LineOutcome). o.reply) e
 
 -- What passes the test stays among those that do.
 pub among_passes : {A : Type 0} (p : A → Bool) (x : A) (xs : List A) → p x ≡ true → IsAmong x xs → IsAmong x (filter p xs)
@@ -181,7 +181,7 @@ module _ {p q : View} {own : List Entry} (d : Done) (w : Went p q own) (whole : 
   -- A line on no arena is skipped.
   skipped_rightly : (size align : ℕ) (made : Standing) → Skips (outcome d.reply made) d.run → IsFullRightly p.shape (p.seen ++ own) size align d
   skipped_rightly size align made s =
-      let said : d.reply ≡ Skipped = ap (λ (o : Outcome). o.reply) s.0 in
+      let said : d.reply ≡ Skipped = ap (λ (o : LineOutcome). o.reply) s.0 in
       record {
         full = λ lacks. absurd (cc);
         enough = λ other e entered. absurd

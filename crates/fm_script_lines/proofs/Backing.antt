@@ -26,10 +26,11 @@ use Rattle.fm_script_lines.specs.declared.standing.Standing.TheVariants as stand
 use Rattle.fm_script_lines.specs.declared.standing.Standing.TheVariants.{Nothing, Arena, Segment, Hold, Handle}
 use Rattle.fm_script_lines.specs.Standings.{IsBacked, IsHandleIn, standing_at, standing_of, arena_of, segment_of, hold_in, handle_in, hold_of, handle_of, lent, unheld, handed_back, standing_as}
 use Rattle.fm_script_lines.specs.Tokens.{Backs, BacksWith, HasTokens, among, onto, holds_with, handles_with}
-use Rattle.fm_script_lines.proofs.Naming.{unheld-hold, unheld-handle, handed-hold, handed-handle, owned, lent-handle_in, standing-others, standing-between, standing-own}
+use Rattle.fm_script_lines.proofs.Naming.{lent_none, of_name, owned, tokens_left}
 use Rattle.fm_script_lines.proofs.Counting.{among_push, among_set, how_many_onto, token_in, token_more, token_less}
 
-some_weaker : {X : Type 0} (P Q : X → Type 0) (o : Option X) → ((x : X) → P x → Q x) → IfSome o P → IfSome o Q
+-- What follows from what is known of a value, if there is one.
+pub some_weaker : {X : Type 0} (P Q : X → Type 0) (o : Option X) → ((x : X) → P x → Q x) → IfSome o P → IfSome o Q
 some_weaker P Q None f h = tt
 some_weaker P Q (Some x) f h = f x h
 
@@ -42,29 +43,22 @@ backed_later p q l same (Segment r) b = record { arena = l.known r.arena b.arena
 backed_later p q l same (Hold hold) b = some_weaker _ _ hold (λ h k. (l.known h.arena k.0, k.1, k.2 ∙ sym same)) b
 backed_later p q l same (Handle handle) b = some_weaker _ _ handle (λ h k. (l.known h.arena k.0, k.1, k.2 ∙ sym same)) b
 
-pub backed_unheld : (p : View) (s : Standing) → IsBacked p s → IsBacked p (unheld s)
-backed_unheld p Nothing b = b
-backed_unheld p (Arena id) b = b
-backed_unheld p (standing.Automatic id handle) b = b
-backed_unheld p (Segment r) b = b
-backed_unheld p (Hold hold) b = tt
-backed_unheld p (Handle handle) b = b
+-- a name of which a hold or a handle was given back, or which is lent, is backed
+record IsBackedStill (p : View) (s : Standing) : Type 0 where
+  unheld_backed : IsBacked p (unheld s)
+  handed_backed : IsBacked p (handed_back s)
+  lent_backed : IsBacked p (lent s)
 
-pub backed_handed : (p : View) (s : Standing) → IsBacked p s → IsBacked p (handed_back s)
-backed_handed p Nothing b = b
-backed_handed p (Arena id) b = b
-backed_handed p (standing.Automatic id handle) b = (b.0, tt)
-backed_handed p (Segment r) b = b
-backed_handed p (Hold hold) b = b
-backed_handed p (Handle handle) b = tt
+still_backed : (p : View) (s : Standing) → IsBacked p s → IsBackedStill p s
+still_backed p Nothing b = record { unheld_backed = b; handed_backed = b; lent_backed = b }
+still_backed p (Arena id) b = record { unheld_backed = b; handed_backed = b; lent_backed = b }
+still_backed p (standing.Automatic id handle) b = record { unheld_backed = b; handed_backed = (b.0, tt); lent_backed = b.0 }
+still_backed p (Segment r) b = record { unheld_backed = b; handed_backed = b; lent_backed = b }
+still_backed p (Hold hold) b = record { unheld_backed = tt; handed_backed = b; lent_backed = tt }
+still_backed p (Handle handle) b = record { unheld_backed = b; handed_backed = tt; lent_backed = tt }
 
 pub backed_lent : (p : View) (s : Standing) → IsBacked p s → IsBacked p (lent s)
-backed_lent p Nothing b = b
-backed_lent p (Arena id) b = b
-backed_lent p (standing.Automatic id handle) b = b.0
-backed_lent p (Segment r) b = b
-backed_lent p (Hold hold) b = tt
-backed_lent p (Handle handle) b = tt
+backed_lent p s b = (still_backed p s b).lent_backed
 
 -- ---- tokens
 
@@ -145,9 +139,9 @@ module _ (p : View) {all_holds all_handles holds handles : List ArenaId} {base o
       let s = get_or own at Nothing in
       record {
         others_known = b.others_known;
-        own_known = All-set (IsBacked p) own at (unheld s) (backed_unheld p s (b.own_known at Nothing k)) b.own_known;
-        has_holds = tokens_less hold_of own at (unheld s) a k was (unheld-hold s) b.has_holds;
-        has_handles = tokens_same handle_of own at (unheld s) k (unheld-handle s) b.has_handles;
+        own_known = All-set (IsBacked p) own at (unheld s) (still_backed p s (b.own_known at Nothing k)).unheld_backed b.own_known;
+        has_holds = tokens_less hold_of own at (unheld s) a k was (tokens_left s).unheld_hold b.has_holds;
+        has_handles = tokens_same handle_of own at (unheld s) k (tokens_left s).unheld_handle b.has_handles;
       }
 
   -- A handle less.
@@ -157,20 +151,24 @@ module _ (p : View) {all_holds all_handles holds handles : List ArenaId} {base o
       let s = get_or own at Nothing in
       record {
         others_known = b.others_known;
-        own_known = All-set (IsBacked p) own at (handed_back s) (backed_handed p s (b.own_known at Nothing k)) b.own_known;
-        has_holds = tokens_same hold_of own at (handed_back s) k (handed-hold s) b.has_holds;
-        has_handles = tokens_less handle_of own at (handed_back s) a k was (handed-handle s) b.has_handles;
+        own_known = All-set (IsBacked p) own at (handed_back s) (still_backed p s (b.own_known at Nothing k)).handed_backed b.own_known;
+        has_holds = tokens_same hold_of own at (handed_back s) k (tokens_left s).handed_hold b.has_holds;
+        has_handles = tokens_less handle_of own at (handed_back s) a k was (tokens_left s).handed_handle b.has_handles;
       }
+
+-- Nothing changes where no call is made.
+lasts_same : (p : View) → Lasts (view_of_pass p) (view_of_pass p)
+lasts_same p = record { known = λ id k. k; given = λ id. omega arith; limit = refl; caller = refl }
 
 -- Another pass's name more.
 pub backs_lent : (p : View) {holds handles : List ArenaId} {base own : List Standing} (o : Bound) → Backs p holds handles base own
     → IsBacked p (standing_as o) → Backs p holds handles base (own ++ standing_as o ∷ [])
 backs_lent p other.Nothing b known =
-    backs_more p p b (record { known = λ id k. k; given = λ id. omega arith; limit = refl; caller = refl }) refl Nothing refl refl known
+    backs_more p p b (lasts_same p) refl Nothing refl refl known
 backs_lent p (other.Arena id) b known =
-    backs_more p p b (record { known = λ id k. k; given = λ id. omega arith; limit = refl; caller = refl }) refl (Arena id) refl refl known
+    backs_more p p b (lasts_same p) refl (Arena id) refl refl known
 backs_lent p (other.Segment r) b known =
-    backs_more p p b (record { known = λ id k. k; given = λ id. omega arith; limit = refl; caller = refl }) refl (Segment r) refl refl known
+    backs_more p p b (lasts_same p) refl (Segment r) refl refl known
 
 -- ---- what it lets the pass do
 
@@ -189,22 +187,15 @@ among_some token (s ∷ ss) (suc at) a l e =
 
 backed_hold : (p : View) (s : Standing) (h : held.Hold) → IsBacked p s → hold_in s ≡ Some h
     → IsKnown p h.arena × (h.arena.kind ≢ Automatic) × (h.maker ≡ made_by_pass p)
-backed_hold p Nothing h b e = absurd (cc)
-backed_hold p (Arena id) h b e = absurd (cc)
-backed_hold p (standing.Automatic id handle) h b e = absurd (cc)
-backed_hold p (Segment r) h b e = absurd (cc)
 backed_hold p (Hold hold) h b e =
     subst (λ (o : Option held.Hold). IfSome o (λ x. IsKnown p x.arena × (x.arena.kind ≢ Automatic) × (x.maker ≡ made_by_pass p))) e b
-backed_hold p (Handle handle) h b e = absurd (cc)
+backed_hold p s h b e = absurd (cc)
 
 backed_handle : (p : View) (s : Standing) (h : AutoHandle) → IsBacked p s → handle_in s ≡ Some h
     → IsKnown p h.arena × (h.arena.kind ≡ Automatic) × (h.maker ≡ made_by_pass p)
-backed_handle p Nothing h b e = absurd (cc)
-backed_handle p (Arena id) h b e = absurd (cc)
 backed_handle p (standing.Automatic id handle) h b e = subst (λ (o : Option AutoHandle). IsHandleIn p o) e b.1
-backed_handle p (Segment r) h b e = absurd (cc)
-backed_handle p (Hold hold) h b e = absurd (cc)
 backed_handle p (Handle handle) h b e = subst (λ (o : Option AutoHandle). IsHandleIn p o) e b
+backed_handle p s h b e = absurd (cc)
 
 module _ (p : View) {holds handles : List ArenaId} {base own : List Standing} (b : Backs p holds handles base own) where
   pub can_unhold : (at : ℕ) (h : held.Hold) → at < length own → hold_in (get_or own at Nothing) ≡ Some h → CanUnhold p h
@@ -230,43 +221,22 @@ module _ (p : View) {holds handles : List ArenaId} {base own : List Standing} (b
       }
 
   pub is_handled : (start : ℕ) (number : Option ℕ) (h : AutoHandle) → handle_in (standing_of base start own number) ≡ Some h → HasHandle p h
-  is_handled start number h is = let o = owned handle_in lent-handle_in refl base start own number h is in has_handle o.0 h o.1.0 o.1.1
+  is_handled start number h is = let o = owned handle_in (λ s. (lent_none s).1) refl base start own number h is in has_handle o.0 h o.1.0 o.1.1
 
   -- Each name, as an arena or a segment.
   pub name_known : (start : ℕ) (number : Option ℕ) → IsBacked p (lent (standing_of base start own number))
-  name_known start None = tt
-  name_known start (Some n) = go (nat_lt n (length base)) refl (nat_lt n start) refl (nat_lt (n - start) (length own)) refl
-    where
-      go : (x : Bool) → nat_lt n (length base) ≡ x → (y : Bool) → nat_lt n start ≡ y → (z : Bool) → nat_lt (n - start) (length own) ≡ z
-          → IsBacked p (lent (standing_at base start own n))
-      go true e y f z g =
-          let l = ltb-true n (length base) e in
-          subst (λ (s : Standing). IsBacked p (lent s)) (sym (standing-others base start own n l))
-          (backed_lent p (lent (get_or base n Nothing)) (b.others_known n Nothing l))
-      go false e true f z g =
-          subst (λ (s : Standing). IsBacked p (lent s)) (sym (standing-between base start own n (ltb-false n (length base) e) (ltb-true n start f))) tt
-      go false e false f true g =
-          subst (λ (s : Standing). IsBacked p (lent s)) (sym (standing-own base start own n (ltb-false n (length base) e) (ltb-false n start f)))
-          (backed_lent p (get_or own (n - start) Nothing) (b.own_known (n - start) Nothing (ltb-true (n - start) (length own) g)))
-      go false e false f false g =
-          subst (λ (s : Standing). IsBacked p (lent s)) (sym (standing-own base start own n (ltb-false n (length base) e) (ltb-false n start f)
-          ∙ get_or_past own (n - start) Nothing (ltb-false (n - start) (length own) g))) tt
+  name_known start number =
+      of_name (λ s. IsBacked p (lent s)) base start own number (λ n l. backed_lent p (lent (get_or base n Nothing)) (b.others_known n Nothing l)) tt
+      (λ at o. backed_lent p (get_or own at Nothing) (b.own_known at Nothing o.within))
 
 pub segment_known : (p : View) (s : Standing) → IsBacked p (lent s) → IfSome (segment_of s) (segment.IsKnown (view_of_pass p))
-segment_known p Nothing b = tt
-segment_known p (Arena id) b = tt
-segment_known p (standing.Automatic id handle) b = tt
 segment_known p (Segment r) b = b
-segment_known p (Hold hold) b = tt
-segment_known p (Handle handle) b = tt
+segment_known p s b = tt
 
 pub arena_known : (p : View) (s : Standing) → IsBacked p (lent s) → IfSome (arena_of s) (IsKnown p)
-arena_known p Nothing b = tt
 arena_known p (Arena id) b = b
 arena_known p (standing.Automatic id handle) b = b
-arena_known p (Segment r) b = tt
-arena_known p (Hold hold) b = tt
-arena_known p (Handle handle) b = tt
+arena_known p s b = tt
 
 -- What was found by a map.
 pub some_mapped : {X A : Type 0} (P : A → Type 0) (f : X → A) (o : Option X) (r : Option A) → option_map f o ≡ r → ((a : A) → r ≡ Some a → P a)

@@ -12,7 +12,7 @@ use Rattle.fm_gate.specs.Makers.{Made, made_by_pass}
 use Rattle.fm_arena.specs.declared.handle.AutoHandle.{AutoHandle}
 use Rattle.fm_arena.specs.Handles.{AfterStart, AfterAgain}
 use Rattle.fm_arena.specs.Shares.{nature_of_shared}
-use Rattle.fm_script_lines.specs.declared.outcome.Outcome.{Outcome}
+use Rattle.fm_script_lines.specs.declared.outcome.LineOutcome.{LineOutcome}
 use Rattle.fm_script_lines.specs.declared.reply.Reply.TheVariants.{Fine, Refused}
 use Rattle.fm_script_lines.specs.declared.standing.Standing.{Standing}
 use Rattle.fm_script_lines.specs.declared.standing.Standing.TheVariants.{Arena, Automatic, Handle}
@@ -33,7 +33,7 @@ line_started {p = p} handle after = record {
 }
 
 -- One that wasn't.
-pub line_not_started : {p q : View} (r : Refusal) (out : Outcome) → out ≡ plain (Refused r) → AfterStart p q (Err r)
+pub line_not_started : {p q : View} (r : Refusal) (out : LineOutcome) → out ≡ plain (Refused r) → AfterStart p q (Err r)
     → RanLine p q (Opens p.caller kind.Automatic) out
 line_not_started {p = p} r out said after =
     plain_line (Refused r) out said (ran_as (ran_by_pass p.holds p.handles after.did after.outside)
@@ -55,7 +55,7 @@ line_opened {p = p} k id n after = record {
   backed = after.is_new.known;
 }
 
-pub line_not_opened : {p q : View} (k : Kind) (r : Refusal) (out : Outcome) → out ≡ plain (Refused r)
+pub line_not_opened : {p q : View} (k : Kind) (r : Refusal) (out : LineOutcome) → out ≡ plain (Refused r)
     → AfterOpen nature_of_shared (view_of_pass p) (view_of_pass q) k (Err r) → RanLine p q (Opens p.caller k) out
 line_not_opened {p = p} k r out said after =
     plain_line (Refused r) out said
@@ -73,7 +73,7 @@ line_again {p = p} {q = q} o handle other is stays outside after =
     }))
 
 -- One that was refused.
-pub line_not_again : {p q : View} (o : Option ArenaId) (handle : AutoHandle) (r : Refusal) (out : Outcome) → o ≡ Some handle.arena → out ≡ plain (Refused r)
+pub line_not_again : {p q : View} (o : Option ArenaId) (handle : AutoHandle) (r : Refusal) (out : LineOutcome) → o ≡ Some handle.arena → out ≡ plain (Refused r)
     → q.inside ≡ p.inside → p.inside ≡ None → AfterAgain p q handle (Err r) → RanLine p q (On o (TakesAgain p.caller)) out
 line_not_again {p = p} o handle r out is said stays outside after =
     line_some o handle.arena (TakesAgain p.caller) out is

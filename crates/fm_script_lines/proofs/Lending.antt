@@ -20,7 +20,7 @@ use Rattle.fm_gate.specs.Pages.{FoundNoPage, LendsInRange}
 use Rattle.fm_arena.specs.Allocating.{AllocatesExactly}
 use Rattle.fm_script_text.specs.declared.command.Command.{Command}
 use Rattle.fm_script_text.specs.declared.command.Command.TheVariants.{Alloc}
-use Rattle.fm_script_lines.specs.declared.outcome.Outcome.{Outcome}
+use Rattle.fm_script_lines.specs.declared.outcome.LineOutcome.{LineOutcome}
 use Rattle.fm_script_lines.specs.declared.reply.Reply.TheVariants.{Refused, Skipped}
 use Rattle.fm_script_lines.specs.declared.standing.Standing.{Standing}
 use Rattle.fm_script_lines.specs.Calls.{Allocates, CallDoes, On}
@@ -123,7 +123,7 @@ module _ {p q r : View} {own : List Entry} (d : Done) (w : Went p q own) (v : We
   few_on : (o : Option ArenaId) (size align : ℕ) → On o (Allocates q.caller size align) (outcome d.reply d.made) d.run
       → IfSome o (λ id. PagesTold q r id size align d.reply) → d.reply ≡ Refused PoolFull
       → (g : ℕ) → g < page_groups p.shape → FoundFew p.shape p.caller r.seen (made_by p.caller p.seen ++ own) d.run g
-  few_on None size align does told lacks = let said : d.reply ≡ Skipped = ap (λ (o : Outcome). o.reply) does.0 in absurd (cc)
+  few_on None size align does told lacks = let said : d.reply ≡ Skipped = ap (λ (o : LineOutcome). o.reply) does.0 in absurd (cc)
   few_on (Some id) size align does told lacks =
       found_few w v (told.exact.found (answered_once told.result (Err PoolFull) (sym told.is ∙ lacks)))
 

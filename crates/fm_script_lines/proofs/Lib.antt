@@ -1,5 +1,6 @@
 pub mod Going
 pub mod Handled
+pub mod Lent
 pub mod Lines
 pub mod Counting
 pub mod Naming
@@ -12,6 +13,7 @@ pub mod Opening
 pub mod Allocating
 pub mod Lending
 pub mod Returning
+pub mod Taking
 pub mod Giving
 pub mod Rows
 pub mod AdmittedNames

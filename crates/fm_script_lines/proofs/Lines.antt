@@ -22,7 +22,7 @@ use Rattle.fm_segment.specs.Slices.{slice_of}
 use Rattle.fm_handle.specs.Access.{DoesAdd, DoesExchange}
 use Rattle.fm_handle.specs.Place.{update_place_of, can_update}
 use Rattle.fm_script_text.specs.declared.cell.Cell.{Cell}
-use Rattle.fm_script_lines.specs.declared.outcome.Outcome.{Outcome}
+use Rattle.fm_script_lines.specs.declared.outcome.LineOutcome.{LineOutcome}
 use Rattle.fm_script_lines.specs.declared.reply.Reply.{Reply}
 use Rattle.fm_script_lines.specs.declared.reply.Reply.TheVariants.{Skipped, Fine, Refused}
 use Rattle.fm_script_lines.specs.declared.standing.Standing.TheVariants.{Segment, Hold}
@@ -48,26 +48,26 @@ ran_as r f = record {
 -- ---- lines
 
 -- A line whose name stands for nothing.
-pub plain_line : {p q : View} {Does : Outcome → List Entry → Type 0} (reply : Reply) (out : Outcome) → out ≡ plain reply
+pub plain_line : {p q : View} {Does : LineOutcome → List Entry → Type 0} (reply : Reply) (out : LineOutcome) → out ≡ plain reply
     → Ran p q (Does (plain reply)) → RanLine p q Does out
 plain_line {p = p} {q = q} {Does = Does} reply out is r =
-    subst (λ (o : Outcome). RanLine p q Does o) (sym is) (record { ran = r; backed = tt })
+    subst (λ (o : LineOutcome). RanLine p q Does o) (sym is) (record { ran = r; backed = tt })
 
 -- A name that stands for this.
-pub line_some : {X : Type 0} {p q : View} (o : Option X) (x : X) (Does : X → Outcome → List Entry → Type 0) (out : Outcome)
+pub line_some : {X : Type 0} {p q : View} (o : Option X) (x : X) (Does : X → LineOutcome → List Entry → Type 0) (out : LineOutcome)
     → o ≡ Some x → RanLine p q (Does x) out → RanLine p q (On o Does) out
 line_some {p = p} {q = q} o x Does out is r = subst (λ (y : Option _). RanLine p q (On y Does) out) (sym is) r
 
 -- A name that stands for nothing.
-pub line_none : {X : Type 0} (p : View) (o : Option X) (Does : X → Outcome → List Entry → Type 0) (out : Outcome) → o ≡ None → p.inside ≡ None
+pub line_none : {X : Type 0} (p : View) (o : Option X) (Does : X → LineOutcome → List Entry → Type 0) (out : LineOutcome) → o ≡ None → p.inside ≡ None
     → out ≡ plain Skipped → RanLine p p (On o Does) out
 line_none p o Does out is outside skipped =
     subst (λ (y : Option _). RanLine p p (On y Does) out) (sym is)
     (plain_line Skipped out skipped (ran_none p (λ own. Skips (plain Skipped) own) outside (refl, refl)))
 
 -- A call of a memory that answered so, on what the name stands for.
-pub line_called : {X Y : Type 0} {p q : View} (o : Option X) (x : X) (Does : X → Result Y Refusal → List Entry → Type 0) (ok : Y → Outcome)
-    (result : Result Y Refusal) (reply : Reply) (out : Outcome) → o ≡ Some x → out ≡ plain reply → plain reply ≡ coming ok result
+pub line_called : {X Y : Type 0} {p q : View} (o : Option X) (x : X) (Does : X → Result Y Refusal → List Entry → Type 0) (ok : Y → LineOutcome)
+    (result : Result Y Refusal) (reply : Reply) (out : LineOutcome) → o ≡ Some x → out ≡ plain reply → plain reply ≡ coming ok result
     → q.inside ≡ None → Did (view_of_pass p) (view_of_pass q) (Does x result)
     → RanLine p q (On o (λ (y : X). Called (Does y) ok)) out
 line_called o x Does ok result reply out is said comes outside did =
@@ -77,7 +77,7 @@ line_called o x Does ok result reply out is said comes outside did =
 -- ---- values
 
 -- A read of a value.
-pub line_got : {p q : View} (o : Option Region) (r : Region) (cell : Cell) (t : Tree) (result : Result Value Refusal) (reply : Reply) (out : Outcome)
+pub line_got : {p q : View} (o : Option Region) (r : Region) (cell : Cell) (t : Tree) (result : Result Value Refusal) (reply : Reply) (out : LineOutcome)
     → o ≡ Some r → t ≡ tree_of cell → out ≡ plain reply → plain reply ≡ coming number result → q.inside ≡ None
     → Did (view_of_pass p) (view_of_pass q) (DoesGetAt p.caller r.arena t (place_of cell.offset t r) result)
     → RanLine p q (On o (Gets p.caller cell)) out
@@ -88,7 +88,7 @@ line_got {p = p} {q = q} o r cell t result reply out is tree said comes outside 
 
 -- A write of a value.
 pub line_set : {p q : View} (o : Option Region) (r : Region) (cell : Cell) (t : Tree) (z : ℤ) (v : Value) (result : Result (Unit {0}) Refusal) (reply : Reply)
-    (out : Outcome) → o ≡ Some r → t ≡ tree_of cell → IsValue cell.kind z v → out ≡ plain reply → plain reply ≡ coming fine result → q.inside ≡ None
+    (out : LineOutcome) → o ≡ Some r → t ≡ tree_of cell → IsValue cell.kind z v → out ≡ plain reply → plain reply ≡ coming fine result → q.inside ≡ None
     → Did (view_of_pass p) (view_of_pass q) (DoesSetAt p.caller r.arena t (writable_place_of cell.offset t r) v result)
     → RanLine p q (On o (Sets p.caller cell z)) out
 line_set {p = p} {q = q} o r cell t z v result reply out is tree value said comes outside did =
@@ -99,7 +99,7 @@ line_set {p = p} {q = q} o r cell t z v result reply out is tree value said come
 
 -- A sum.
 pub line_added : {p q : View} (o : Option Region) (r : Region) (cell : Cell) (h : Resolution) (z : ℤ) (v : Value) (result : Result Value Refusal)
-    (reply : Reply) (out : Outcome) → o ≡ Some r → IsHandleOf cell h → IsValue cell.kind z v → out ≡ plain reply → plain reply ≡ coming number result
+    (reply : Reply) (out : LineOutcome) → o ≡ Some r → IsHandleOf cell h → IsValue cell.kind z v → out ≡ plain reply → plain reply ≡ coming number result
     → q.inside ≡ None
     → Did (view_of_pass p) (view_of_pass q) (DoesAdd p.caller h r (update_place_of can_update cell.offset [] h r) v result)
     → RanLine p q (On o (Adds p.caller cell z)) out
@@ -109,7 +109,7 @@ line_added {p = p} o r cell h z v result reply out is handle value said comes ou
 
 -- An exchange.
 pub line_exchanged : {p q : View} (o : Option Region) (r : Region) (cell : Cell) (h : Resolution) (y z : ℤ) (u v : Value) (result : Result Value Refusal)
-    (reply : Reply) (out : Outcome) → o ≡ Some r → IsHandleOf cell h → IsValue cell.kind y u → IsValue cell.kind z v → out ≡ plain reply
+    (reply : Reply) (out : LineOutcome) → o ≡ Some r → IsHandleOf cell h → IsValue cell.kind y u → IsValue cell.kind z v → out ≡ plain reply
     → plain reply ≡ coming number result → q.inside ≡ None
     → Did (view_of_pass p) (view_of_pass q) (DoesExchange p.caller h r (update_place_of can_update cell.offset [] h r) u v result)
     → RanLine p q (On o (Exchanges p.caller cell y z)) out
@@ -132,7 +132,7 @@ line_held {p = p} {q = q} o a hold is after =
     }))
 
 -- A hold that was refused.
-pub line_not_held : {p q : View} (o : Option ArenaId) (a : ArenaId) (r : Refusal) (out : Outcome) → o ≡ Some a → out ≡ plain (Refused r)
+pub line_not_held : {p q : View} (o : Option ArenaId) (a : ArenaId) (r : Refusal) (out : LineOutcome) → o ≡ Some a → out ≡ plain (Refused r)
     → AfterHold p q a (Err r) → RanLine p q (On o (Holds p.caller)) out
 line_not_held {p = p} o a r out is said after =
     line_some o a (Holds p.caller) out is
@@ -150,7 +150,7 @@ line_made p o r s answer is outside made known =
       backed = known;
     })
 
-pub line_not_made : (p : View) (o : Option Region) (r : Region) (e : Refusal) (answer : Region → Result Region Refusal) (out : Outcome) → o ≡ Some r
+pub line_not_made : (p : View) (o : Option Region) (r : Region) (e : Refusal) (answer : Region → Result Region Refusal) (out : LineOutcome) → o ≡ Some r
     → p.inside ≡ None → Err e ≡ answer r → out ≡ plain (Refused e)
     → RanLine p p (On o (λ (x : Region). Called (Answers (answer x)) segment_made)) out
 line_not_made p o r e answer out is outside made said =

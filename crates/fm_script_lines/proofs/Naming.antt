@@ -49,32 +49,14 @@ get_or-one_more xs s i ne = go (nat_lt i (length xs)) refl
         let l = ltb-false i (length xs) e in
         get_or_past (xs ++ s ∷ []) i Nothing (let k = length-append xs (s ∷ []) in omega (arith, l, k, ne)) ∙ sym (get_or_past xs i Nothing l)
 
-pub standing-push : (base : List Standing) (start : ℕ) (own : List Standing) (s : Standing) (n : ℕ) → length base ≤ start
-    → standing_at base start (own ++ s ∷ []) n ≡ (if n == start + length own then s else standing_at base start own n)
-standing-push base start own s n h = go (nat_lt n (length base)) refl (nat_lt n start) refl (n == start + length own) refl
-  where
-    go : (x : Bool) → nat_lt n (length base) ≡ x → (y : Bool) → nat_lt n start ≡ y → (z : Bool) → (n == start + length own) ≡ z
-        → standing_at base start (own ++ s ∷ []) n ≡ (if n == start + length own then s else standing_at base start own n)
-    go true e y f true g = absurd (let l = ltb-true n (length base) e in let q = eqb-true n (start + length own) g in omega (arith, l, q, h))
-    go true e y f false g = rw (g, e) refl
-    go false e true f true g = absurd (let l = ltb-true n start f in let q = eqb-true n (start + length own) g in omega (arith, l, q))
-    go false e true f false g = rw (g, e, f) refl
-    go false e false f true g =
-        let q : n ≡ start + length own = eqb-true n (start + length own) g in
-        rw (g, e, f) (get_or_push own s Nothing (n - start) (omega (arith, q)))
-    go false e false f false g =
-        let l = ltb-false n start f in
-        let ne : n - start ≢ length own = λ q. eqb-false n (start + length own) g (omega (arith, q, l)) in
-        rw (g, e, f) (get_or-one_more own s (n - start) ne)
-
--- ---- a hold or handle less
-
-pub standing-set : (base : List Standing) (start : ℕ) (own : List Standing) (at : ℕ) (s : Standing) (n : ℕ) → length base ≤ start → at < length own
-    → standing_at base start (set own at s) n ≡ (if n == start + at then s else standing_at base start own n)
-standing-set base start own at s n h k = go (nat_lt n (length base)) refl (nat_lt n start) refl (n == start + at) refl
+-- Where the own lines' names changed at one place alone, only the name of its number did.
+standing-changed : (base : List Standing) (start : ℕ) (own next : List Standing) (at : ℕ) (s : Standing) (n : ℕ) → length base ≤ start
+    → get_or next at Nothing ≡ s → ((i : ℕ) → i ≢ at → get_or next i Nothing ≡ get_or own i Nothing)
+    → standing_at base start next n ≡ (if n == start + at then s else standing_at base start own n)
+standing-changed base start own next at s n h here others = go (nat_lt n (length base)) refl (nat_lt n start) refl (n == start + at) refl
   where
     go : (x : Bool) → nat_lt n (length base) ≡ x → (y : Bool) → nat_lt n start ≡ y → (z : Bool) → (n == start + at) ≡ z
-        → standing_at base start (set own at s) n ≡ (if n == start + at then s else standing_at base start own n)
+        → standing_at base start next n ≡ (if n == start + at then s else standing_at base start own n)
     go true e y f true g = absurd (let l = ltb-true n (length base) e in let q = eqb-true n (start + at) g in omega (arith, l, q, h))
     go true e y f false g = rw (g, e) refl
     go false e true f true g = absurd (let l = ltb-true n start f in let q = eqb-true n (start + at) g in omega (arith, l, q))
@@ -82,11 +64,23 @@ standing-set base start own at s n h k = go (nat_lt n (length base)) refl (nat_l
     go false e false f true g =
         let q : n ≡ start + at = eqb-true n (start + at) g in
         let i : n - start ≡ at = omega (arith, q) in
-        rw (g, e, f) (ap (λ (j : ℕ). get_or (set own at s) j Nothing) i ∙ get_or-set_same own at s Nothing k)
+        rw (g, e, f) (ap (λ (j : ℕ). get_or next j Nothing) i ∙ here)
     go false e false f false g =
         let l = ltb-false n start f in
         let ne : n - start ≢ at = λ q. eqb-false n (start + at) g (omega (arith, q, l)) in
-        rw (g, e, f) (get_or-set_other own at (n - start) s Nothing ne)
+        rw (g, e, f) (others (n - start) ne)
+
+pub standing-push : (base : List Standing) (start : ℕ) (own : List Standing) (s : Standing) (n : ℕ) → length base ≤ start
+    → standing_at base start (own ++ s ∷ []) n ≡ (if n == start + length own then s else standing_at base start own n)
+standing-push base start own s n h =
+    standing-changed base start own (own ++ s ∷ []) (length own) s n h (get_or_push own s Nothing (length own) refl) (get_or-one_more own s)
+
+-- ---- a hold or handle less
+
+pub standing-set : (base : List Standing) (start : ℕ) (own : List Standing) (at : ℕ) (s : Standing) (n : ℕ) → length base ≤ start → at < length own
+    → standing_at base start (set own at s) n ≡ (if n == start + at then s else standing_at base start own n)
+standing-set base start own at s n h k =
+    standing-changed base start own (set own at s) at s n h (get_or-set_same own at s Nothing k) (λ i ne. get_or-set_other own at i s Nothing ne)
 
 -- what each name stands for behind the taking
 abbrev pub Left : (Standing → Standing) → List Standing → ℕ → List Standing → Option ℕ → List Standing → Type 0
@@ -148,108 +142,66 @@ handed-same (Hold hold) e = refl
 handed-same (Handle None) e = refl
 handed-same (Handle (Some h)) e = absurd (cc)
 
-pub unheld-hold : (s : Standing) → hold_of (unheld s) ≡ None
-unheld-hold Nothing = refl
-unheld-hold (Arena id) = refl
-unheld-hold (Automatic id handle) = refl
-unheld-hold (Segment r) = refl
-unheld-hold (Hold hold) = refl
-unheld-hold (Handle handle) = refl
+-- what is left of a name's tokens once its hold or its handle is given back
+pub record TokensLeft (s : Standing) : Type 0 where
+  pub unheld_hold : hold_of (unheld s) ≡ None
+  pub unheld_handle : handle_of (unheld s) ≡ handle_of s
+  pub handed_hold : hold_of (handed_back s) ≡ hold_of s
+  pub handed_handle : handle_of (handed_back s) ≡ None
 
-pub unheld-handle : (s : Standing) → handle_of (unheld s) ≡ handle_of s
-unheld-handle Nothing = refl
-unheld-handle (Arena id) = refl
-unheld-handle (Automatic id handle) = refl
-unheld-handle (Segment r) = refl
-unheld-handle (Hold hold) = refl
-unheld-handle (Handle handle) = refl
+-- One is gone, and the other is as it was.
+pub tokens_left : (s : Standing) → TokensLeft s
+tokens_left Nothing = record { unheld_hold = refl; unheld_handle = refl; handed_hold = refl; handed_handle = refl }
+tokens_left (Arena id) = record { unheld_hold = refl; unheld_handle = refl; handed_hold = refl; handed_handle = refl }
+tokens_left (Automatic id handle) = record { unheld_hold = refl; unheld_handle = refl; handed_hold = refl; handed_handle = refl }
+tokens_left (Segment r) = record { unheld_hold = refl; unheld_handle = refl; handed_hold = refl; handed_handle = refl }
+tokens_left (Hold hold) = record { unheld_hold = refl; unheld_handle = refl; handed_hold = refl; handed_handle = refl }
+tokens_left (Handle handle) = record { unheld_hold = refl; unheld_handle = refl; handed_hold = refl; handed_handle = refl }
 
-pub handed-handle : (s : Standing) → handle_of (handed_back s) ≡ None
-handed-handle Nothing = refl
-handed-handle (Arena id) = refl
-handed-handle (Automatic id handle) = refl
-handed-handle (Segment r) = refl
-handed-handle (Hold hold) = refl
-handed-handle (Handle handle) = refl
+-- What is lent has no hold and no handle.
+pub lent_none : (s : Standing) → (hold_in (lent s) ≡ None) × (handle_in (lent s) ≡ None)
+lent_none Nothing = (refl, refl)
+lent_none (Arena id) = (refl, refl)
+lent_none (Automatic id handle) = (refl, refl)
+lent_none (Segment r) = (refl, refl)
+lent_none (Hold hold) = (refl, refl)
+lent_none (Handle handle) = (refl, refl)
 
-pub handed-hold : (s : Standing) → hold_of (handed_back s) ≡ hold_of s
-handed-hold Nothing = refl
-handed-hold (Arena id) = refl
-handed-hold (Automatic id handle) = refl
-handed-hold (Segment r) = refl
-handed-hold (Hold hold) = refl
-handed-hold (Handle handle) = refl
+-- ---- whatever the number
 
--- What isn't its own has no token.
-pub not-own : {T : Type 0} (token : Standing → Option T) → ((s : Standing) → token (lent s) ≡ None) → token Nothing ≡ None → (base : List Standing) (start : ℕ)
-    (own : List Standing) (number : Option ℕ) → ((at : ℕ) → IsOwn (length base) start (length own) number at → ⊥)
-    → token (standing_of base start own number) ≡ None
-not-own token others nothing base start own None elsewhere = nothing
-not-own token others nothing base start own (Some n) elsewhere = go (nat_lt n (length base)) refl (nat_lt n start) refl (nat_lt (n - start) (length own)) refl
+-- What holds of others' names, of nothing and of the name's own place holds of what the name stands for.
+pub of_name : (P : Standing → Type 0) (base : List Standing) (start : ℕ) (own : List Standing) (number : Option ℕ)
+    → ((n : ℕ) → n < length base → P (lent (get_or base n Nothing))) → P Nothing
+    → ((at : ℕ) → IsOwn (length base) start (length own) number at → P (get_or own at Nothing)) → P (standing_of base start own number)
+of_name P base start own None others nothing mine = nothing
+of_name P base start own (Some n) others nothing mine = go (nat_lt n (length base)) refl (nat_lt n start) refl (nat_lt (n - start) (length own)) refl
   where
     go : (x : Bool) → nat_lt n (length base) ≡ x → (y : Bool) → nat_lt n start ≡ y → (z : Bool) → nat_lt (n - start) (length own) ≡ z
-        → token (standing_at base start own n) ≡ None
-    go true e y f z g = ap token (standing-others base start own n (ltb-true n (length base) e)) ∙ others (get_or base n Nothing)
-    go false e true f z g = ap token (standing-between base start own n (ltb-false n (length base) e) (ltb-true n start f)) ∙ nothing
+        → P (standing_at base start own n)
+    go true e y f z g = let l = ltb-true n (length base) e in subst P (sym (standing-others base start own n l)) (others n l)
+    go false e true f z g = subst P (sym (standing-between base start own n (ltb-false n (length base) e) (ltb-true n start f))) nothing
     go false e false f true g =
         let l = ltb-false n start f in
         let k = ltb-false n (length base) e in
         let is : n ≡ start + (n - start) = omega (arith, l) in
-        absurd (elsewhere (n - start) (record { within = ltb-true (n - start) (length own) g; behind = omega (arith, l, k); is = ap (λ (m : ℕ). Some m) is }))
+        subst P (sym (standing-own base start own n k l))
+        (mine (n - start) (record { within = ltb-true (n - start) (length own) g; behind = omega (arith, l, k); is = ap (λ (m : ℕ). Some m) is }))
     go false e false f false g =
-        ap token (standing-own base start own n (ltb-false n (length base) e) (ltb-false n start f)
-        ∙ get_or_past own (n - start) Nothing (ltb-false (n - start) (length own) g)) ∙ nothing
+        subst P (sym (standing-own base start own n (ltb-false n (length base) e) (ltb-false n start f)
+        ∙ get_or_past own (n - start) Nothing (ltb-false (n - start) (length own) g))) nothing
 
-pub lent-handle : (s : Standing) → handle_of (lent s) ≡ None
-lent-handle Nothing = refl
-lent-handle (Arena id) = refl
-lent-handle (Automatic id handle) = refl
-lent-handle (Segment r) = refl
-lent-handle (Hold hold) = refl
-lent-handle (Handle handle) = refl
+module _ {T : Type 0} (token : Standing → Option T) (others : (s : Standing) → token (lent s) ≡ None) (nothing : token Nothing ≡ None)
+    (base : List Standing) (start : ℕ) (own : List Standing) (number : Option ℕ) where
+  -- What isn't its own has no token.
+  pub not-own : ((at : ℕ) → IsOwn (length base) start (length own) number at → ⊥) → token (standing_of base start own number) ≡ None
+  not-own elsewhere =
+      of_name (λ s. token s ≡ None) base start own number (λ n l. others (get_or base n Nothing)) nothing (λ at o. absurd (elsewhere at o))
 
-pub lent-hold : (s : Standing) → hold_of (lent s) ≡ None
-lent-hold Nothing = refl
-lent-hold (Arena id) = refl
-lent-hold (Automatic id handle) = refl
-lent-hold (Segment r) = refl
-lent-hold (Hold hold) = refl
-lent-hold (Handle handle) = refl
-
-pub lent-handle_in : (s : Standing) → handle_in (lent s) ≡ None
-lent-handle_in Nothing = refl
-lent-handle_in (Arena id) = refl
-lent-handle_in (Automatic id handle) = refl
-lent-handle_in (Segment r) = refl
-lent-handle_in (Hold hold) = refl
-lent-handle_in (Handle handle) = refl
-
-pub lent-hold_in : (s : Standing) → hold_in (lent s) ≡ None
-lent-hold_in Nothing = refl
-lent-hold_in (Arena id) = refl
-lent-hold_in (Automatic id handle) = refl
-lent-hold_in (Segment r) = refl
-lent-hold_in (Hold hold) = refl
-lent-hold_in (Handle handle) = refl
-
--- What has one is its own.
-pub owned : {T : Type 0} (token : Standing → Option T) → ((s : Standing) → token (lent s) ≡ None) → token Nothing ≡ None → (base : List Standing) (start : ℕ)
-    (own : List Standing) (number : Option ℕ) (a : T) → token (standing_of base start own number) ≡ Some a
-    → (at : ℕ) × ((at < length own) × (token (get_or own at Nothing) ≡ Some a))
-owned token others nothing base start own None a is = absurd (cc)
-owned token others nothing base start own (Some n) a is = go (nat_lt n (length base)) refl (nat_lt n start) refl (nat_lt (n - start) (length own)) refl
-  where
-    go : (x : Bool) → nat_lt n (length base) ≡ x → (y : Bool) → nat_lt n start ≡ y → (z : Bool) → nat_lt (n - start) (length own) ≡ z
-        → (at : ℕ) × ((at < length own) × (token (get_or own at Nothing) ≡ Some a))
-    go true e y f z g = absurd (let q = ap token (standing-others base start own n (ltb-true n (length base) e)) ∙ others (get_or base n Nothing) in cc)
-    go false e true f z g =
-        absurd (let q = ap token (standing-between base start own n (ltb-false n (length base) e) (ltb-true n start f)) ∙ nothing in cc)
-    go false e false f true g =
-        let here = standing-own base start own n (ltb-false n (length base) e) (ltb-false n start f) in
-        (n - start, (ltb-true (n - start) (length own) g, ap token (sym here) ∙ is))
-    go false e false f false g =
-        absurd (let q = ap token (standing-own base start own n (ltb-false n (length base) e) (ltb-false n start f)
-        ∙ get_or_past own (n - start) Nothing (ltb-false (n - start) (length own) g)) ∙ nothing in cc)
+  -- What has one is its own.
+  pub owned : (a : T) → token (standing_of base start own number) ≡ Some a → (at : ℕ) × ((at < length own) × (token (get_or own at Nothing) ≡ Some a))
+  owned a =
+      of_name (λ s. token s ≡ Some a → (at : ℕ) × ((at < length own) × (token (get_or own at Nothing) ≡ Some a))) base start own number
+      (λ n l is. let none = others (get_or base n Nothing) in absurd (cc)) (λ is. absurd (cc)) (λ at o is. (at, (o.within, is)))
 
 -- Its own name of this place.
 pub standing-here : (base : List Standing) (start : ℕ) (own : List Standing) (number : Option ℕ) (at : ℕ) → IsOwn (length base) start (length own) number at

@@ -23,7 +23,7 @@ use Rattle.fm_arena.specs.Shares.{nature_of_shared}
 use Rattle.fm_arena.specs.Opening.{FoundNoneLeft, HasNoSlot, OpensExactly}
 use Rattle.fm_script_text.specs.declared.command.Command.{Command}
 use Rattle.fm_script_text.specs.declared.command.Command.TheVariants.{Open}
-use Rattle.fm_script_lines.specs.declared.outcome.Outcome.{Outcome}
+use Rattle.fm_script_lines.specs.declared.outcome.LineOutcome.{LineOutcome}
 use Rattle.fm_script_lines.specs.declared.reply.Reply.{Reply}
 use Rattle.fm_script_lines.specs.declared.reply.Reply.TheVariants.{Fine, Refused}
 use Rattle.fm_script_lines.specs.declared.standing.Standing.{Standing}
@@ -64,14 +64,14 @@ pub told_by_hand : {p q : View} (k : Kind) (r : Refusal) (reply : Reply) → rep
 told_by_hand {p = p} k r reply is a e = told_refused r reply is (only_no_slot p.caller k r (but_loans a.did.own) a.did.does a.comes) e
 
 -- A call that found no slot made no entry, but for loans.
-silent : (c : Caller) (k : Kind) (run : List Entry) (reply : Reply) (made : Standing) (ok : ArenaId → Outcome)
+silent : (c : Caller) (k : Kind) (run : List Entry) (reply : Reply) (made : Standing) (ok : ArenaId → LineOutcome)
     → ((id : ArenaId) → (ok id).reply ≡ Fine) → reply ≡ Refused NoSlot
     → CalledBut (OverPool (DoesOpen c k)) ok (outcome reply made) run → but_loans run ≡ []
 silent c k run reply made ok fine lacks (Ok id, does, comes) =
-    let said : reply ≡ Fine = ap (λ (o : Outcome). o.reply) comes ∙ fine id in
+    let said : reply ≡ Fine = ap (λ (o : LineOutcome). o.reply) comes ∙ fine id in
     absurd (cc)
 silent c k run reply made ok fine lacks (Err r, does, comes) =
-    let said : reply ≡ Refused r = ap (λ (o : Outcome). o.reply) comes in
+    let said : reply ≡ Refused r = ap (λ (o : LineOutcome). o.reply) comes in
     let is : r ≡ NoSlot = cc in
     subst (λ (x : Refusal). DoesOpen c k (Err x) (but_loans run)) is does.1
 

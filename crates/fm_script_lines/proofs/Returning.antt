@@ -1,14 +1,14 @@
 -- A pass's next line, with what it leaves of names.
-use Rattle.std.proofs.Common.{◌≡◌, ℕ, ◌+◌, ◌==◌, true, if◌then◌else◌, List, [], ◌∷◌, ◌++◌, length, length-append, refl, ap, sym, ◌∙◌, subst, Err}
+use Rattle.std.proofs.Common.{◌≡◌, ℕ, ◌+◌, ◌==◌, Bool, true, false, if◌then◌else◌, List, [], ◌∷◌, ◌++◌, length, length-append, refl, ap, sym, ◌∙◌, subst, Err}
 use Rattle.fm_base.specs.declared.arena_id.ArenaId.{ArenaId}
 use Rattle.fm_rule_facts.specs.Views.{View}
 use Rattle.fm_script_text.specs.declared.command.Command.{Command}
 use Rattle.fm_script_text.specs.declared.command.Command.TheVariants.{Unhold, Back}
-use Rattle.fm_script_lines.specs.declared.outcome.Outcome.{Outcome}
+use Rattle.fm_script_lines.specs.declared.outcome.LineOutcome.{LineOutcome}
 use Rattle.fm_script_lines.specs.declared.reply.Reply.{Reply}
 use Rattle.fm_script_lines.specs.declared.standing.Standing.{Standing}
 use Rattle.fm_script_lines.specs.declared.table.Table.{Table}
-use Rattle.fm_script_lines.specs.Calls.{CallDoes, keeps_tokens}
+use Rattle.fm_script_lines.specs.Calls.{CallDoes}
 use Rattle.fm_script_lines.specs.Learnt.{AfterLine, CallRan, KeepsTable, Leaves, MadeNoCall, stands_by}
 use Rattle.fm_script_lines.specs.Lines.{LineRan}
 use Rattle.fm_script_lines.specs.Outcomes.{outcome}
@@ -19,6 +19,12 @@ use Rattle.fm_script_lines.specs.Tokens.{Backs}
 use Rattle.fm_script_lines.proofs.Backing.{backs_more}
 use Rattle.fm_script_lines.proofs.Going.{went_made}
 use Rattle.fm_script_lines.proofs.Naming.{standing-push}
+
+-- the line gives back no hold and no handle
+abbrev pub keeps_tokens : Command → Bool
+keeps_tokens (Unhold hold) = false
+keeps_tokens (Back handle) = false
+keeps_tokens c = true
 
 -- A line that gives nothing back leaves the table as it is.
 pub leaves_kept : (p : View) (t : Table) (c : Command) → keeps_tokens c ≡ true → Leaves p t t c
@@ -45,7 +51,7 @@ line_wanted p q was now c e n = record {
   no_call = n;
 }
 
-module _ (p q : View) (was left now : Table) (c : Command) (out : Outcome) (reply : Reply) (l : Leaves p was left c)
+module _ (p q : View) (was left now : Table) (c : Command) (out : LineOutcome) (reply : Reply) (l : Leaves p was left c)
     (is : now.own.items ≡ left.own.items ++ out.made ∷ []) (ran : CallRan p q (stands_by was) c out) where
   -- The line ran, and its name stands for what it made.
   pub line_ran : reply ≡ out.reply → LineRan p q was.names.now was.base.now was.start was.own.items now.own.items c reply

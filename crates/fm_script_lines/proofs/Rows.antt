@@ -115,28 +115,28 @@ module _ (p : View) (names : Numbers) (base : List Standing) (start : ℕ) (own 
             (lends_rightly d a.went b.went stood l.command refl b.does b.pages);
       }
 
--- Whatever the lines were.
-pub ran_on : {p q : View} {names : Numbers} {base : List Standing} {start : ℕ} {own next : List Standing} {lines : List Line} {replies : List Reply}
-    → LinesRan p q names base start own next lines replies → WentOn p q
-ran_on r = record { run = runs r.dones; went = r.went; outside = r.outside; lasts = r.lasts }
+-- A pass's lines that ran.
+module _ {p q : View} {names : Numbers} {base : List Standing} {start : ℕ} {own next : List Standing} {lines : List Line} {replies : List Reply}
+    (r : LinesRan p q names base start own next lines replies) where
+  -- Whatever the lines were, the pass went on.
+  pub ran_on : WentOn p q
+  ran_on = record { run = runs r.dones; went = r.went; outside = r.outside; lasts = r.lasts }
 
--- There is a name for each line, and a reply.
-pub ran_many : {p q : View} {names : Numbers} {base : List Standing} {start : ℕ} {own next : List Standing} {lines : List Line} {replies : List Reply}
-    → LinesRan p q names base start own next lines replies → length next ≡ length own + length lines
-ran_many {lines = lines} r =
-    let many = r.many in
-    let same = ap (λ (xs : List Line). length xs) r.are in
-    let mapped = length-map r.dones (λ (d : Done). d.line) in
-    omega (arith, many, same, mapped)
+  -- There is a name for each line, and a reply.
+  pub ran_many : length next ≡ length own + length lines
+  ran_many =
+      let many = r.many in
+      let same = ap (λ (xs : List Line). length xs) r.are in
+      let mapped = length-map r.dones (λ (d : Done). d.line) in
+      omega (arith, many, same, mapped)
 
-pub replied_many : {p q : View} {names : Numbers} {base : List Standing} {start : ℕ} {own next : List Standing} {lines : List Line} {replies : List Reply}
-    → LinesRan p q names base start own next lines replies → length replies ≡ length lines
-replied_many {lines = lines} {replies = replies} r =
-    let told = ap (λ (xs : List Reply). length xs) r.replied in
-    let same = ap (λ (xs : List Line). length xs) r.are in
-    let lines_mapped = length-map r.dones (λ (d : Done). d.line) in
-    let replies_mapped = length-map r.dones (λ (d : Done). d.reply) in
-    omega (arith, told, same, lines_mapped, replies_mapped)
+  pub replied_many : length replies ≡ length lines
+  replied_many =
+      let told = ap (λ (xs : List Reply). length xs) r.replied in
+      let same = ap (λ (xs : List Line). length xs) r.are in
+      let lines_mapped = length-map r.dones (λ (d : Done). d.line) in
+      let replies_mapped = length-map r.dones (λ (d : Done). d.reply) in
+      omega (arith, told, same, lines_mapped, replies_mapped)
 
 -- Where a loop over lines stands: these ran, from the table that was
 pub record SoFar (p : View) (was : Table) (room : ℕ) (lines : List Line) (m : View) (now : Table) (replies : Vec Reply Global) : Type 0 where

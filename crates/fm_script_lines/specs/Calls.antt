@@ -28,7 +28,7 @@ use Rattle.fm_handle.specs.Place.{update_place_of, can_update}
 use Rattle.fm_script_text.specs.declared.cell.Cell.{Cell}
 use Rattle.fm_script_text.specs.declared.command.Command.{Command}
 use Rattle.fm_script_text.specs.declared.command.Command.TheVariants as command
-use Rattle.fm_script_lines.specs.declared.outcome.Outcome.{Outcome}
+use Rattle.fm_script_lines.specs.declared.outcome.LineOutcome.{LineOutcome}
 use Rattle.fm_script_lines.specs.declared.reply.Reply.{Reply}
 use Rattle.fm_script_lines.specs.declared.reply.Reply.TheVariants.{Fine, Place, Number, Truth, Kept, Ended, Refused, Skipped}
 use Rattle.fm_script_lines.specs.declared.standing.Standing.{Standing}
@@ -38,7 +38,7 @@ use Rattle.fm_script_lines.specs.Standings.{arena_of, segment_of, hold_of, handl
 
 -- what a line comes to, and the entries of its caller
 abbrev pub Line : Type 1
-Line = Outcome → List Entry → Type 0
+Line = LineOutcome → List Entry → Type 0
 
 -- the line makes no call
 abbrev pub Skips : Line
@@ -50,16 +50,16 @@ On None Does = Skips
 On (Some x) Does = Does x
 
 -- what an answer comes to
-abbrev pub coming : {X : Type 0} → (X → Outcome) → Result X Refusal → Outcome
+abbrev pub coming : {X : Type 0} → (X → LineOutcome) → Result X Refusal → LineOutcome
 coming ok (Ok x) = ok x
 coming ok (Err refusal) = plain (Refused refusal)
 
 -- the call did so, and its answer comes to this
-abbrev pub Called : {X : Type 0} → (Result X Refusal → List Entry → Type 0) → (X → Outcome) → Line
+abbrev pub Called : {X : Type 0} → (Result X Refusal → List Entry → Type 0) → (X → LineOutcome) → Line
 Called {X} Does ok out own = (result : Result X Refusal) × Does result own × (out ≡ coming ok result)
 
 -- the same of a call that lends blocks or takes them back
-abbrev pub CalledBut : {X : Type 0} → (Result X Refusal → List Entry → Type 0) → (X → Outcome) → Line
+abbrev pub CalledBut : {X : Type 0} → (Result X Refusal → List Entry → Type 0) → (X → LineOutcome) → Line
 CalledBut Does ok = Called (λ result own. Does result (but_loans own)) ok
 
 -- a call's answer that may come over a pool, whose calls take no memory
@@ -70,13 +70,13 @@ OverPool Does result own = MayCome nature_of_shared result × Does result own
 abbrev pub Answers : {X : Type 0} → Result X Refusal → Result X Refusal → List Entry → Type 0
 Answers answer result own = (result ≡ answer) × (own ≡ [])
 
-abbrev pub fine : {X : Type 0} → X → Outcome
+abbrev pub fine : {X : Type 0} → X → LineOutcome
 fine x = plain Fine
 
-abbrev pub number : Value → Outcome
+abbrev pub number : Value → LineOutcome
 number v = plain (Number (number_of_value v))
 
-abbrev pub segment_made : Region → Outcome
+abbrev pub segment_made : Region → LineOutcome
 segment_made r = outcome Fine (Segment r)
 
 -- ---- values
@@ -189,9 +189,3 @@ abbrev pub takes_memory : Command → Bool
 takes_memory (command.Add cell value) = true
 takes_memory (command.Cas cell old new) = true
 takes_memory c = false
-
--- the line gives back no hold and no handle
-abbrev pub keeps_tokens : Command → Bool
-keeps_tokens (command.Unhold hold) = false
-keeps_tokens (command.Back handle) = false
-keeps_tokens c = true

@@ -1,5 +1,5 @@
 -- What running lines over a table of names asks for, and what is learnt of it.
-use Rattle.std.specs.Prelude.{◌≡◌, ℕ, ◌+◌, ◌<◌, ◌≤◌, true, length, map, vec_capacity, List, [], Vec, None, Result, All, IfOk, OnOk, OnErr}
+use Rattle.std.specs.Prelude.{◌≡◌, ℕ, ◌+◌, ◌<◌, ◌≤◌, true, length, map, vec_capacity, List, [], Vec, Option, None, Result, All, IfOk, OnOk, OnErr}
 use Rattle.std.specs.declared.alloc.Global.{Global}
 use Rattle.fm_base.specs.declared.arena_id.ArenaId.{ArenaId}
 use Rattle.fm_rule_facts.specs.Views.{View}
@@ -9,7 +9,7 @@ use Rattle.fm_script_text.specs.declared.who.Who.{Who}
 use Rattle.fm_script_text.specs.Syntax.{IsSpelled}
 use Rattle.fm_script_lines.specs.declared.bound.Bound.{Bound}
 use Rattle.fm_script_lines.specs.declared.numbers.Numbers.{Numbers}
-use Rattle.fm_script_lines.specs.declared.outcome.Outcome.{Outcome}
+use Rattle.fm_script_lines.specs.declared.outcome.LineOutcome.{LineOutcome}
 use Rattle.fm_script_lines.specs.declared.reply.Reply.{Reply}
 use Rattle.fm_script_lines.specs.declared.standing.Standing.{Standing}
 use Rattle.fm_script_lines.specs.declared.table.Table.{Table}
@@ -23,6 +23,7 @@ use Rattle.fm_script_lines.specs.Report.{lines_by}
 use Rattle.fm_script_lines.specs.Runs.{RanLineWith, WentOn}
 use Rattle.fm_script_lines.specs.Slots.{SlotsTold, opens}
 use Rattle.fm_script_lines.specs.Standings.{IsBacked, IsSpent, lent, standing_as, standing_at, standing_of}
+use Rattle.fm_script_lines.specs.Tables.{Took}
 use Rattle.fm_script_lines.specs.Tokens.{Backs, BacksWith, IsReady, without}
 
 -- what the names of a table's lines stand for
@@ -35,6 +36,16 @@ pub record KeepsTable (old new : Table) : Type 0 where
   pub base : new.base ≡ old.base
   pub start : new.start ≡ old.start
   pub room : vec_capacity new.own ≡ vec_capacity old.own
+
+-- A hold or a handle was taken out of the table by its name; or there is none
+abbrev pub TookFrom : {T : Type 0} → (Standing → Standing) → (Standing → Option T) → Table → Table → List ℕ → Option T → Type 0
+TookFrom left token old new name found =
+    Took left token old.base.now old.start old.own.items new.own.items (number_at old.names.now name) found
+
+-- the pass can give back what a name stands for, outside all arenas
+pub record CanReturn (p : View) (t : Table) : Type 0 where
+  pub outside : p.inside ≡ None
+  pub ready : IsReady p t.base.now t.own.items
 
 -- a table of no lines of its own yet
 pub record IsFresh (numbers : Numbers) (others : List Standing) (first lines : ℕ) (t : Table) : Type 0 where
@@ -50,7 +61,7 @@ pub record IsFresh (numbers : Numbers) (others : List Standing) (first lines : �
 
 -- The pass ran a line's call that came to this: it has what it had but for a hold or handle that the line gave back, and
 -- the hold or handle of the line's name
-pub record CallRan (old new : View) (stands : List ℕ → Standing) (c : Command) (out : Outcome) : Type 0 where
+pub record CallRan (old new : View) (stands : List ℕ → Standing) (c : Command) (out : LineOutcome) : Type 0 where
   pub ran : RanLineWith old new (without (hold_back stands c) old.holds) (without (handle_back stands c) old.handles)
       (CallDoes old.caller stands c) out
   -- where it opens an arena, what it tells of slots; where it allocates, of pages

@@ -9,7 +9,7 @@ use Rattle.fm_base.specs.View.{inside_after}
 use Rattle.fm_rule_facts.specs.Views.{View}
 use Rattle.fm_rule_calls.specs.Kept.{rest_of}
 use Rattle.fm_rule_calls.specs.Told.{view_of_pass}
-use Rattle.fm_script_lines.specs.declared.outcome.Outcome.{Outcome}
+use Rattle.fm_script_lines.specs.declared.outcome.LineOutcome.{LineOutcome}
 use Rattle.fm_script_lines.specs.Standings.{IsBacked}
 use Rattle.fm_script_lines.specs.Tokens.{holds_with, handles_with}
 
@@ -50,10 +50,10 @@ abbrev pub Ran : View → View → (List Entry → Type 0) → Type 0
 Ran old new Does = RanWith old new old.holds old.handles Does
 
 -- The pass ran a line that came to this: it has these, and the hold or handle of the line's name
-pub record RanLineWith (old new : View) (holds handles : List ArenaId) (Does : Outcome → List Entry → Type 0) (out : Outcome) : Type 0 where
+pub record RanLineWith (old new : View) (holds handles : List ArenaId) (Does : LineOutcome → List Entry → Type 0) (out : LineOutcome) : Type 0 where
   pub ran : RanWith old new (holds_with out.made holds) (handles_with out.made handles) (Does out)
   pub backed : IsBacked new out.made
 
 -- and what it had
-abbrev pub RanLine : View → View → (Outcome → List Entry → Type 0) → Outcome → Type 0
+abbrev pub RanLine : View → View → (LineOutcome → List Entry → Type 0) → LineOutcome → Type 0
 RanLine old new Does out = RanLineWith old new old.holds old.handles Does out

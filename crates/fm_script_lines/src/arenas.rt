@@ -6,7 +6,7 @@ ghost use Rattle.fm_script_lines.specs.Slots.{SlotsTold};
 ghost use Rattle.fm_script_lines.specs.Standings.{arena_of, standing_as};
 
 use crate::bound::Bound;
-use crate::outcome::Outcome;
+use crate::outcome::LineOutcome;
 use crate::reply::Reply;
 use crate::standing::Standing;
 use fm_arena::{AutoHandle, Shared};
@@ -14,7 +14,7 @@ use fm_base::{Kind, Memory};
 use std::sync::Wait;
 
 /// `open NAME KIND`
-pub(crate) fn open<R: Wait>(rt: &R, m: &mut Shared, kind: Kind) -> Outcome
+pub(crate) fn open<R: Wait>(rt: &R, m: &mut Shared, kind: Kind) -> LineOutcome
     requires { m.old.inside ≡ None }
     ensures ran { RanLine m.old m.new (Opens m.old.caller kind) result }
     ensures slots { SlotsTold m.old m.new result.reply }
@@ -26,62 +26,62 @@ pub(crate) fn open<R: Wait>(rt: &R, m: &mut Shared, kind: Kind) -> Outcome
 }
 
 /// Of an automatic arena.
-fn open_automatic<R: Wait>(rt: &R, m: &mut Shared) -> Outcome
+fn open_automatic<R: Wait>(rt: &R, m: &mut Shared) -> LineOutcome
     requires { m.old.inside ≡ None }
     ensures ran { RanLine m.old m.new (Opens m.old.caller Kind.Automatic) result }
     ensures slots { SlotsTold m.old m.new result.reply }
 {
     match AutoHandle::start(rt, m) {
-        Ok(handle) => Outcome {
+        Ok(handle) => LineOutcome {
             reply: Reply::Fine,
             made: Standing::Automatic(handle.arena(), Some(handle)),
         },
-        Err(refusal) => Outcome::plain(Reply::Refused(refusal)),
+        Err(refusal) => LineOutcome::plain(Reply::Refused(refusal)),
     }
 }
 
 /// Of an arena of another kind.
-fn open_by_hand<R: Wait>(rt: &R, m: &mut Shared, kind: Kind) -> Outcome
+fn open_by_hand<R: Wait>(rt: &R, m: &mut Shared, kind: Kind) -> LineOutcome
     requires outside { m.old.inside ≡ None }
     requires by_hand { ¬ (kind ≡ Kind.Automatic) }
     ensures ran { RanLine m.old m.new (Opens m.old.caller kind) result }
     ensures slots { SlotsTold m.old m.new result.reply }
 {
     match m.open_arena(rt, kind) {
-        Ok(arena) => Outcome {
+        Ok(arena) => LineOutcome {
             reply: Reply::Fine,
             made: Standing::Arena(arena),
         },
-        Err(refusal) => Outcome::plain(Reply::Refused(refusal)),
+        Err(refusal) => LineOutcome::plain(Reply::Refused(refusal)),
     }
 }
 
 /// `alive ARENA`
-pub(crate) fn ask(m: &mut Shared, bound: Bound) -> Outcome
+pub(crate) fn ask(m: &mut Shared, bound: Bound) -> LineOutcome
     requires outside { m.old.inside ≡ None }
     requires known { IfSome (arena_of (standing_as bound)) (IsKnown m.old) }
     ensures { RanLine m.old m.new (On (arena_of (standing_as bound)) (Asks m.old.caller)) result }
 {
     let Some(arena) = bound.arena() else {
-        return Outcome::plain(Reply::Skipped);
+        return LineOutcome::plain(Reply::Skipped);
     };
     match m.is_alive(arena) {
-        Ok(alive) => Outcome::plain(Reply::Truth(alive)),
-        Err(refusal) => Outcome::plain(Reply::Refused(refusal)),
+        Ok(alive) => LineOutcome::plain(Reply::Truth(alive)),
+        Err(refusal) => LineOutcome::plain(Reply::Refused(refusal)),
     }
 }
 
 /// `close ARENA`
-pub(crate) fn close<R: Wait>(rt: &R, m: &mut Shared, bound: Bound) -> Outcome
+pub(crate) fn close<R: Wait>(rt: &R, m: &mut Shared, bound: Bound) -> LineOutcome
     requires outside { m.old.inside ≡ None }
     requires known { IfSome (arena_of (standing_as bound)) (IsKnown m.old) }
     ensures { RanLine m.old m.new (On (arena_of (standing_as bound)) (Closes m.old.caller)) result }
 {
     let Some(arena) = bound.arena() else {
-        return Outcome::plain(Reply::Skipped);
+        return LineOutcome::plain(Reply::Skipped);
     };
     match m.close(rt, arena) {
-        Ok(_) => Outcome::plain(Reply::Fine),
-        Err(refusal) => Outcome::plain(Reply::Refused(refusal)),
+        Ok(_) => LineOutcome::plain(Reply::Fine),
+        Err(refusal) => LineOutcome::plain(Reply::Refused(refusal)),
     }
 }

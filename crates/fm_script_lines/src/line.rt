@@ -4,7 +4,7 @@ ghost use Rattle.fm_script_lines.specs.Learnt.{AfterLine, CallRan, CanRunLine, L
 use crate::accesses::{get, set};
 use crate::arenas::{ask, close, open};
 use crate::blocks::{copy, fill, mismatch};
-use crate::outcome::Outcome;
+use crate::outcome::LineOutcome;
 use crate::reply::Reply;
 use crate::returns::{give_back, unhold};
 use crate::segments::{allocate, read_only, slice};
@@ -42,7 +42,7 @@ fn call<R: Wait>(
     m: &mut Shared,
     table: &mut Table,
     command: &Command,
-) -> Result<Outcome, AllocError>
+) -> Result<LineOutcome, AllocError>
     requires can { CanRunLine m.old table.old command.now }
     ensures ran { IfOk result (CallRan m.old m.new (stands_by table.old) command.now) }
     ensures leaves { Leaves m.old table.old table.new command.now }

@@ -32,7 +32,8 @@ impl Numbers {
     /// Keeps the number of this line.
     fn note(&mut self, alloc: Global, number: usize, line: &Line) -> Result<(), AllocError>
         ensures { OnOk result ((name : List ℕ) → number_at self.new name
-            ≡ (if is_made name (made line.now.command) then Some number else number_at self.old name)) }
+            ≡ (if is_made name (made line.now.command) then Some number
+            else number_at self.old name)) }
     {
         let Some((name, _)) = line.command.makes() else {
             return Ok(());

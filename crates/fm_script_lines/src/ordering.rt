@@ -7,7 +7,7 @@ use std::alloc::{AllocError, Global};
 
 /// The lines of a script in the order of printing.
 #[derive(Debug, Drop)]
-pub struct Order<'a> {
+pub struct LinesInOrder<'a> {
     /// The first lines, those of worker 1 and so on, the last ones.
     pub lines: Vec<&'a Line>,
     /// For each worker the place of its first line.
@@ -15,7 +15,11 @@ pub struct Order<'a> {
 }
 
 /// The order of a script's lines, where it has so many workers.
-pub fn in_order<'a>(alloc: Global, lines: &'a [Line], workers: u32) -> Result<Order<'a>, AllocError>
+pub fn in_order<'a>(
+    alloc: Global,
+    lines: &'a [Line],
+    workers: u32,
+) -> Result<LinesInOrder<'a>, AllocError>
     ensures lines { IfOk result (λ order. lines_at order.lines.items ≡ in_order workers lines.now) }
     ensures starts { IfOk result (λ order. AreStarts lines.now workers order.starts.items) }
 {
@@ -27,7 +31,7 @@ pub fn in_order<'a>(alloc: Global, lines: &'a [Line], workers: u32) -> Result<Or
         add_lines(&mut order, lines, Who::Worker(worker + 1))?;
     }
     add_lines(&mut order, lines, Who::Last)?;
-    Ok(Order {
+    Ok(LinesInOrder {
         lines: order,
         starts,
     })
@@ -48,7 +52,8 @@ pub fn count_lines(lines: &[Line], who: Who) -> usize
 
 /// Puts those of the lines that are these behind the others.
 fn add_lines<'a>(order: &mut Vec<&'a Line>, lines: &'a [Line], who: Who) -> Result<(), AllocError>
-    ensures { OnOk result (lines_at order.new.items ≡ lines_at order.old.items ++ lines_by (is_by who) lines.now) }
+    ensures { OnOk result (lines_at order.new.items
+        ≡ lines_at order.old.items ++ lines_by (is_by who) lines.now) }
 {
     for line in lines {
         if is_by(who, line.who) {

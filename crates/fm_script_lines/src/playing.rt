@@ -27,7 +27,8 @@ pub fn play<R: Wait, T: Turns>(
     turns: &T,
 ) -> Result<(), AllocError>
     requires { CanRunLines m.old table.old lines.now who replies.old }
-    ensures { AfterLines m.old m.new table.old table.new (lines_by (is_by who) lines.now) replies.new.items result }
+    ensures { AfterLines m.old m.new table.old table.new
+        (lines_by (is_by who) lines.now) replies.new.items result }
 {
     for line in lines {
         if is_by(who, line.who) {

@@ -1,9 +1,7 @@
-ghost use Rattle.std.specs.Prelude.{◌≡◌, None};
-ghost use Rattle.fm_script_lines.specs.Learnt.{CallRan, Leaves, stands_by};
-ghost use Rattle.fm_script_lines.specs.Tokens.{IsReady};
+ghost use Rattle.fm_script_lines.specs.Learnt.{CallRan, CanReturn, Leaves, stands_by};
 ghost use Rattle.fm_script_text.specs.declared.command.Command.TheVariants as command;
 
-use crate::outcome::Outcome;
+use crate::outcome::LineOutcome;
 use crate::reply::Reply;
 use crate::table::Table;
 use crate::tokens::{end_handle, end_hold};
@@ -12,17 +10,16 @@ use fm_path_text::NameText;
 use std::sync::Wait;
 
 /// `unhold HOLD`
-pub(crate) fn unhold(m: &mut Shared, table: &mut Table, hold: &NameText) -> Outcome
-    requires outside { m.old.inside ≡ None }
-    requires ready { IsReady m.old table.old.base.now table.old.own.items }
+pub(crate) fn unhold(m: &mut Shared, table: &mut Table, hold: &NameText) -> LineOutcome
+    requires { CanReturn m.old table.old }
     ensures ran { CallRan m.old m.new (stands_by table.old) (command.Unhold hold.now) result }
     ensures leaves { Leaves m.old table.old table.new (command.Unhold hold.now) }
 {
     let Some(hold) = table.take_hold(hold) else {
-        return Outcome::plain(Reply::Skipped);
+        return LineOutcome::plain(Reply::Skipped);
     };
     end_hold(m, hold);
-    Outcome::plain(Reply::Fine)
+    LineOutcome::plain(Reply::Fine)
 }
 
 /// `back HANDLE`
@@ -31,14 +28,13 @@ pub(crate) fn give_back<R: Wait>(
     m: &mut Shared,
     table: &mut Table,
     handle: &NameText,
-) -> Outcome
-    requires outside { m.old.inside ≡ None }
-    requires ready { IsReady m.old table.old.base.now table.old.own.items }
+) -> LineOutcome
+    requires { CanReturn m.old table.old }
     ensures ran { CallRan m.old m.new (stands_by table.old) (command.Back handle.now) result }
     ensures leaves { Leaves m.old table.old table.new (command.Back handle.now) }
 {
     let Some(handle) = table.take_handle(handle) else {
-        return Outcome::plain(Reply::Skipped);
+        return LineOutcome::plain(Reply::Skipped);
     };
-    Outcome::plain(end_handle(rt, m, handle))
+    LineOutcome::plain(end_handle(rt, m, handle))
 }

@@ -11,7 +11,7 @@ ghost use Rattle.fm_script_lines.specs.Runs.{RanLine};
 ghost use Rattle.fm_script_lines.specs.Standings.{arena_of, segment_of, standing_as};
 
 use crate::bound::Bound;
-use crate::outcome::Outcome;
+use crate::outcome::LineOutcome;
 use crate::reply::Reply;
 use crate::standing::Standing;
 use fm_arena::Shared;
@@ -26,50 +26,56 @@ pub(crate) fn allocate<R: Wait>(
     bound: Bound,
     size: u64,
     align: u64,
-) -> Outcome
+) -> LineOutcome
     requires outside { m.old.inside ≡ None }
     requires known { IfSome (arena_of (standing_as bound)) (pass.IsKnown m.old) }
-    ensures ran { RanLine m.old m.new (On (arena_of (standing_as bound)) (Allocates m.old.caller size align)) result }
-    ensures pages { IfSome (arena_of (standing_as bound)) (λ id. PagesTold m.old m.new id size align result.reply) }
+    ensures ran { RanLine m.old m.new (On (arena_of (standing_as bound))
+        (Allocates m.old.caller size align)) result }
+    ensures pages { IfSome (arena_of (standing_as bound))
+        (λ id. PagesTold m.old m.new id size align result.reply) }
 {
     let Some(arena) = bound.arena() else {
-        return Outcome::plain(Reply::Skipped);
+        return LineOutcome::plain(Reply::Skipped);
     };
     match m.allocate(rt, arena, size, align) {
-        Ok(place) => Outcome {
+        Ok(place) => LineOutcome {
             reply: Reply::Place(place),
             made: Standing::Segment(Segment::of(arena, place, size)),
         },
-        Err(refusal) => Outcome::plain(Reply::Refused(refusal)),
+        Err(refusal) => LineOutcome::plain(Reply::Refused(refusal)),
     }
 }
 
 /// `slice SEG NAME OFFSET SIZE`
-pub(crate) fn slice(bound: Bound, offset: u64, size: u64) -> Outcome
-    ensures { (p : View) → p.inside ≡ None → IfSome (segment_of (standing_as bound)) (IsKnown (view_of_pass p))
-        → RanLine p p (On (segment_of (standing_as bound)) (λ r. Called (Answers (slice_of offset size r)) segment_made)) result }
+pub(crate) fn slice(bound: Bound, offset: u64, size: u64) -> LineOutcome
+    ensures { (p : View) → p.inside ≡ None → IfSome (segment_of (standing_as bound))
+        (IsKnown (view_of_pass p))
+        → RanLine p p (On (segment_of (standing_as bound))
+        (λ r. Called (Answers (slice_of offset size r)) segment_made)) result }
 {
     let Some(segment) = bound.segment() else {
-        return Outcome::plain(Reply::Skipped);
+        return LineOutcome::plain(Reply::Skipped);
     };
     match segment.as_slice(offset, size) {
-        Ok(slice) => Outcome {
+        Ok(slice) => LineOutcome {
             reply: Reply::Fine,
             made: Standing::Segment(slice),
         },
-        Err(refusal) => Outcome::plain(Reply::Refused(refusal)),
+        Err(refusal) => LineOutcome::plain(Reply::Refused(refusal)),
     }
 }
 
 /// `readonly SEG NAME`
-pub(crate) fn read_only(bound: Bound) -> Outcome
-    ensures { (p : View) → p.inside ≡ None → IfSome (segment_of (standing_as bound)) (IsKnown (view_of_pass p))
-        → RanLine p p (On (segment_of (standing_as bound)) (λ r. Called (Answers (Ok (read_only_of r))) segment_made)) result }
+pub(crate) fn read_only(bound: Bound) -> LineOutcome
+    ensures { (p : View) → p.inside ≡ None → IfSome (segment_of (standing_as bound))
+        (IsKnown (view_of_pass p))
+        → RanLine p p (On (segment_of (standing_as bound))
+        (λ r. Called (Answers (Ok (read_only_of r))) segment_made)) result }
 {
     let Some(segment) = bound.segment() else {
-        return Outcome::plain(Reply::Skipped);
+        return LineOutcome::plain(Reply::Skipped);
     };
-    Outcome {
+    LineOutcome {
         reply: Reply::Fine,
         made: Standing::Segment(segment.as_read_only()),
     }

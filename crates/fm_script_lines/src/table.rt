@@ -4,12 +4,12 @@ ghost use Rattle.fm_base.specs.declared.arena_id.ArenaId.{ArenaId};
 ghost use Rattle.fm_rule_facts.specs.Views.{View};
 ghost use Rattle.fm_script_lines.specs.Numbers.{number_at};
 ghost use Rattle.fm_script_lines.specs.Standings.{IsBacked, lent, standing_as, arena_of, segment_of, hold_in, handle_in, standing_of, unheld, handed_back};
-ghost use Rattle.fm_script_lines.specs.Tables.{Took, IsOwn};
+ghost use Rattle.fm_script_lines.specs.Tables.{IsOwn};
 ghost use Rattle.fm_script_lines.specs.Tokens.{Backs};
 
 use crate::bound::Bound;
 use crate::numbers::Numbers;
-use crate::outcome::Outcome;
+use crate::outcome::LineOutcome;
 use crate::reply::Reply;
 use crate::standing::Standing;
 use fm_arena::AutoHandle;
@@ -31,7 +31,7 @@ pub struct Table<'a> {
 }
 
 impl<'a> Table<'a> {
-    ghost use Rattle.fm_script_lines.specs.Learnt.{IsFresh, KeepsTable};
+    ghost use Rattle.fm_script_lines.specs.Learnt.{IsFresh, KeepsTable, TookFrom};
 
     /// Of no lines of its own yet, with room for so many. The first has the number `start`.
     pub fn new(
@@ -76,23 +76,25 @@ impl<'a> Table<'a> {
     }
 
     /// Takes in what the next of its own lines came to, and answers the reply.
-    pub(crate) fn take_in(&mut self, out: Outcome) -> Reply
+    pub(crate) fn take_in(&mut self, out: LineOutcome) -> Reply
         requires { length self.old.own.items < vec_capacity self.old.own }
         ensures keeps { KeepsTable self.old self.new }
         ensures own { self.new.own.items ≡ self.old.own.items ++ out.made ∷ [] }
         ensures reply { result ≡ out.reply }
     {
-        let Outcome { reply, made } = out;
+        let LineOutcome { reply, made } = out;
         self.own.push_reserved(made);
         reply
     }
 
     /// What the name is bound to, by a line before all workers' or by one of its own that has run.
     pub(crate) fn at(&self, name: &NameText) -> Bound
-        ensures arena { arena_of (standing_as result) ≡ arena_of (standing_of self.now.base.now self.now.start
-            self.now.own.items (number_at self.now.names.now name.now)) }
-        ensures segment { segment_of (standing_as result) ≡ segment_of (standing_of self.now.base.now self.now.start
-            self.now.own.items (number_at self.now.names.now name.now)) }
+        ensures arena { arena_of (standing_as result)
+            ≡ arena_of (standing_of self.now.base.now self.now.start self.now.own.items
+            (number_at self.now.names.now name.now)) }
+        ensures segment { segment_of (standing_as result)
+            ≡ segment_of (standing_of self.now.base.now self.now.start self.now.own.items
+            (number_at self.now.names.now name.now)) }
     {
         let Some(number) = self.names.of(name) else {
             return Bound::Nothing;
@@ -111,12 +113,11 @@ impl<'a> Table<'a> {
 
     /// The handle that it is bound to by a line of its own, unless that was given back.
     pub(crate) fn handle(&self, name: &NameText) -> Option<&AutoHandle>
-        ensures { option_map (λ h. h.now) result ≡ handle_in (standing_of self.now.base.now self.now.start
-            self.now.own.items (number_at self.now.names.now name.now)) }
+        ensures { option_map (λ h. h.now) result
+            ≡ handle_in (standing_of self.now.base.now self.now.start self.now.own.items
+            (number_at self.now.names.now name.now)) }
     {
-        let Some(at) = self.own_place(name) else {
-            return None;
-        };
+        let at = self.own_place(name)?;
         match &self.own[at] {
             Standing::Automatic(_, handle) | Standing::Handle(handle) => handle.as_ref(),
             _ => None,
@@ -126,12 +127,9 @@ impl<'a> Table<'a> {
     /// Takes the hold out that the name is bound to.
     pub(crate) fn take_hold(&mut self, name: &NameText) -> Option<Hold>
         ensures keeps { KeepsTable self.old self.new }
-        ensures took { Took unheld hold_in self.old.base.now self.old.start self.old.own.items self.new.own.items
-            (number_at self.old.names.now name.now) result }
+        ensures took { TookFrom unheld hold_in self.old self.new name.now result }
     {
-        let Some(at) = self.own_place(name) else {
-            return None;
-        };
+        let at = self.own_place(name)?;
         match &mut self.own[at] {
             Standing::Hold(hold) => hold.take(),
             _ => None,
@@ -141,12 +139,9 @@ impl<'a> Table<'a> {
     /// Takes the handle out.
     pub(crate) fn take_handle(&mut self, name: &NameText) -> Option<AutoHandle>
         ensures keeps { KeepsTable self.old self.new }
-        ensures took { Took handed_back handle_in self.old.base.now self.old.start self.old.own.items self.new.own.items
-            (number_at self.old.names.now name.now) result }
+        ensures took { TookFrom handed_back handle_in self.old self.new name.now result }
     {
-        let Some(at) = self.own_place(name) else {
-            return None;
-        };
+        let at = self.own_place(name)?;
         match &mut self.own[at] {
             Standing::Automatic(_, handle) => handle.take(),
             Standing::Handle(handle) => handle.take(),
@@ -162,9 +157,7 @@ impl<'a> Table<'a> {
             (IsOwn (length self.now.base.now) self.now.start (length self.now.own.items)
             (number_at self.now.names.now name.now)) }
     {
-        let Some(number) = self.names.of(name) else {
-            return None;
-        };
+        let number = self.names.of(name)?;
         if number < self.base.len()
             || number < self.start
             || self.own.len() <= number - self.start

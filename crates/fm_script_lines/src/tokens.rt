@@ -10,7 +10,7 @@ ghost use Rattle.fm_script_lines.specs.Runs.{RanLine, RanWith};
 ghost use Rattle.fm_script_lines.specs.Standings.{arena_of, standing_as};
 
 use crate::bound::Bound;
-use crate::outcome::Outcome;
+use crate::outcome::LineOutcome;
 use crate::reply::Reply;
 use crate::standing::Standing;
 use fm_arena::{AutoHandle, Shared};
@@ -19,20 +19,20 @@ use fm_gate::Hold;
 use std::sync::Wait;
 
 /// `hold ARENA NAME`
-pub(crate) fn hold<R: Wait>(rt: &R, m: &mut Shared, bound: Bound) -> Outcome
+pub(crate) fn hold<R: Wait>(rt: &R, m: &mut Shared, bound: Bound) -> LineOutcome
     requires outside { m.old.inside ≡ None }
     requires known { IfSome (arena_of (standing_as bound)) (IsKnown m.old) }
     ensures { RanLine m.old m.new (On (arena_of (standing_as bound)) (Holds m.old.caller)) result }
 {
     let Some(arena) = bound.arena() else {
-        return Outcome::plain(Reply::Skipped);
+        return LineOutcome::plain(Reply::Skipped);
     };
     match m.hold(rt, arena) {
-        Ok(hold) => Outcome {
+        Ok(hold) => LineOutcome {
             reply: Reply::Fine,
             made: Standing::Hold(Some(hold)),
         },
-        Err(refusal) => Outcome::plain(Reply::Refused(refusal)),
+        Err(refusal) => LineOutcome::plain(Reply::Refused(refusal)),
     }
 }
 
@@ -47,20 +47,21 @@ pub(crate) fn end_hold(m: &mut Shared, hold: Hold)
 }
 
 /// `again HANDLE NAME`
-pub(crate) fn again<R: Wait>(rt: &R, m: &mut Shared, handle: Option<&AutoHandle>) -> Outcome
+pub(crate) fn again<R: Wait>(rt: &R, m: &mut Shared, handle: Option<&AutoHandle>) -> LineOutcome
     requires outside { m.old.inside ≡ None }
     requires has { IfSome handle (λ h. HasHandle m.old h.now) }
-    ensures { RanLine m.old m.new (On (option_map (λ h. h.now.arena) handle.entry) (TakesAgain m.old.caller)) result }
+    ensures { RanLine m.old m.new (On (option_map (λ h. h.now.arena) handle.entry)
+        (TakesAgain m.old.caller)) result }
 {
     let Some(handle) = handle else {
-        return Outcome::plain(Reply::Skipped);
+        return LineOutcome::plain(Reply::Skipped);
     };
     match handle.again(rt, m) {
-        Ok(other) => Outcome {
+        Ok(other) => LineOutcome {
             reply: Reply::Fine,
             made: Standing::Handle(Some(other)),
         },
-        Err(refusal) => Outcome::plain(Reply::Refused(refusal)),
+        Err(refusal) => LineOutcome::plain(Reply::Refused(refusal)),
     }
 }
 

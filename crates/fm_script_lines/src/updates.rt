@@ -7,7 +7,7 @@ ghost use Rattle.fm_script_lines.specs.Runs.{RanLine};
 ghost use Rattle.fm_script_lines.specs.Standings.{segment_of, standing_as};
 
 use crate::bound::Bound;
-use crate::outcome::Outcome;
+use crate::outcome::LineOutcome;
 use crate::reply::Reply;
 use crate::values::{handle_of, value_of};
 use fm_arena::Shared;
@@ -23,21 +23,22 @@ pub(crate) fn add<R: Wait>(
     bound: Bound,
     cell: &Cell,
     value: i64,
-) -> Result<Outcome, AllocError>
+) -> Result<LineOutcome, AllocError>
     requires outside { m.old.inside ≡ None }
     requires known { IfSome (segment_of (standing_as bound)) (IsKnown (view_of_pass m.old)) }
     requires of_kind { IsOfKind cell.now.kind value }
-    ensures ran { IfOk result (RanLine m.old m.new (On (segment_of (standing_as bound)) (Adds m.old.caller cell.now value))) }
+    ensures ran { IfOk result (RanLine m.old m.new (On (segment_of (standing_as bound))
+        (Adds m.old.caller cell.now value))) }
     ensures kept { OnErr result (m.new ≡ m.old) }
 {
     let Some(segment) = bound.segment() else {
-        return Ok(Outcome::plain(Reply::Skipped));
+        return Ok(LineOutcome::plain(Reply::Skipped));
     };
     let handle = handle_of(alloc, cell)?;
     let value = value_of(cell.kind, value);
     match handle.get_and_add(rt, m, &segment, cell.offset, &[], value) {
-        Ok(found) => Ok(Outcome::plain(Reply::Number(found.number()))),
-        Err(refusal) => Ok(Outcome::plain(Reply::Refused(refusal))),
+        Ok(found) => Ok(LineOutcome::plain(Reply::Number(found.number()))),
+        Err(refusal) => Ok(LineOutcome::plain(Reply::Refused(refusal))),
     }
 }
 
@@ -50,22 +51,23 @@ pub(crate) fn exchange<R: Wait>(
     cell: &Cell,
     wanted: i64,
     value: i64,
-) -> Result<Outcome, AllocError>
+) -> Result<LineOutcome, AllocError>
     requires outside { m.old.inside ≡ None }
     requires known { IfSome (segment_of (standing_as bound)) (IsKnown (view_of_pass m.old)) }
     requires old_kind { IsOfKind cell.now.kind wanted }
     requires new_kind { IsOfKind cell.now.kind value }
-    ensures ran { IfOk result (RanLine m.old m.new (On (segment_of (standing_as bound)) (Exchanges m.old.caller cell.now wanted value))) }
+    ensures ran { IfOk result (RanLine m.old m.new (On (segment_of (standing_as bound))
+        (Exchanges m.old.caller cell.now wanted value))) }
     ensures kept { OnErr result (m.new ≡ m.old) }
 {
     let Some(segment) = bound.segment() else {
-        return Ok(Outcome::plain(Reply::Skipped));
+        return Ok(LineOutcome::plain(Reply::Skipped));
     };
     let handle = handle_of(alloc, cell)?;
     let wanted = value_of(cell.kind, wanted);
     let value = value_of(cell.kind, value);
     match handle.compare_and_exchange(rt, m, &segment, cell.offset, &[], wanted, value) {
-        Ok(found) => Ok(Outcome::plain(Reply::Number(found.number()))),
-        Err(refusal) => Ok(Outcome::plain(Reply::Refused(refusal))),
+        Ok(found) => Ok(LineOutcome::plain(Reply::Number(found.number()))),
+        Err(refusal) => Ok(LineOutcome::plain(Reply::Refused(refusal))),
     }
 }

@@ -11,26 +11,11 @@ use Rattle.fm_script_lines.specs.declared.standing.Standing.TheVariants as stand
 use Rattle.fm_script_lines.specs.Lines.{behind, is_number}
 use Rattle.fm_script_lines.specs.Report.{Done, Played, Player, all_done, gathered_names, names_after, names_behind, none_stands, number_of, worked}
 use Rattle.fm_script_lines.specs.Standings.{Names, arena_of, unheld, handed_back}
+use Rattle.fm_script_lines.proofs.Lent.{seen_alike, stays_lent}
 use Rattle.fm_script_lines.proofs.Naming.{lent_seen}
 use Rattle.fm_script_report.specs.Told.{opened_of}
 
 -- ---- a name that stays the name of an arena
-
-arena_of-unheld : (s : Standing) → arena_of (unheld s) ≡ arena_of s
-arena_of-unheld standing.Nothing = refl
-arena_of-unheld (standing.Arena id) = refl
-arena_of-unheld (standing.Automatic id handle) = refl
-arena_of-unheld (standing.Segment r) = refl
-arena_of-unheld (standing.Hold hold) = refl
-arena_of-unheld (standing.Handle handle) = refl
-
-arena_of-handed_back : (s : Standing) → arena_of (handed_back s) ≡ arena_of s
-arena_of-handed_back standing.Nothing = refl
-arena_of-handed_back (standing.Arena id) = refl
-arena_of-handed_back (standing.Automatic id handle) = refl
-arena_of-handed_back (standing.Segment r) = refl
-arena_of-handed_back (standing.Hold hold) = refl
-arena_of-handed_back (standing.Handle handle) = refl
 
 arena_of-if : (b : Bool) (s t : Standing) → arena_of s ≡ arena_of t → arena_of (if b then s else t) ≡ arena_of t
 arena_of-if true s t e = e
@@ -52,9 +37,10 @@ module _ (number : List ℕ → Option ℕ) where
   arena_of-behind (Mismatch segment other) n s = refl
   arena_of-behind (Alive arena) n s = refl
   arena_of-behind (Hold arena name) n s = refl
-  arena_of-behind (Unhold hold) n s = arena_of-if (is_number (number hold) n) (unheld s) s (arena_of-unheld s)
+  arena_of-behind (Unhold hold) n s = arena_of-if (is_number (number hold) n) (unheld s) s (seen_alike (unheld s) s (stays_lent s).once_unheld).arena
   arena_of-behind (Again handle name) n s = refl
-  arena_of-behind (Back handle) n s = arena_of-if (is_number (number handle) n) (handed_back s) s (arena_of-handed_back s)
+  arena_of-behind (Back handle) n s =
+      arena_of-if (is_number (number handle) n) (handed_back s) s (seen_alike (handed_back s) s (stays_lent s).once_handed).arena
   arena_of-behind (Close arena) n s = refl
 
   -- Behind a line, a name that isn't the line's.

@@ -12,12 +12,10 @@ use Rattle.std.proofs.lemmas.Fmt.{decimal_is_IsNumeral}
 use Rattle.std.proofs.lemmas.Option.{same_Some, option_and_then_some}
 use Rattle.fm_base.specs.declared.kind.Kind.{Kind}
 use Rattle.fm_lanes.specs.declared.order.Order.{Order}
-use Rattle.fm_lanes.specs.declared.order.Order.TheVariants.{Little, Big}
 use Rattle.fm_lanes.specs.declared.value_kind.ValueKind.{ValueKind}
-use Rattle.fm_lanes.specs.declared.value_kind.ValueKind.TheVariants.{Byte, Boolean, Char, Short, Int, Long}
 use Rattle.fm_layout.specs.Name.{IsName, IsNameEnd, is_letter, is_digit}
 use Rattle.fm_script_text.proofs.Cuts.{IsFree, cut_behind, cut_gives, row3, row4, row5, cut3_row, cut4_row, cut5_row, cut3_gives, cut4_gives, cut5_gives}
-use Rattle.fm_script_text.proofs.Spelling.{named_name, name_is, named_up_to, number_is, named_value, value_is, named_kind, kind_is, named_type, type_is}
+use Rattle.fm_script_text.proofs.Spelling.{named_name, name_is, named_up_to, number_is, named_value, value_is, named_kind, kind_is, every_type, named_type, type_is}
 use Rattle.fm_script_text.specs.declared.cell.Cell.{Cell}
 use Rattle.fm_script_text.specs.Reader.{name_named, number_named, literal_named, type_named, arena_kind_named, cut, cut3, cut4, cut5, opening, two, filled, sized, cell_of, cell_named, with_value, with_two, got, valued, swapped}
 use Rattle.fm_script_text.specs.Syntax.{arena_kind_text, type_text, IsOfKind, IsCell, most}
@@ -55,18 +53,9 @@ free_signed (negsuc n) h = (λ e. absurd (omega arith), free_decimal (suc n) (om
 
 -- nor has a type
 pub free_type : (k : ValueKind) (o : Order) → IsFree 32 (type_text k o)
-free_type Byte Little = free_tested (type_text Byte Little) refl
-free_type Byte Big = free_tested (type_text Byte Big) refl
-free_type Boolean Little = free_tested (type_text Boolean Little) refl
-free_type Boolean Big = free_tested (type_text Boolean Big) refl
-free_type Char Little = free_tested (type_text Char Little) refl
-free_type Char Big = free_tested (type_text Char Big) refl
-free_type Short Little = free_tested (type_text Short Little) refl
-free_type Short Big = free_tested (type_text Short Big) refl
-free_type Int Little = free_tested (type_text Int Little) refl
-free_type Int Big = free_tested (type_text Int Big) refl
-free_type Long Little = free_tested (type_text Long Little) refl
-free_type Long Big = free_tested (type_text Long Big) refl
+free_type k o =
+    free_tested (type_text k o) (every_type (λ t. list_all (λ b. not (eqb b 32)) (type_text t.0 t.1) ≡ true)
+    (refl, (refl, (refl, (refl, (refl, (refl, (refl, (refl, (refl, (refl, (refl, (refl, tt)))))))))))) k o)
 
 -- ---- parts of what was read
 
@@ -87,6 +76,10 @@ joins a b c d e f = cc
 
 -- ---- names and numbers
 
+-- one name spells what it is read as
+pub name_gives : (text name : List ℕ) → name_named text ≡ Some name → (text ≡ name) × IsName name
+name_gives text name e = let n = name_is text name e in (n.1, n.0)
+
 -- NAME KIND is read as itself
 pub opening_row : (name : List ℕ) (k : Kind) → IsName name → opening (name ++ (32 ∷ arena_kind_text k)) ≡ Some (name, k)
 opening_row name k h = rw (cut_behind name (arena_kind_text k) (free_name name h), named_name name h, named_kind k) refl
@@ -103,24 +96,24 @@ pub two_row : (a b : List ℕ) → IsName a → IsName b → two (a ++ (32 ∷ b
 two_row a b h k = rw (cut_behind a b (free_name a h), named_name a h, named_name b k) refl
 
 -- and spell what they are read as
-pub two_gives : (text : List ℕ) (x : List ℕ × List ℕ) → two text ≡ Some x → (text ≡ x.0 ++ (32 ∷ x.1)) × IsName x.0 × IsName x.1
+pub two_gives : (text : List ℕ) (x : List ℕ × List ℕ) → two text ≡ Some x → (text ≡ x.0 ++ (32 ∷ x.1)) × (IsName x.0 × IsName x.1)
 two_gives text x e = option_and_then_some (λ y. option_zip (name_named y.0) (name_named y.1)) (cut text) x e (λ y f g.
     let z = zip_parts (name_named y.0) (name_named y.1) x g in
     let n = name_is y.0 x.0 z.0 in
     let m = name_is y.1 x.1 z.1 in
-    (cut_gives text y f ∙ joins y.0 x.0 y.1 x.1 n.1 m.1, n.0, m.0))
+    (cut_gives text y f ∙ joins y.0 x.0 y.1 x.1 n.1 m.1, (n.0, m.0)))
 
 -- SEG BYTE is read as itself
 pub filled_row : (a : List ℕ) (n : ℕ) → IsName a → n ≤ 255 → filled (a ++ (32 ∷ decimal n)) ≡ Some (a, n)
 filled_row a n h le = rw (cut_behind a (decimal n) (free_name a h), named_name a h, named_up_to 255 n le (lit< tt)) refl
 
 -- and spells what it is read as
-pub filled_gives : (text : List ℕ) (x : List ℕ × ℕ) → filled text ≡ Some x → (text ≡ x.0 ++ (32 ∷ decimal x.1)) × IsName x.0 × (x.1 ≤ 255)
+pub filled_gives : (text : List ℕ) (x : List ℕ × ℕ) → filled text ≡ Some x → (text ≡ x.0 ++ (32 ∷ decimal x.1)) × (IsName x.0 × (x.1 ≤ 255))
 filled_gives text x e = option_and_then_some (λ y. option_zip (name_named y.0) (number_named 255 y.1)) (cut text) x e (λ y f g.
     let z = zip_parts (name_named y.0) (number_named 255 y.1) x g in
     let n = name_is y.0 x.0 z.0 in
     let m = number_is 255 y.1 x.1 z.1 in
-    (cut_gives text y f ∙ joins y.0 x.0 y.1 (decimal x.1) n.1 m.1, n.0, m.0))
+    (cut_gives text y f ∙ joins y.0 x.0 y.1 (decimal x.1) n.1 m.1, (n.0, m.0)))
 
 -- two names and two numbers are read as themselves
 pub sized_row : (a b : List ℕ) (n m : ℕ) → IsName a → IsName b → n ≤ most → m ≤ most → sized (row4 (a, b, decimal n, decimal m)) ≡ Some ((a, b), (n, m))
@@ -139,7 +132,7 @@ rows4 a b c d a' b' c' d' e f g h = cc
 
 -- and spell what they are read as
 pub sized_gives : (text : List ℕ) (x : (List ℕ × List ℕ) × (ℕ × ℕ)) → sized text ≡ Some x
-    → (text ≡ row4 (x.0.0, x.0.1, decimal x.1.0, decimal x.1.1)) × IsName x.0.0 × IsName x.0.1 × (x.1.0 ≤ most) × (x.1.1 ≤ most)
+    → (text ≡ row4 (x.0.0, x.0.1, decimal x.1.0, decimal x.1.1)) × (IsName x.0.0 × IsName x.0.1 × (x.1.0 ≤ most) × (x.1.1 ≤ most))
 sized_gives text x e =
     option_and_then_some (λ y. option_zip (option_zip (name_named y.0) (name_named y.1)) (option_zip (number_named most y.2) (number_named most y.3)))
     (cut4 text) x e (λ y f g.
@@ -150,7 +143,7 @@ sized_gives text x e =
     let b = name_is y.1 x.0.1 names.1 in
     let n = number_is most y.2 x.1.0 numbers.0 in
     let m = number_is most y.3 x.1.1 numbers.1 in
-    (cut4_gives text y f ∙ rows4 y.0 y.1 y.2 y.3 x.0.0 x.0.1 (decimal x.1.0) (decimal x.1.1) a.1 b.1 n.1 m.1, a.0, b.0, n.0, m.0))
+    (cut4_gives text y f ∙ rows4 y.0 y.1 y.2 y.3 x.0.0 x.0.1 (decimal x.1.0) (decimal x.1.1) a.1 b.1 n.1 m.1, (a.0, b.0, n.0, m.0)))
 
 -- ---- cells
 
@@ -210,15 +203,14 @@ valued_row c z h k =
 
 -- and spells what it is read as
 pub valued_gives : (text : List ℕ) (x : Cell × ℤ) → valued text ≡ Some x
-    → (text ≡ row4 (x.0.segment, type_text x.0.kind x.0.order, decimal x.0.offset, signed_decimal x.1)) × IsCell x.0 × IsOfKind x.0.kind x.1
+    → (text ≡ row4 (x.0.segment, type_text x.0.kind x.0.order, decimal x.0.offset, signed_decimal x.1)) × (IsCell x.0 × IsOfKind x.0.kind x.1)
 valued_gives text x e = option_and_then_some (λ y. with_value (cell_named y.0 y.1 y.2) y.3) (cut4 text) x e (λ y f g.
     let w = parts (cell_named y.0 y.1 y.2) y.3 x g in
     let r = cell_gives y.0 y.1 y.2 x.0 w.0 in
     let v = value_is x.0.kind y.3 x.1 w.1 in (
       cut4_gives text y f
           ∙ rows4 y.0 y.1 y.2 y.3 x.0.segment (type_text x.0.kind x.0.order) (decimal x.0.offset) (signed_decimal x.1) r.segment_is r.kind_is r.offset_is v.1,
-      r.is_cell,
-      v.0,
+      (r.is_cell, v.0),
     ))
   where
     parts : (o : Option Cell) (word : List ℕ) (x : Cell × ℤ) → with_value o word ≡ Some x → (o ≡ Some x.0) × (literal_named x.0.kind word ≡ Some x.1)
@@ -239,7 +231,7 @@ swapped_row c z w h k l small =
 -- and spells what it is read as
 pub swapped_gives : (text : List ℕ) (x : Cell × ℤ × ℤ) → swapped text ≡ Some x
     → (text ≡ row5 (x.0.segment, type_text x.0.kind x.0.order, decimal x.0.offset, signed_decimal x.1, signed_decimal x.2))
-    × IsCell x.0 × IsOfKind x.0.kind x.1 × IsOfKind x.0.kind x.2
+    × (IsCell x.0 × IsOfKind x.0.kind x.1 × IsOfKind x.0.kind x.2)
 swapped_gives text x e = option_and_then_some (λ y. with_two (cell_named y.0 y.1 y.2) y.3 y.4) (cut5 text) x e (λ y f g.
     let w = parts (cell_named y.0 y.1 y.2) y.3 y.4 x g in
     let r = cell_gives y.0 y.1 y.2 x.0 w.0 in
@@ -248,9 +240,7 @@ swapped_gives text x e = option_and_then_some (λ y. with_two (cell_named y.0 y.
       cut5_gives text y f
           ∙ rows5 y.0 y.1 y.2 y.3 y.4 x.0.segment (type_text x.0.kind x.0.order) (decimal x.0.offset) (signed_decimal x.1) (signed_decimal x.2)
           r.segment_is r.kind_is r.offset_is v.1 u.1,
-      r.is_cell,
-      v.0,
-      u.0,
+      (r.is_cell, v.0, u.0),
     ))
   where
     parts : (o : Option Cell) (old new : List ℕ) (x : Cell × ℤ × ℤ) → with_two o old new ≡ Some x

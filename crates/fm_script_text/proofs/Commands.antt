@@ -1,159 +1,76 @@
 -- A line is read as what it says, and says what it is read as.
-use Rattle.std.proofs.Common.{◌≡◌, refl, sym, ap, subst, ◌∙◌, ℕ, true, false, Option, Some, None, List, ◌∷◌, ◌++◌, arith, codes}
-use Rattle.std.specs.Fmt.{decimal, signed_decimal}
+use Rattle.std.proofs.Common.{◌≡◌, refl, sym, ap, subst, ◌∙◌, ℕ, true, false, Option, Some, None, List, [], ◌∷◌, not, eqb, if◌then◌else◌, arith, codes}
+use Rattle.std.specs.List.{list_all}
 use Rattle.std.specs.Option.{option_zip, option_map, option_and_then}
 use Rattle.std.specs.Str.{bytes_eq}
 use Rattle.std.proofs.lemmas.Bool.{cond_both, false_from_ne_true}
 use Rattle.std.proofs.lemmas.Option.{none-some, same_Some, option_and_then_some}
 use Rattle.std.proofs.lemmas.Slice.Eq.{bytes_eq-Decides}
-use Rattle.fm_script_text.proofs.Arguments.{free_tested, free_decimal, map_some, zip_parts, opening_row, opening_gives, two_row, two_gives, filled_row, filled_gives, sized_row, sized_gives, got_row, got_gives, valued_row, valued_gives, swapped_row, swapped_gives, cell_words}
-use Rattle.fm_script_text.proofs.Cuts.{IsFree, cut3_row, cut3_gives, row3, row4, row5}
-use Rattle.fm_script_text.proofs.Spelling.{named_name, name_is, named_who, who_is, small_value}
+use Rattle.fm_script_text.proofs.Arguments.{free_tested, free_decimal, map_some, zip_parts, name_gives, opening_row, opening_gives, two_row, two_gives, filled_row, filled_gives, sized_row, sized_gives, got_row, got_gives, valued_row, valued_gives, swapped_row, swapped_gives}
+use Rattle.fm_script_text.proofs.Cuts.{IsFree, cut3_row, cut3_gives, row3}
+use Rattle.fm_script_text.proofs.Spelling.{named_name, named_who, who_is, small_value}
 use Rattle.fm_script_text.specs.declared.command.Command.{Command}
 use Rattle.fm_script_text.specs.declared.command.Command.TheVariants.{Open, Alloc, Slice, Readonly, Get, Set, Add, Cas, Fill, Copy, Mismatch, Alive, Hold, Unhold, Again, Back, Close}
 use Rattle.fm_script_text.specs.declared.who.Who.{Who}
 use Rattle.fm_script_text.specs.declared.who.Who.TheVariants.{First, Worker, Last}
 use Rattle.fm_script_text.specs.declared.line.Line.{Line}
 use Rattle.fm_script_text.specs.Rules.{IsAdmitted}
-use Rattle.fm_script_text.specs.Reader.{name_named, who_named, cut3, opening, two, filled, sized, got, valued, swapped, command_named, line_named}
-use Rattle.fm_script_text.specs.Syntax.{Says, who_text, words_of, spaced, arena_kind_text, type_text, IsWho, IsSpelled}
+use Rattle.fm_script_text.specs.Reader.{who_named, cut3, command_named, line_named}
+use Rattle.fm_script_text.specs.Syntax.{Says, who_text, words_of, spaced, IsWho, IsSpelled}
 
 -- the verb and the arguments are the command's
 pub record Spells (verb args : List ℕ) (c : Command) : Type 0 where
   pub is_spelled : IsSpelled c
   pub text : (who : List ℕ) → row3 (who, verb, args) ≡ spaced (who ∷ words_of c)
 
--- a command's words are a verb and arguments that are read as it
+-- the first of the words, and the others in a row
+abbrev verb_in : List (List ℕ) → List ℕ
+verb_in [] = []
+verb_in (verb ∷ words) = verb
+
+abbrev args_in : List (List ℕ) → List ℕ
+args_in [] = []
+args_in (verb ∷ words) = spaced words
+
+abbrev verb_of : Command → List ℕ
+verb_of c = verb_in (words_of c)
+
+abbrev args_of : Command → List ℕ
+args_of c = args_in (words_of c)
+
+-- a command's words are a verb without spaces and arguments, which are read as it
 pub record IsRead (c : Command) : Type 0 where
-  pub verb : List ℕ
-  pub args : List ℕ
-  pub free : IsFree 32 verb
-  pub named : command_named verb args ≡ Some c
-  pub text : (who : List ℕ) → row3 (who, verb, args) ≡ spaced (who ∷ words_of c)
+  pub free : IsFree 32 (verb_of c)
+  pub named : command_named (verb_of c) (args_of c) ≡ Some c
+  pub text : (who : List ℕ) → row3 (who, verb_of c, args_of c) ≡ spaced (who ∷ words_of c)
+
+-- a verb is tested for spaces by computing
+read : {c : Command} → list_all (λ b. not (eqb b 32)) (verb_of c) ≡ true → command_named (verb_of c) (args_of c) ≡ Some c
+    → ((who : List ℕ) → row3 (who, verb_of c, args_of c) ≡ spaced (who ∷ words_of c)) → IsRead c
+read {c} tested named text = record { free = free_tested (verb_of c) tested; named = named; text = text }
 
 -- ---- each command is read as itself
 
 -- a command that has a spelling is read from it
 pub reads : (c : Command) → IsSpelled c → IsRead c
-reads (Open name kind) h = record {
-  verb = codes "open";
-  args = name ++ (32 ∷ arena_kind_text kind);
-  free = free_tested (codes "open") refl;
-  named = ap (option_map (λ x. Open x.0 x.1)) (opening_row name kind h);
-  text = λ who. refl;
-}
-reads (Alloc arena name size align) h = record {
-  verb = codes "alloc";
-  args = row4 (arena, name, decimal size, decimal align);
-  free = free_tested (codes "alloc") refl;
-  named = ap (option_map (λ x. Alloc x.0.0 x.0.1 x.1.0 x.1.1)) (sized_row arena name size align h.0 h.1 h.2 h.3);
-  text = λ who. refl;
-}
-reads (Slice segment name offset size) h = record {
-  verb = codes "slice";
-  args = row4 (segment, name, decimal offset, decimal size);
-  free = free_tested (codes "slice") refl;
-  named = ap (option_map (λ x. Slice x.0.0 x.0.1 x.1.0 x.1.1)) (sized_row segment name offset size h.0 h.1 h.2 h.3);
-  text = λ who. refl;
-}
-reads (Readonly segment name) h = record {
-  verb = codes "readonly";
-  args = segment ++ (32 ∷ name);
-  free = free_tested (codes "readonly") refl;
-  named = ap (option_map (λ x. Readonly x.0 x.1)) (two_row segment name h.0 h.1);
-  text = λ who. refl;
-}
-reads (Get c) h = record {
-  verb = codes "get";
-  args = row3 (cell_words c);
-  free = free_tested (codes "get") refl;
-  named = ap (option_map (λ x. Get x)) (got_row c h);
-  text = λ who. refl;
-}
-reads (Set c value) h = record {
-  verb = codes "set";
-  args = row4 (c.segment, type_text c.kind c.order, decimal c.offset, signed_decimal value);
-  free = free_tested (codes "set") refl;
-  named = ap (option_map (λ x. Set x.0 x.1)) (valued_row c value h.0 h.1);
-  text = λ who. refl;
-}
-reads (Add c value) h = record {
-  verb = codes "add";
-  args = row4 (c.segment, type_text c.kind c.order, decimal c.offset, signed_decimal value);
-  free = free_tested (codes "add") refl;
-  named = ap (option_map (λ x. Add x.0 x.1)) (valued_row c value h.0 h.1);
-  text = λ who. refl;
-}
-reads (Cas c old new) h = record {
-  verb = codes "cas";
-  args = row5 (c.segment, type_text c.kind c.order, decimal c.offset, signed_decimal old, signed_decimal new);
-  free = free_tested (codes "cas") refl;
-  named = ap (option_map (λ x. Cas x.0 x.1 x.2)) (swapped_row c old new h.0 h.1 h.2 (small_value c.kind old h.1));
-  text = λ who. refl;
-}
-reads (Fill segment byte) h = record {
-  verb = codes "fill";
-  args = segment ++ (32 ∷ decimal byte);
-  free = free_tested (codes "fill") refl;
-  named = ap (option_map (λ x. Fill x.0 x.1)) (filled_row segment byte h.0 h.1);
-  text = λ who. refl;
-}
-reads (Copy source target) h = record {
-  verb = codes "copy";
-  args = source ++ (32 ∷ target);
-  free = free_tested (codes "copy") refl;
-  named = ap (option_map (λ x. Copy x.0 x.1)) (two_row source target h.0 h.1);
-  text = λ who. refl;
-}
-reads (Mismatch segment other) h = record {
-  verb = codes "mismatch";
-  args = segment ++ (32 ∷ other);
-  free = free_tested (codes "mismatch") refl;
-  named = ap (option_map (λ x. Mismatch x.0 x.1)) (two_row segment other h.0 h.1);
-  text = λ who. refl;
-}
-reads (Alive arena) h = record {
-  verb = codes "alive";
-  args = arena;
-  free = free_tested (codes "alive") refl;
-  named = ap (option_map (λ x. Alive x)) (named_name arena h);
-  text = λ who. refl;
-}
-reads (Hold arena name) h = record {
-  verb = codes "hold";
-  args = arena ++ (32 ∷ name);
-  free = free_tested (codes "hold") refl;
-  named = ap (option_map (λ x. Hold x.0 x.1)) (two_row arena name h.0 h.1);
-  text = λ who. refl;
-}
-reads (Unhold hold) h = record {
-  verb = codes "unhold";
-  args = hold;
-  free = free_tested (codes "unhold") refl;
-  named = ap (option_map (λ x. Unhold x)) (named_name hold h);
-  text = λ who. refl;
-}
-reads (Again handle name) h = record {
-  verb = codes "again";
-  args = handle ++ (32 ∷ name);
-  free = free_tested (codes "again") refl;
-  named = ap (option_map (λ x. Again x.0 x.1)) (two_row handle name h.0 h.1);
-  text = λ who. refl;
-}
-reads (Back handle) h = record {
-  verb = codes "back";
-  args = handle;
-  free = free_tested (codes "back") refl;
-  named = ap (option_map (λ x. Back x)) (named_name handle h);
-  text = λ who. refl;
-}
-reads (Close arena) h = record {
-  verb = codes "close";
-  args = arena;
-  free = free_tested (codes "close") refl;
-  named = ap (option_map (λ x. Close x)) (named_name arena h);
-  text = λ who. refl;
-}
+reads (Open name kind) h = read refl (ap (option_map (λ x. Open x.0 x.1)) (opening_row name kind h)) (λ who. refl)
+reads (Alloc a b size align) h = read refl (ap (option_map (λ x. Alloc x.0.0 x.0.1 x.1.0 x.1.1)) (sized_row a b size align h.0 h.1 h.2 h.3)) (λ who. refl)
+reads (Slice a b offset size) h = read refl (ap (option_map (λ x. Slice x.0.0 x.0.1 x.1.0 x.1.1)) (sized_row a b offset size h.0 h.1 h.2 h.3)) (λ who. refl)
+reads (Readonly segment name) h = read refl (ap (option_map (λ x. Readonly x.0 x.1)) (two_row segment name h.0 h.1)) (λ who. refl)
+reads (Get c) h = read refl (ap (option_map (λ x. Get x)) (got_row c h)) (λ who. refl)
+reads (Set c value) h = read refl (ap (option_map (λ x. Set x.0 x.1)) (valued_row c value h.0 h.1)) (λ who. refl)
+reads (Add c value) h = read refl (ap (option_map (λ x. Add x.0 x.1)) (valued_row c value h.0 h.1)) (λ who. refl)
+reads (Cas c old new) h =
+    read refl (ap (option_map (λ x. Cas x.0 x.1 x.2)) (swapped_row c old new h.0 h.1 h.2 (small_value c.kind old h.1))) (λ who. refl)
+reads (Fill segment byte) h = read refl (ap (option_map (λ x. Fill x.0 x.1)) (filled_row segment byte h.0 h.1)) (λ who. refl)
+reads (Copy source target) h = read refl (ap (option_map (λ x. Copy x.0 x.1)) (two_row source target h.0 h.1)) (λ who. refl)
+reads (Mismatch segment other) h = read refl (ap (option_map (λ x. Mismatch x.0 x.1)) (two_row segment other h.0 h.1)) (λ who. refl)
+reads (Alive arena) h = read refl (ap (option_map (λ x. Alive x)) (named_name arena h)) (λ who. refl)
+reads (Hold arena name) h = read refl (ap (option_map (λ x. Hold x.0 x.1)) (two_row arena name h.0 h.1)) (λ who. refl)
+reads (Unhold hold) h = read refl (ap (option_map (λ x. Unhold x)) (named_name hold h)) (λ who. refl)
+reads (Again handle name) h = read refl (ap (option_map (λ x. Again x.0 x.1)) (two_row handle name h.0 h.1)) (λ who. refl)
+reads (Back handle) h = read refl (ap (option_map (λ x. Back x)) (named_name handle h)) (λ who. refl)
+reads (Close arena) h = read refl (ap (option_map (λ x. Close x)) (named_name arena h)) (λ who. refl)
 
 -- ---- and what is read spells the command
 
@@ -161,57 +78,42 @@ reads (Close arena) h = record {
 abbrev Sound : List ℕ → List ℕ → Option Command → Type 0
 Sound verb args o = (c : Command) → o ≡ Some c → Spells verb args c
 
--- a verb whose arguments are read spells what they are read as
-branch : {A : Type 0} (verb args text : List ℕ) (f : A → Command) (o : Option A) → bytes_eq verb text ≡ true
-    → ((x : A) → o ≡ Some x → IsSpelled (f x) × ((who : List ℕ) → row3 (who, text, args) ≡ spaced (who ∷ words_of (f x)))) → Sound verb args (option_map f o)
-branch verb args text f o t h c e = map_some f o c e (λ x g s.
-    let k = h x g in
-    subst (Spells verb args) s (record {
-      is_spelled = k.0;
-      text = λ who. ap (λ (v : List ℕ). row3 (who, v, args)) ((bytes_eq-Decides verb text).0 t) ∙ k.1 who;
-    }))
+module _ (verb args : List ℕ) where
+  -- a verb whose arguments are read spells what they are read as, and else what another verb is read as
+  named_by : {A : Type 0} (text : List ℕ) (f : A → Command) (words : A → List ℕ) (o : Option A) {other : Option Command}
+      → ((x : A) (who : List ℕ) → row3 (who, text, words x) ≡ spaced (who ∷ words_of (f x)))
+      → ((x : A) → o ≡ Some x → (args ≡ words x) × IsSpelled (f x)) → Sound verb args other
+      → Sound verb args (if bytes_eq verb text then option_map f o else other)
+  named_by text f words o row gives others =
+      cond_both (bytes_eq verb text) (option_map f o) _ (Sound verb args)
+      (λ t c e. map_some f o c e (λ x g s.
+      let k = gives x g in
+      subst (Spells verb args) s (record {
+        is_spelled = k.1;
+        text = λ who. rw ((bytes_eq-Decides verb text).0 t, k.0) (row x who);
+      })))
+      (λ _. others)
 
--- the row of words is that of other arguments
-args_are : (text args other : List ℕ) → args ≡ other → (who : List ℕ) → row3 (who, text, args) ≡ row3 (who, text, other)
-args_are text args other e who = ap (λ (a : List ℕ). row3 (who, text, a)) e
-
--- whatever the verb is
-pub named_spells : (verb args : List ℕ) → Sound verb args (command_named verb args)
-named_spells verb args =
-    cond_both (bytes_eq verb (codes "open")) _ _ (Sound verb args) (λ t. branch verb args (codes "open") (λ x. Open x.0 x.1) (opening args) t
-    (λ x e. let g = opening_gives args x e in (g.1, args_are (codes "open") args _ g.0))) (λ _.
-    cond_both (bytes_eq verb (codes "alloc")) _ _ (Sound verb args) (λ t. branch verb args (codes "alloc") (λ x. Alloc x.0.0 x.0.1 x.1.0 x.1.1) (sized args) t
-    (λ x e. let g = sized_gives args x e in ((g.1, g.2, g.3, g.4), args_are (codes "alloc") args _ g.0))) (λ _.
-    cond_both (bytes_eq verb (codes "slice")) _ _ (Sound verb args) (λ t. branch verb args (codes "slice") (λ x. Slice x.0.0 x.0.1 x.1.0 x.1.1) (sized args) t
-    (λ x e. let g = sized_gives args x e in ((g.1, g.2, g.3, g.4), args_are (codes "slice") args _ g.0))) (λ _.
-    cond_both (bytes_eq verb (codes "readonly")) _ _ (Sound verb args) (λ t. branch verb args (codes "readonly") (λ x. Readonly x.0 x.1) (two args) t
-    (λ x e. let g = two_gives args x e in ((g.1, g.2), args_are (codes "readonly") args _ g.0))) (λ _.
-    cond_both (bytes_eq verb (codes "get")) _ _ (Sound verb args) (λ t. branch verb args (codes "get") (λ x. Get x) (got args) t
-    (λ x e. let g = got_gives args x e in (g.1, args_are (codes "get") args _ g.0))) (λ _.
-    cond_both (bytes_eq verb (codes "set")) _ _ (Sound verb args) (λ t. branch verb args (codes "set") (λ x. Set x.0 x.1) (valued args) t
-    (λ x e. let g = valued_gives args x e in ((g.1, g.2), args_are (codes "set") args _ g.0))) (λ _.
-    cond_both (bytes_eq verb (codes "add")) _ _ (Sound verb args) (λ t. branch verb args (codes "add") (λ x. Add x.0 x.1) (valued args) t
-    (λ x e. let g = valued_gives args x e in ((g.1, g.2), args_are (codes "add") args _ g.0))) (λ _.
-    cond_both (bytes_eq verb (codes "cas")) _ _ (Sound verb args) (λ t. branch verb args (codes "cas") (λ x. Cas x.0 x.1 x.2) (swapped args) t
-    (λ x e. let g = swapped_gives args x e in ((g.1, g.2, g.3), args_are (codes "cas") args _ g.0))) (λ _.
-    cond_both (bytes_eq verb (codes "fill")) _ _ (Sound verb args) (λ t. branch verb args (codes "fill") (λ x. Fill x.0 x.1) (filled args) t
-    (λ x e. let g = filled_gives args x e in ((g.1, g.2), args_are (codes "fill") args _ g.0))) (λ _.
-    cond_both (bytes_eq verb (codes "copy")) _ _ (Sound verb args) (λ t. branch verb args (codes "copy") (λ x. Copy x.0 x.1) (two args) t
-    (λ x e. let g = two_gives args x e in ((g.1, g.2), args_are (codes "copy") args _ g.0))) (λ _.
-    cond_both (bytes_eq verb (codes "mismatch")) _ _ (Sound verb args) (λ t. branch verb args (codes "mismatch") (λ x. Mismatch x.0 x.1) (two args) t
-    (λ x e. let g = two_gives args x e in ((g.1, g.2), args_are (codes "mismatch") args _ g.0))) (λ _.
-    cond_both (bytes_eq verb (codes "alive")) _ _ (Sound verb args) (λ t. branch verb args (codes "alive") (λ x. Alive x) (name_named args) t
-    (λ x e. let g = name_is args x e in (g.0, args_are (codes "alive") args _ g.1))) (λ _.
-    cond_both (bytes_eq verb (codes "hold")) _ _ (Sound verb args) (λ t. branch verb args (codes "hold") (λ x. Hold x.0 x.1) (two args) t
-    (λ x e. let g = two_gives args x e in ((g.1, g.2), args_are (codes "hold") args _ g.0))) (λ _.
-    cond_both (bytes_eq verb (codes "unhold")) _ _ (Sound verb args) (λ t. branch verb args (codes "unhold") (λ x. Unhold x) (name_named args) t
-    (λ x e. let g = name_is args x e in (g.0, args_are (codes "unhold") args _ g.1))) (λ _.
-    cond_both (bytes_eq verb (codes "again")) _ _ (Sound verb args) (λ t. branch verb args (codes "again") (λ x. Again x.0 x.1) (two args) t
-    (λ x e. let g = two_gives args x e in ((g.1, g.2), args_are (codes "again") args _ g.0))) (λ _.
-    cond_both (bytes_eq verb (codes "back")) _ _ (Sound verb args) (λ t. branch verb args (codes "back") (λ x. Back x) (name_named args) t
-    (λ x e. let g = name_is args x e in (g.0, args_are (codes "back") args _ g.1))) (λ _.
-    cond_both (bytes_eq verb (codes "close")) _ _ (Sound verb args) (λ t. branch verb args (codes "close") (λ x. Close x) (name_named args) t
-    (λ x e. let g = name_is args x e in (g.0, args_are (codes "close") args _ g.1))) (λ _ c e. absurd (cc))))))))))))))))))
+  -- whatever the verb is
+  pub named_spells : Sound verb args (command_named verb args)
+  named_spells =
+      named_by (codes "open") (λ x. Open x.0 x.1) _ _ (λ x who. refl) (opening_gives args) (
+      named_by (codes "alloc") (λ x. Alloc x.0.0 x.0.1 x.1.0 x.1.1) _ _ (λ x who. refl) (sized_gives args) (
+      named_by (codes "slice") (λ x. Slice x.0.0 x.0.1 x.1.0 x.1.1) _ _ (λ x who. refl) (sized_gives args) (
+      named_by (codes "readonly") (λ x. Readonly x.0 x.1) _ _ (λ x who. refl) (two_gives args) (
+      named_by (codes "get") (λ x. Get x) _ _ (λ x who. refl) (got_gives args) (
+      named_by (codes "set") (λ x. Set x.0 x.1) _ _ (λ x who. refl) (valued_gives args) (
+      named_by (codes "add") (λ x. Add x.0 x.1) _ _ (λ x who. refl) (valued_gives args) (
+      named_by (codes "cas") (λ x. Cas x.0 x.1 x.2) _ _ (λ x who. refl) (swapped_gives args) (
+      named_by (codes "fill") (λ x. Fill x.0 x.1) _ _ (λ x who. refl) (filled_gives args) (
+      named_by (codes "copy") (λ x. Copy x.0 x.1) _ _ (λ x who. refl) (two_gives args) (
+      named_by (codes "mismatch") (λ x. Mismatch x.0 x.1) _ _ (λ x who. refl) (two_gives args) (
+      named_by (codes "alive") (λ x. Alive x) _ _ (λ x who. refl) (name_gives args) (
+      named_by (codes "hold") (λ x. Hold x.0 x.1) _ _ (λ x who. refl) (two_gives args) (
+      named_by (codes "unhold") (λ x. Unhold x) _ _ (λ x who. refl) (name_gives args) (
+      named_by (codes "again") (λ x. Again x.0 x.1) _ _ (λ x who. refl) (two_gives args) (
+      named_by (codes "back") (λ x. Back x) _ _ (λ x who. refl) (name_gives args) (
+      named_by (codes "close") (λ x. Close x) _ _ (λ x who. refl) (name_gives args) (λ c e. absurd (cc))))))))))))))))))
 
 -- ---- lines
 
@@ -225,9 +127,9 @@ free_who (Worker n) h = free_decimal n (omega (arith, h.1))
 pub says_named : (text : List ℕ) (who : Who) (c : Command) → Says text who c → line_named text ≡ Some (who, c)
 says_named text who c s =
     let r = reads c s.is_spelled in
-    let e : text ≡ row3 (who_text who, r.verb, r.args) = s.spelled ∙ sym (r.text (who_text who)) in
+    let e : text ≡ row3 (who_text who, verb_of c, args_of c) = s.spelled ∙ sym (r.text (who_text who)) in
     ap line_named e ∙ ap (option_and_then (λ x. option_zip (who_named x.0) (command_named x.1 x.2)))
-    (cut3_row (who_text who) r.verb r.args (free_who who s.is_who) r.free)
+    (cut3_row (who_text who) (verb_of c) (args_of c) (free_who who s.is_who) r.free)
     ∙ rw (named_who who s.is_who, r.named) refl
 
 -- and says what it is read as

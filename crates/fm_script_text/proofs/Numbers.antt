@@ -1,38 +1,22 @@
 -- Words that spell numbers.
-use Rattle.std.proofs.Common.{◌≡◌, refl, sym, ap, subst, ◌∙◌, ℕ, ◌<◌, ◌^◌, suc, Bool, true, false, if◌then◌else◌, nat_le, eqb, Option, Some, None, Result, Ok, Err, List, [], ◌∷◌, arith, w64}
+use Rattle.std.proofs.Common.{◌≡◌, refl, sym, ap, subst, ◌∙◌, ℕ, ◌<◌, ◌≤◌, ◌^◌, suc, true, false, if◌then◌else◌, nat_le, eqb, Option, Some, None, List, [], ◌∷◌, arith, w64}
 use Rattle.std.specs.Prelude.{ℤ, pos, negsuc, neg_ℤ}
 use Rattle.std.specs.Fmt.{decimal, signed_decimal}
 use Rattle.std.specs.Int.Signed.{mag}
 use Rattle.std.specs.Char.{digit_value}
 use Rattle.std.specs.Str.{bytes_eq}
-use Rattle.std.specs.Str.Parse.{ParsesUnsigned, ParsesSigned, IsNumeral, digits_value}
+use Rattle.std.specs.Str.Parse.{IsNumeral, digits_value}
 use Rattle.std.proofs.lemmas.Bool.{cond_both, eqb-true, ltb-true}
-use Rattle.std.proofs.lemmas.Bool.Decides.{not_from_Decides}
-use Rattle.std.proofs.lemmas.Fmt.{parse-decimal, parse-signed_decimal, decimal_is_IsNumeral}
+use Rattle.std.proofs.lemmas.Fmt.{decimal_is_IsNumeral}
 use Rattle.std.proofs.lemmas.Int.{ints, to_z-of_z}
 use mir.Val.{to_z, of_z}
-use Rattle.std.specs.Int.RustNames.{FitsSigned}
 use Rattle.std.proofs.lemmas.Slice.Eq.{bytes_eq-Decides}
 use Rattle.fm_lanes.specs.declared.value_kind.ValueKind.{ValueKind}
 use Rattle.fm_lanes.specs.declared.value_kind.ValueKind.TheVariants.{Byte, Boolean, Char, Short, Int, Long}
+use Rattle.fm_script_text.specs.Syntax.{above, below}
 use Rattle.fm_script_text.specs.Reader.{number_named, literal_named, number_value, is_of_kind}
 
 -- ---- without a sign
-
--- a word that isn't read as a number spells none
-pub unread : {E : Type 0} (word : List ℕ) (r : Result ℕ E) (fault : E) → ParsesUnsigned 64 10 word r → r ≡ Err fault → (n : ℕ) → n < 2 ^ 64 → word ≡ decimal n
-    → ⊥
-unread {E} word r fault parsed failed n small spelled =
-    let both : ◌≡◌ {A = Result ℕ E} (Err fault) (Ok n) = sym failed ∙ parse-decimal 64 n word r small small spelled parsed in
-    cc
-
--- a word that isn't the spelling of the number that was read from it spells none
-pub no_spelling : {E : Type 0} (word text : List ℕ) (r : Result ℕ E) (m : ℕ) (same : Bool) → ParsesUnsigned 64 10 word r → r ≡ Ok m → text ≡ decimal m
-    → same ≡ bytes_eq text word → same ≡ false → (n : ℕ) → n < 2 ^ 64 → word ≡ decimal n → ⊥
-no_spelling {E} word text r m same parsed read is tested other n small spelled =
-    let both : ◌≡◌ {A = Result ℕ E} (Ok m) (Ok n) = sym read ∙ parse-decimal 64 n word r small small spelled parsed in
-    let equal : m ≡ n = cc in
-    not_from_Decides (bytes_eq text word) (bytes_eq-Decides text word) (sym tested ∙ other) (is ∙ ap decimal equal ∙ sym spelled)
 
 -- a word is read as the number that it spells
 pub named_number : (most n : ℕ) (word : List ℕ) → n < 2 ^ 64 → word ≡ decimal n → number_named most word ≡ (if nat_le n most then Some n else None)
@@ -42,21 +26,6 @@ named_number most n word small spelled =
     rw (value, same) refl
 
 -- ---- with a sign
-
--- a word that isn't read as a number spells none
-pub unread_signed : {E : Type 0} (word : List ℕ) (r : Result ℤ E) (fault : E) → ParsesSigned w64 10 word r → r ≡ Err fault → (n : ℤ) → mag n < 2 ^ 63
-    → word ≡ signed_decimal n → ⊥
-unread_signed {E} word r fault parsed failed n small spelled =
-    let both : ◌≡◌ {A = Result ℤ E} (Err fault) (Ok n) = sym failed ∙ parse-signed_decimal w64 n word r (omega (arith, ints)) small spelled parsed in
-    cc
-
--- nor does one that isn't the spelling of the number that was read from it
-pub no_signed_spelling : {E : Type 0} (word text : List ℕ) (r : Result ℤ E) (m : ℤ) (same : Bool) → ParsesSigned w64 10 word r → r ≡ Ok m
-    → text ≡ signed_decimal m → same ≡ bytes_eq text word → same ≡ false → (n : ℤ) → mag n < 2 ^ 63 → word ≡ signed_decimal n → ⊥
-no_signed_spelling {E} word text r m same parsed read is tested other n small spelled =
-    let both : ◌≡◌ {A = Result ℤ E} (Ok m) (Ok n) = sym read ∙ parse-signed_decimal w64 n word r (omega (arith, ints)) small spelled parsed in
-    let equal : m ≡ n = cc in
-    not_from_Decides (bytes_eq text word) (bytes_eq-Decides text word) (sym tested ∙ other) (is ∙ ap signed_decimal equal ∙ sym spelled)
 
 -- what digits write has no sign
 value_of_digits : (ds : List ℕ) → IsNumeral 10 ds → number_value ds ≡ pos (digits_value 10 ds)
@@ -85,32 +54,29 @@ named_literal kind z word small spelled =
     let same : bytes_eq word (signed_decimal z) ≡ true = (bytes_eq-Decides word (signed_decimal z)).1 spelled in
     rw (value, same) refl
 
--- a number of a kind has 64 bits
+-- the numbers of a kind have 64 bits
+record Fits (kind : ValueKind) : Type 0 where
+  upwards : above kind ≤ 2 ^ 63
+  downwards : below kind ≤ 2 ^ 63
+
+fits : (kind : ValueKind) → Fits kind
+fits Byte = record { upwards = omega arith; downwards = omega arith }
+fits Boolean = record { upwards = omega arith; downwards = omega arith }
+fits Char = record { upwards = omega arith; downwards = omega arith }
+fits Short = record { upwards = omega arith; downwards = omega arith }
+fits Int = record { upwards = omega arith; downwards = omega arith }
+fits Long = record { upwards = omega arith; downwards = omega arith }
+
+-- so has each of them
 pub kind_is_small : (kind : ValueKind) (z : ℤ) → is_of_kind kind z ≡ true → mag z < 2 ^ 63
-kind_is_small Byte (pos n) t = let h = ltb-true _ _ t in omega arith
-kind_is_small Boolean (pos n) t = let h = ltb-true _ _ t in omega arith
-kind_is_small Char (pos n) t = let h = ltb-true _ _ t in omega arith
-kind_is_small Short (pos n) t = let h = ltb-true _ _ t in omega arith
-kind_is_small Int (pos n) t = let h = ltb-true _ _ t in omega arith
-kind_is_small Long (pos n) t = let h = ltb-true _ _ t in omega arith
-kind_is_small Byte (negsuc n) t = let h = ltb-true _ _ t in omega arith
-kind_is_small Boolean (negsuc n) t = let h = ltb-true _ _ t in omega arith
-kind_is_small Char (negsuc n) t = let h = ltb-true _ _ t in omega arith
-kind_is_small Short (negsuc n) t = let h = ltb-true _ _ t in omega arith
-kind_is_small Int (negsuc n) t = let h = ltb-true _ _ t in omega arith
-kind_is_small Long (negsuc n) t = let h = ltb-true _ _ t in omega arith
+kind_is_small kind (pos n) t = let h = ltb-true _ _ t in let f = (fits kind).upwards in omega (arith, h, f)
+kind_is_small kind (negsuc n) t = let h = ltb-true _ _ t in let f = (fits kind).downwards in omega (arith, h, f)
 
 -- ---- as the machine holds them
 
 -- the machine holds a number of 64 bits as it is
 pub held : (z : ℤ) → mag z < 2 ^ 63 → to_z w64 (of_z w64 z) ≡ z
 held z small = to_z-of_z w64 z (omega (arith, ints))
-
--- a number that was read has 64 bits
-pub parsed_held : {E : Type 0} (word : List ℕ) (r : Result ℤ E) (z : ℤ) → ParsesSigned w64 10 word r → r ≡ Ok z → to_z w64 (of_z w64 z) ≡ z
-parsed_held {E} word r z parsed read =
-    let p : ParsesSigned {E = E} w64 10 word (Ok z) = subst (ParsesSigned w64 10 word) read parsed in
-    to_z-of_z w64 z (subst (FitsSigned w64) (sym p.1) p.0.1)
 
 -- a number that a word spells is what the word is read as, where it is of the kind
 pub literal_found : (kind : ValueKind) (z : ℤ) (word : List ℕ) → mag z < 2 ^ 63 → word ≡ signed_decimal z → is_of_kind kind z ≡ true

@@ -12,12 +12,10 @@ use Rattle.std.proofs.lemmas.Str.Ascii.{IsAscii-nil, IsAscii-cons}
 use Rattle.fm_base.specs.declared.kind.Kind.{Kind}
 use Rattle.fm_base.specs.declared.kind.Kind.TheVariants as kind
 use Rattle.fm_lanes.specs.declared.order.Order.{Order}
-use Rattle.fm_lanes.specs.declared.order.Order.TheVariants.{Little, Big}
 use Rattle.fm_lanes.specs.declared.value_kind.ValueKind.{ValueKind}
-use Rattle.fm_lanes.specs.declared.value_kind.ValueKind.TheVariants.{Byte, Boolean, Char, Short, Int, Long}
 use Rattle.fm_layout.specs.Name.{IsName, IsNameEnd, is_letter, is_digit}
 use Rattle.fm_words.specs.declared.shape.Shape.{Shape}
-use Rattle.fm_script_text.proofs.Spelling.{small_value}
+use Rattle.fm_script_text.proofs.Spelling.{every_type, small_value}
 use Rattle.fm_script_text.specs.declared.command.Command.{Command}
 use Rattle.fm_script_text.specs.declared.command.Command.TheVariants.{Open, Alloc, Slice, Readonly, Get, Set, Add, Cas, Fill, Copy, Mismatch, Alive, Hold, Unhold, Again, Back, Close}
 use Rattle.fm_script_text.specs.declared.who.Who.{Who}
@@ -68,18 +66,9 @@ arena_kind kind.Shared = text (codes "shared") refl
 
 -- a type is text
 type : (k : ValueKind) (o : Order) → IsUtf8 (type_text k o)
-type Byte Little = text (type_text Byte Little) refl
-type Byte Big = text (type_text Byte Big) refl
-type Boolean Little = text (type_text Boolean Little) refl
-type Boolean Big = text (type_text Boolean Big) refl
-type Char Little = text (type_text Char Little) refl
-type Char Big = text (type_text Char Big) refl
-type Short Little = text (type_text Short Little) refl
-type Short Big = text (type_text Short Big) refl
-type Int Little = text (type_text Int Little) refl
-type Int Big = text (type_text Int Big) refl
-type Long Little = text (type_text Long Little) refl
-type Long Big = text (type_text Long Big) refl
+type k o =
+    text (type_text k o) (every_type (λ t. list_all (λ b. nat_lt b 128) (type_text t.0 t.1) ≡ true)
+    (refl, (refl, (refl, (refl, (refl, (refl, (refl, (refl, (refl, (refl, (refl, (refl, tt)))))))))))) k o)
 
 -- an offset is text
 offset : (n : ℕ) → n ≤ most → IsUtf8 (decimal n)

@@ -1,5 +1,5 @@
 -- The pool's line is read as the shape that it says, and says what it is read as.
-use Rattle.std.proofs.Common.{◌≡◌, refl, sym, ap, subst, ◌∙◌, ℕ, ◌*◌, ◌<◌, ◌≤◌, if◌then◌else◌, Option, Some, None, List, ◌∷◌, ◌++◌, arith, lit<, rules, codes}
+use Rattle.std.proofs.Common.{◌≡◌, refl, sym, ap, subst, ◌∙◌, ℕ, ◌*◌, ◌<◌, ◌≤◌, if◌then◌else◌, Option, Some, None, List, ◌∷◌, ◌++◌, arith, lit<, codes}
 use Rattle.std.specs.Fmt.{decimal}
 use Rattle.std.specs.Option.{option_zip, option_and_then}
 use Rattle.std.specs.Str.{bytes_eq}
@@ -18,10 +18,10 @@ use Rattle.fm_script_text.specs.Syntax.{SaysPool, pool_text}
 abbrev pub with_one : Shape → Shape
 with_one z = record z { passes = 1 }
 
--- a valid shape is one with one pass too
-pub valid_one : (z : Shape) → IsValid z → IsValid (with_one z)
-valid_one z v = record {
-  passes = search rules;
+-- a valid shape is one with other passes too
+valid_with : (z : Shape) (n : ℕ) → IsValid z → 1 ≤ n → n ≤ 4096 → IsValid (record z { passes = n })
+valid_with z n v some few = record {
+  passes = (some, few);
   slots = v.slots;
   pages = v.pages;
   page_words = v.page_words;
@@ -29,6 +29,10 @@ valid_one z v = record {
   generations = v.generations;
   words = v.words;
 }
+
+-- so it is one with one pass
+pub valid_one : (z : Shape) → IsValid z → IsValid (with_one z)
+valid_one z v = valid_with z 1 v (omega arith) (omega arith)
 
 -- the line of a valid shape is read as it, but for the passes
 pub shape_row : (z : Shape) → IsValid z → shape_named (pool_text z) ≡ Some (with_one z)
@@ -125,17 +129,4 @@ large text found shape is some many z says =
 -- a pool's line says the shape with other passes too
 pub with_passes : (text : List ℕ) (z : Shape) (n : ℕ) → SaysPool text z → 1 ≤ n → n ≤ 17 → SaysPool text (record z { passes = n })
 with_passes text z n says some few =
-    let v = says.is_valid in
-    record {
-      is_valid = record {
-        passes = (some, omega arith);
-        slots = v.slots;
-        pages = v.pages;
-        page_words = v.page_words;
-        reach = v.reach;
-        generations = v.generations;
-        words = v.words;
-      };
-      small = says.small;
-      spelled = says.spelled;
-    }
+    record { is_valid = valid_with z n says.is_valid some (omega arith); small = says.small; spelled = says.spelled }

@@ -3,7 +3,7 @@ use Rattle.std.proofs.Common.{◌≡◌, refl, sym, ap, subst, ◌∙◌, ℕ, �
 use Rattle.std.specs.Prelude.{ℤ, pos, negsuc, IsSome, IfSome, ◌↔◌}
 use Rattle.std.specs.Fmt.{decimal, signed_decimal}
 use Rattle.std.specs.Int.Signed.{mag}
-use Rattle.std.specs.List.{list_all}
+use Rattle.std.specs.List.{AllByRecursion, list_all}
 use Rattle.std.specs.Char.{digit_value}
 use Rattle.std.specs.Str.{bytes_eq}
 use Rattle.std.specs.Str.Parse.{IsNumeral}
@@ -127,20 +127,24 @@ named_kind kind.Shared = refl
 pub kind_is : (word : List ℕ) (k : Kind) → arena_kind_named word ≡ Some k → word ≡ arena_kind_text k
 kind_is word k e = find_is arena_kind_text word (kind.Global ∷ kind.Automatic ∷ kind.Confined ∷ kind.Shared ∷ []) k e
 
+-- what holds in both orders holds in each
+both : (P : Order → Type 0) → P Little → P Big → (o : Order) → P o
+both P little big Little = little
+both P little big Big = big
+
+-- what holds of each type in their list holds of each kind in both orders
+pub every_type : (P : ValueKind × Order → Type 0) → AllByRecursion P types → (k : ValueKind) (o : Order) → P (k, o)
+every_type P h Byte = both (λ o. P (Byte, o)) h.0 h.1.0
+every_type P h Boolean = both (λ o. P (Boolean, o)) h.1.1.0 h.1.1.1.0
+every_type P h Char = both (λ o. P (Char, o)) h.1.1.1.1.0 h.1.1.1.1.1.0
+every_type P h Short = both (λ o. P (Short, o)) h.1.1.1.1.1.1.0 h.1.1.1.1.1.1.1.0
+every_type P h Int = both (λ o. P (Int, o)) h.1.1.1.1.1.1.1.1.0 h.1.1.1.1.1.1.1.1.1.0
+every_type P h Long = both (λ o. P (Long, o)) h.1.1.1.1.1.1.1.1.1.1.0 h.1.1.1.1.1.1.1.1.1.1.1.0
+
 -- a type is read as itself
 pub named_type : (k : ValueKind) (o : Order) → type_named (type_text k o) ≡ Some (k, o)
-named_type Byte Little = refl
-named_type Byte Big = refl
-named_type Boolean Little = refl
-named_type Boolean Big = refl
-named_type Char Little = refl
-named_type Char Big = refl
-named_type Short Little = refl
-named_type Short Big = refl
-named_type Int Little = refl
-named_type Int Big = refl
-named_type Long Little = refl
-named_type Long Big = refl
+named_type = every_type (λ t. type_named (type_text t.0 t.1) ≡ Some t)
+    (refl, (refl, (refl, (refl, (refl, (refl, (refl, (refl, (refl, (refl, (refl, (refl, tt))))))))))))
 
 -- and what is read as one spells it
 pub type_is : (word : List ℕ) (t : ValueKind × Order) → type_named word ≡ Some t → word ≡ type_text t.0 t.1

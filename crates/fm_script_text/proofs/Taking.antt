@@ -11,8 +11,8 @@ use Rattle.fm_script_text.specs.declared.line.Line.{Line}
 use Rattle.fm_script_text.specs.declared.names.Names.{Names}
 use Rattle.fm_script_text.specs.Knowing.{Knows}
 use Rattle.fm_script_text.specs.Rules.{IsAdmitted, pass_of, passes_of}
-use Rattle.fm_script_text.specs.Scripts.{AreAdmitted, AreLines, IsSaid, Source, WantsAt, source, source_of}
-use Rattle.fm_script_text.specs.Taking.{AreNoLines, IsNoLine, IsTaken}
+use Rattle.fm_script_text.specs.Scripts.{AreAdmitted, AreLines, IsSaid, Source, source, source_of}
+use Rattle.fm_script_text.specs.Taking.{AreNoLines, IsNoLine}
 
 -- ---- one line more
 

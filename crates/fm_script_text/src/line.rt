@@ -1,6 +1,6 @@
 use crate::command::Command;
-use crate::text::Text;
 use crate::who::Who;
+use fm_base_text::Text;
 
 /// A line of a script, with its number in the script's file, from 1.
 #[derive(Debug, Drop)]

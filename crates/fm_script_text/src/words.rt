@@ -1,13 +1,11 @@
-ghost use Rattle.std.specs.Prelude.{◌≡◌, ◌^◌, ◌<◌, ◌≤◌, IfSome, IfNone, ℕ, ℤ};
-ghost use Rattle.std.specs.Fmt.{decimal, signed_decimal};
-ghost use Rattle.std.specs.Int.Signed.{mag};
+ghost use Rattle.std.specs.Prelude.{◌≡◌, ◌≤◌, IfSome};
 ghost use Rattle.fm_script_text.specs.Reader.{name_named, number_named, literal_named, is_of_kind, arena_kind_named, type_named, worker, who_named};
 
 use crate::who::Who;
 use fm_base::Kind;
+use fm_base_text::{parse_decimal, parse_signed_decimal};
 use fm_lanes::{Order, ValueKind};
 use fm_path_text::NameText;
-use itoa::Buffer;
 
 const MOST_WORKERS: u64 = 16;
 
@@ -23,25 +21,8 @@ pub fn number_of(most: u64, word: &str) -> Option<u64>
     ensures number { result ≡ number_named most word.now }
     ensures bound { IfSome result (λ n. n ≤ most) }
 {
-    let n = spelled(word)?;
+    let n = parse_decimal(word)?;
     if n <= most { Some(n) } else { None }
-}
-
-/// The number that the word spells in decimal digits, with no sign and no leading zero.
-fn spelled(word: &str) -> Option<u64>
-    ensures found { IfSome result (λ n. word.now ≡ decimal n) }
-    ensures fits { IfSome result (λ n. n < 2 ^ 64) }
-    ensures none { IfNone result ((n : ℕ) → n < 2 ^ 64 → word.now ≡ decimal n → ⊥) }
-{
-    let Ok(n) = word.parse::<u64>() else {
-        return None;
-    };
-    let mut buffer = Buffer::new();
-    if buffer.format(n) == word {
-        Some(n)
-    } else {
-        None
-    }
 }
 
 /// The byte that the word spells.
@@ -58,25 +39,8 @@ pub fn byte_of(word: &str) -> Option<u8>
 pub fn literal_of(kind: ValueKind, word: &str) -> Option<i64>
     ensures { result ≡ literal_named kind word.now }
 {
-    let n = spelled_signed(word)?;
+    let n = parse_signed_decimal(word)?;
     if is_of_kind(kind, n) { Some(n) } else { None }
-}
-
-/// The number of 64 bits that the word spells, with no leading zero, no `+` and no `-0`.
-fn spelled_signed(word: &str) -> Option<i64>
-    ensures found { IfSome result (λ n. word.now ≡ signed_decimal n) }
-    ensures fits { IfSome result (λ n. mag n < 2 ^ 63) }
-    ensures none { IfNone result ((n : ℤ) → mag n < 2 ^ 63 → word.now ≡ signed_decimal n → ⊥) }
-{
-    let Ok(n) = word.parse::<i64>() else {
-        return None;
-    };
-    let mut buffer = Buffer::new();
-    if buffer.format(n) == word {
-        Some(n)
-    } else {
-        None
-    }
 }
 
 /// Whether a value of this kind can be this number.

@@ -19,18 +19,16 @@ of_told : (contents : Contents) (name : Option (List ℕ)) (P : Option (List ℕ
 of_told contents None P has = has
 of_told contents (Some name) P has = subst P (sym has.1) has.2
 
--- so an outcome of the request is one over them
-pub over_told : (request : Request) (contents : Contents) (o : Outcome) → HasOutcome request (Some contents) o
-    → IsOutcomeOver request contents o
-over_told request contents o has =
-    of_told contents (last_file request) (λ last. EndsBy request (file_under contents (first_file request)) last o)
-    (of_told contents (first_file request) (λ first. OfFile (Some contents) (last_file request) (λ last. EndsBy request first last o)) has)
+module _ (request : Request) (contents : Contents) (o : Outcome) (has : HasOutcome request (Some contents) o) where
+  -- so an outcome of the request is one over them
+  pub over_told : IsOutcomeOver request contents o
+  over_told =
+      of_told contents (last_file request) (λ last. EndsBy request (file_under contents (first_file request)) last o)
+      (of_told contents (first_file request) (λ first. OfFile (Some contents) (last_file request) (λ last. EndsBy request first last o)) has)
 
--- and its status has its cause in them
-pub told_cause : (request : Request) (contents : Contents) (o : Outcome) → HasOutcome request (Some contents) o
-    → OverFiles (CauseOf o.status) request contents
-told_cause request contents o has =
-    end_cause request (file_under contents (first_file request)) (file_under contents (last_file request)) o (over_told request contents o has)
+  -- and its status has its cause in them
+  pub told_cause : OverFiles (CauseOf o.status) request contents
+  told_cause = end_cause request (file_under contents (first_file request)) (file_under contents (last_file request)) o over_told
 
 -- the same, if they tell
 cause_told : (request : Request) (told : Option Contents) (o : Outcome) → HasOutcome request told o → IfSome told (OverFiles (CauseOf o.status) request)

@@ -14,25 +14,6 @@ use Rattle.fm_lanes.specs.declared.value_kind.ValueKind.{ValueKind}
 use Rattle.fm_top_options.specs.Options.{texts}
 use Rattle.fm_top.specs.Words.{IsUpTo, HasValue, IsSum, five}
 
--- what spells a number is read as that number
-read_spelled : {E : Type 0} (word : List ℕ) (r : Result ℕ E) (n : ℕ) → ParsesUnsigned 64 10 word r → n < 2 ^ 64 → word ≡ decimal n → r ≡ Ok n
-read_spelled word r n parsed small spelled = parse-decimal 64 n word r small small spelled parsed
-
--- a word that isn't read as a number spells none
-pub unread : {E : Type 0} (word : List ℕ) (r : Result ℕ E) (fault : E) → ParsesUnsigned 64 10 word r → r ≡ Err fault → (n : ℕ) → n < 2 ^ 64 → word ≡ decimal n
-    → ⊥
-unread {E} word r fault parsed failed n small spelled =
-    let both : ◌≡◌ {A = Result ℕ E} (Err fault) (Ok n) = sym failed ∙ read_spelled word r n parsed small spelled in
-    cc
-
--- a word that isn't the spelling of the number that was read from it spells none
-pub no_spelling : {E : Type 0} (word text : List ℕ) (r : Result ℕ E) (m : ℕ) (same : Bool) → ParsesUnsigned 64 10 word r → r ≡ Ok m → text ≡ decimal m
-    → same ≡ bytes_eq text word → same ≡ false → (n : ℕ) → n < 2 ^ 64 → word ≡ decimal n → ⊥
-no_spelling {E} word text r m same parsed read is tested other n small spelled =
-    let both : ◌≡◌ {A = Result ℕ E} (Ok m) (Ok n) = sym read ∙ read_spelled word r n parsed small spelled in
-    let equal : m ≡ n = cc in
-    not_from_Decides (bytes_eq text word) (bytes_eq-Decides text word) (sym tested ∙ other) (is ∙ ap decimal equal ∙ sym spelled)
-
 -- words spell numbers at which no value of the kind that they name stands, so no sum is spelled with them
 pub no_sum : (command size at type_word file name : List ℕ) (n m n' m' : ℕ) (kind kind' : ValueKind) → n < 2 ^ 64 → m < 2 ^ 64
     → size ≡ decimal n → at ≡ decimal m → type_word ≡ kind_text kind

@@ -41,26 +41,26 @@ pub record SayAlike (threads threads' : ℕ) (names names' : List (List ℕ)) : 
   pub count : threads ≡ threads'
   pub named : names ≡ names'
 
-pub same_threaded : (words : List (List ℕ)) (command command' : List ℕ) (threads threads' : ℕ) (names names' : List (List ℕ))
-    → IsThreaded words command threads names → IsThreaded words command' threads' names' → SayAlike threads threads' names names'
-same_threaded words command command' threads threads' names names' a b =
-    let one = a.spelled in
-    let two = b.spelled in
-    let behind : a.behind ≡ b.behind = cc in
-    let says : Say b.behind a.text names = subst (λ (ws : List (List ℕ)). Say ws a.text names) behind a.says in
-    let said = one_saying b.behind a.text b.text names names' says b.says in
-    record {
-      count = one_count b.text threads threads' (subst (λ (t : Option (List ℕ)). AreThreadsBy t threads) said.0 a.are_threads) b.are_threads;
-      named = said.1;
-    }
+module _ (words : List (List ℕ)) (command command' : List ℕ) (threads threads' : ℕ) (names names' : List (List ℕ))
+    (a : IsThreaded words command threads names) (b : IsThreaded words command' threads' names') where
+  pub same_threaded : SayAlike threads threads' names names'
+  same_threaded =
+      let one = a.spelled in
+      let two = b.spelled in
+      let behind : a.behind ≡ b.behind = cc in
+      let says : Say b.behind a.text names = subst (λ (ws : List (List ℕ)). Say ws a.text names) behind a.says in
+      let said = one_saying b.behind a.text b.text names names' says b.says in
+      record {
+        count = one_count b.text threads threads' (subst (λ (t : Option (List ℕ)). AreThreadsBy t threads) said.0 a.are_threads) b.are_threads;
+        named = said.1;
+      }
 
--- the words of commands with threads begin with their word
-same_word : (words : List (List ℕ)) (command command' : List ℕ) (threads threads' : ℕ) (names names' : List (List ℕ))
-    → IsThreaded words command threads names → IsThreaded words command' threads' names' → command ≡ command'
-same_word words command command' threads threads' names names' a b =
-    let one = a.spelled in
-    let two = b.spelled in
-    cc
+  -- the words of commands with threads begin with their word
+  same_word : command ≡ command'
+  same_word =
+      let one = a.spelled in
+      let two = b.spelled in
+      cc
 
 -- words that begin otherwise are others
 other_words : (v w : List ℕ) → (get_or v 0 0 ≡ get_or w 0 0 → ⊥) → v ≡ w → ⊥

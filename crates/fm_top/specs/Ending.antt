@@ -10,13 +10,13 @@ use Rattle.fm_top.specs.declared.outcome.status.Status.{Status}
 use Rattle.fm_top.specs.declared.outcome.status.Status.TheVariants.{Missing}
 use Rattle.fm_top_load.specs.declared.load_fault.LoadFault.{LoadFault}
 use Rattle.fm_top_load.specs.declared.load_fault.LoadFault.TheVariants as fault
-use Rattle.fm_top.specs.declared.outcome.text.Text.{Text}
-use Rattle.fm_top.specs.declared.outcome.text.Text.TheVariants.{Whole, Bytes, NoFile, Answer, Both}
+use Rattle.fm_top.specs.declared.outcome.output.Output.{Output}
+use Rattle.fm_top.specs.declared.outcome.output.Output.TheVariants.{Whole, Bytes, NoFile, Answer, Both}
 
 abbrev pub answered_text : Answered → List ℕ
 answered_text a = answer_text a.query a.answer
 
-abbrev pub text_of : Text → List ℕ
+abbrev pub text_of : Output → List ℕ
 text_of (Whole text) = string_bytes text
 text_of (Bytes bytes) = bytes.items
 text_of (NoFile file) = (missing file.now).text

@@ -33,7 +33,7 @@ pub use sum::SumCommand;
 
 /// What the words ask for.
 #[derive(Clone, Copy, Debug)]
-pub enum Command<'a> {
+pub enum Subcommand<'a> {
     Sum(SumCommand<'a>),
     Layout(LayoutCommand<'a>),
     Ask(AskCommand<'a>),
@@ -42,31 +42,34 @@ pub enum Command<'a> {
 }
 
 /// What the words ask for, and nothing where they are of no form.
-pub fn command_of<'a>(alloc: Global, words: &'a [String]) -> Result<Option<Command<'a>>, AllocError>
+pub fn command_of<'a>(
+    alloc: Global,
+    words: &'a [String],
+) -> Result<Option<Subcommand<'a>>, AllocError>
     ensures found { IfOk result (λ found.
         IfSome found (λ command. Asks (texts words.now) (request_of command))) }
     ensures none { IfOk result (λ found. IfNone found (AreFaulty (texts words.now))) }
 {
     if let Some(layout) = layout_words(words, LayoutText::Places) {
-        return Ok(Some(Command::Layout(layout)));
+        return Ok(Some(Subcommand::Layout(layout)));
     }
     if let Some(layout) = layout_words(words, LayoutText::Json) {
-        return Ok(Some(Command::Layout(layout)));
+        return Ok(Some(Subcommand::Layout(layout)));
     }
     if let Some(run) = script_words(words) {
-        return Ok(Some(Command::Run(run)));
+        return Ok(Some(Subcommand::Run(run)));
     }
     if let Some(sum) = sum_words(words) {
-        return Ok(Some(Command::Sum(sum)));
+        return Ok(Some(Subcommand::Sum(sum)));
     }
     if let Some(ask) = ask_words(alloc, words, Question::Query)? {
-        return Ok(Some(Command::Ask(ask)));
+        return Ok(Some(Subcommand::Ask(ask)));
     }
     if let Some(ask) = ask_words(alloc, words, Question::Tally)? {
-        return Ok(Some(Command::Ask(ask)));
+        return Ok(Some(Subcommand::Ask(ask)));
     }
     match demo_words(alloc, words)? {
-        Some(demo) => Ok(Some(Command::Demo(demo))),
+        Some(demo) => Ok(Some(Subcommand::Demo(demo))),
         None => Ok(None),
     }
 }

@@ -15,6 +15,7 @@ mod kept;
 mod layout;
 mod layout_printed;
 mod left;
+mod output;
 mod plan;
 mod query;
 mod script;
@@ -22,11 +23,10 @@ mod status;
 mod sum;
 mod sum_values;
 mod tally;
-mod text;
 mod unloaded;
 mod wanting;
 
-use crate::command::{Command, command_of};
+use crate::command::{Subcommand, command_of};
 use crate::outcome::ask::ask_ending;
 use crate::outcome::demo::demo_ending;
 use crate::outcome::layout::layout_file_ending;
@@ -65,7 +65,7 @@ fn command_ending<'a, R: Threads + Wait + Sync, F: Files, G: Gate>(
     rt: &R,
     alloc: Global,
     files: &mut F,
-    command: &Command<'a>,
+    command: &Subcommand<'a>,
     gate: &G,
 ) -> Result<Ending<'a>, Fault>
     requires { CanBeAsked (request_of command.now) }
@@ -74,10 +74,10 @@ fn command_ending<'a, R: Threads + Wait + Sync, F: Files, G: Gate>(
         (F.view files.new) result }
 {
     match command {
-        Command::Sum(sum) => sum_ending(rt, alloc, files, sum),
-        Command::Layout(layout) => layout_file_ending(alloc, files, layout),
-        Command::Ask(ask) => ask_ending(rt, alloc, files, ask, gate),
-        Command::Demo(demo) => Ok(demo_ending(rt, alloc, demo, gate)?),
-        Command::Run(run) => script_ending(rt, alloc, files, run.file, gate),
+        Subcommand::Sum(sum) => sum_ending(rt, alloc, files, sum),
+        Subcommand::Layout(layout) => layout_file_ending(alloc, files, layout),
+        Subcommand::Ask(ask) => ask_ending(rt, alloc, files, ask, gate),
+        Subcommand::Demo(demo) => Ok(demo_ending(rt, alloc, demo, gate)?),
+        Subcommand::Run(run) => script_ending(rt, alloc, files, run.file, gate),
     }
 }

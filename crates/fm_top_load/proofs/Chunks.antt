@@ -6,15 +6,6 @@ use Rattle.fm_io.specs.Files.{Contents, file_of, AreBytesFrom, EndsBefore}
 use Rattle.fm_io.proofs.Filled.{AreBytesFrom-append}
 use Rattle.fm_top_load.specs.Whole.{IsChunk, TakesChunk, IsWhole}
 
--- a file's first bytes and the next chunk of it, of which the files still tell the same, are its first bytes
-pub AreBytesFrom-took : {limit : ℕ} {told later : Option Contents} {name old new : List ℕ} {ended : Bool} → later ≡ told
-    → AreBytesFrom told name 0 old → TakesChunk limit later name old new ended → AreBytesFrom told name 0 new
-AreBytesFrom-took {limit} {told} {later} {name} {old} held first took =
-    subst (λ (bytes : List ℕ). AreBytesFrom told name 0 bytes) (sym took.appended)
-    (AreBytesFrom-append told name old took.piece 0 first
-    (subst (λ (at : ℕ). AreBytesFrom told name at took.piece) (sym (zero-add (length old)))
-    (subst (λ (x : Option Contents). AreBytesFrom x name (length old) took.piece) held took.bytes)))
-
 -- a chunk that was put behind what was there
 pub takes_chunk : {limit : ℕ} {told : Option Contents} {name old new piece : List ℕ} {at : ℕ} {ended : Bool} → new ≡ old ++ piece
     → at ≡ length old → IsChunk limit told name at piece ended → TakesChunk limit told name old new ended
@@ -41,12 +32,20 @@ first_to_last : (told : Option Contents) (name bytes : List ℕ) → AreBytesFro
 first_to_last None name bytes from ends = tt
 first_to_last (Some contents) name bytes from ends = whole_file (file_of contents name) bytes from ends
 
--- a file's first bytes and the last chunk of it are the file
-pub IsWhole-took : {limit : ℕ} {told later : Option Contents} {name old new : List ℕ} {ended : Bool} → later ≡ told
-    → AreBytesFrom told name 0 old → TakesChunk limit later name old new ended → ended ≡ true → IsWhole told name new
-IsWhole-took {limit} {told} {later} {name} {old} {new} held first took last =
-    first_to_last told name new (AreBytesFrom-took held first took)
-    (subst (λ (x : Option Contents). EndsBefore x name (length new)) held (took.ends last))
+module _ {limit : ℕ} {told later : Option Contents} {name old new : List ℕ} {ended : Bool} (held : later ≡ told) (first : AreBytesFrom told name 0 old)
+    (took : TakesChunk limit later name old new ended) where
+  -- a file's first bytes and the next chunk of it, of which the files still tell the same, are its first bytes
+  pub AreBytesFrom-took : AreBytesFrom told name 0 new
+  AreBytesFrom-took =
+      subst (λ (bytes : List ℕ). AreBytesFrom told name 0 bytes) (sym took.appended)
+      (AreBytesFrom-append told name old took.piece 0 first
+      (subst (λ (at : ℕ). AreBytesFrom told name at took.piece) (sym (zero-add (length old)))
+      (subst (λ (x : Option Contents). AreBytesFrom x name (length old) took.piece) held took.bytes)))
+
+  -- a file's first bytes and the last chunk of it are the file
+  pub IsWhole-took : ended ≡ true → IsWhole told name new
+  IsWhole-took last =
+      first_to_last told name new AreBytesFrom-took (subst (λ (x : Option Contents). EndsBefore x name (length new)) held (took.ends last))
 
 none_of : (file : Option (List ℕ)) (at : ℕ) (bytes : List ℕ) → bytes ≡ []
     → MatchOption file (bytes ≡ []) (λ f. bytes ≡ take (length bytes) (drop at f))

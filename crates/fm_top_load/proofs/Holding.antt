@@ -216,11 +216,6 @@ refusal_wants nature v w a size refusal.Closed h room did may full = absurd (not
 refusal_wants nature v w a size (refusal.NoRoom given) h room did may full = absurd (has_room v w a size given h room did)
 refusal_wants nature v w a size r h room did may full = absurd did.does
 
--- so all is as it was
-pub refused_held : (v w : View) (a : ArenaId) (size : ℕ) (r : Refusal) → IsHeld v a → rounded_up (given_in v a) 8 + size ≤ v.limit
-    → w.inside ≡ None → DidAllocate v w a size 8 (Err r) → HoldsThen w a (given_in v a) (words_at v a)
-refused_held v w a size r h room out did = held_same v w did.own a h did.makes out (refusal_stays v w a size r h room did)
-
 -- ---- bytes that are put
 
 -- where bytes were put the arena is held, has given as many, and has as many words
@@ -254,9 +249,13 @@ pub allocated_only : (v w : View) (a : ArenaId) (size place : ℕ) → IsHeld v 
 allocated_only v w a size place h did =
     only_changed v.state w.state a (gave v.caller (place + size)) (λ x. refl) (allocated_state v w a size place h did)
 
-pub refused_only : (v w : View) (a : ArenaId) (size : ℕ) (r : Refusal) → IsHeld v a → rounded_up (given_in v a) 8 + size ≤ v.limit
-    → DidAllocate v w a size 8 (Err r) → OnlyIn a v.state w.state
-refused_only v w a size r h room did = only_same v.state w.state a (refusal_stays v w a size r h room did)
+module _ (v w : View) (a : ArenaId) (size : ℕ) (r : Refusal) (h : IsHeld v a) (room : rounded_up (given_in v a) 8 + size ≤ v.limit) where
+  -- where an allocation is refused all is as it was
+  pub refused_held : w.inside ≡ None → DidAllocate v w a size 8 (Err r) → HoldsThen w a (given_in v a) (words_at v a)
+  refused_held out did = held_same v w did.own a h did.makes out (refusal_stays v w a size r h room did)
+
+  pub refused_only : DidAllocate v w a size 8 (Err r) → OnlyIn a v.state w.state
+  refused_only did = only_same v.state w.state a (refusal_stays v w a size r h room did)
 
 pub put_only : (v w : View) (a : ArenaId) (place : ℕ) (bytes : List ℕ) → ChangesBytes v w a place bytes → OnlyIn a v.state w.state
 put_only v w a place bytes ch = only_changed v.state w.state a (with_words (words_at w a)) (λ x. refl) ch.rest

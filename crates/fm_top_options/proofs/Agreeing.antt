@@ -4,12 +4,12 @@ use Rattle.std.proofs.lemmas.Bool.Decides.{nat_tests}
 use Rattle.clap.specs.Kinds.{Kinds, or_else}
 use Rattle.clap.specs.Walk.{Row, Text, Waiting, Walk, all_of, has_row, option, positional, settled, used, walked}
 use Rattle.clap.specs.Faults.{settle_fault, turn_fault, use_fault, walk_fault}
-use Rattle.fm_top_options.proofs.Said.{Said, said, with_threads, with_word}
+use Rattle.fm_top_options.proofs.Said.{Said, is_apart, is_end, is_joined, is_plain, is_refused, said, with_threads, with_word}
 use Rattle.fm_top_options.proofs.Built.{option as threads, others, rules, shape}
 use Rattle.fm_top_options.proofs.Faulty.{IsFault, fault_first, fault_second}
 use Rattle.fm_top_options.proofs.Rows.{all_of-with_other, all_of-with_same, has_row-all_of, without_none}
-use Rattle.fm_top_options.proofs.Sorts.{IsPlain, apart, ends, joined, plain, sort_of, unknown}
-use Rattle.fm_top_options.proofs.Turns.{Pend, after, fault_apart, fault_apart_wanted, fault_ends, fault_ends_wanted, fault_joined, fault_joined_wanted, fault_plain, fault_text, fault_trailing, fault_unknown, fault_unknown_wanted, asking, ended, nothing, ready, settling, text, waits, walked_apart, walked_ends, walked_ends_wanted, walked_joined, walked_plain, walked_text, walked_trailing, wanted, word}
+use Rattle.fm_top_options.proofs.Sorts.{IsPlain, sort_of}
+use Rattle.fm_top_options.proofs.Turns.{Pend, after, asking, ended, fault_apart_wanted, fault_joined_wanted, fault_unknown, fault_unknown_wanted, nothing, ready, settling, text, turn_apart, turn_ends, turn_ends_wanted, turn_joined, turn_plain, turn_text, turn_trailing, waits, wanted, word}
 
 -- ---- what rows show
 
@@ -120,7 +120,7 @@ trailing_agrees (w ∷ rest) rows p waiting texts words h =
     let more = trailing_agrees rest (after rows p) (word w) positional texts (words ++ w ∷ [])
     (holds_word (after rows p) texts words w h.shows h.once) in
     onward (ended rows p waiting) (ended (after rows p) (word w) positional) w rest
-    (Some (record { threads = texts; words = words ++ w ∷ rest })) (fault_trailing w rows p waiting ∙ h.sound) (walked_trailing w rows p waiting)
+    (Some (record { threads = texts; words = words ++ w ∷ rest })) ((turn_trailing w rows p waiting).fault ∙ h.sound) (turn_trailing w rows p waiting).goes
     (rw append_assoc at more)
 
 -- what waits for its use in vain
@@ -128,21 +128,21 @@ trailing_fails : (rest : List Text) (rows : List Row) (p : Pend) (waiting : Wait
     → Agrees (ended rows p waiting) rest None
 unfolding walk_fault
 trailing_fails [] rows p waiting f = f
-trailing_fails (w ∷ rest) rows p waiting f = stops_by (ended rows p waiting) w rest (settling rows p) (fault_trailing w rows p waiting) f
+trailing_fails (w ∷ rest) rows p waiting f = stops_by (ended rows p waiting) w rest (settling rows p) (turn_trailing w rows p waiting).fault f
 
 fails : (words : List Text) → AllText words → (rows : List Row) (p : Pend) (b : Bool) → IsFault (settling rows p) → Agrees (ready rows p b) words None
 unfolding walk_fault
 fails [] u rows p b f = f
 fails (w ∷ rest) u rows p b f = elim (sort_of w u.0) [
-  | ends e ↦ subst (λ (x : Text). Agrees (ready rows p b) (x ∷ rest) None) (sym e)
-      (onward (ready rows p b) (ended rows p (waits b)) (codes "--") rest None (fault_ends rows p b) (walked_ends rows p b)
+  | is_end e ↦ subst (λ (x : Text). Agrees (ready rows p b) (x ∷ rest) None) (sym e)
+      (onward (ready rows p b) (ended rows p (waits b)) (codes "--") rest None (turn_ends rows p b).fault (turn_ends rows p b).goes
       (trailing_fails rest rows p (waits b) f))
-  | apart e ↦ subst (λ (x : Text). Agrees (ready rows p b) (x ∷ rest) None) (sym e)
-      (stops_by (ready rows p b) (codes "--threads") rest (settling rows p) (fault_apart rows p b) f)
-  | joined t e ↦ subst (λ (x : Text). Agrees (ready rows p b) (x ∷ rest) None) (sym e)
-      (stops_by (ready rows p b) (codes "--threads=" ++ t) rest (joining t rows p) (fault_joined t rows p b) (fault_first _ _ f))
-  | unknown k ↦ stops (ready rows p b) w rest (fault_unknown w k rows p b)
-  | plain k ↦ stops_by (ready rows p b) w rest (settling rows p) (fault_plain w k rows p b) f
+  | is_apart e ↦ subst (λ (x : Text). Agrees (ready rows p b) (x ∷ rest) None) (sym e)
+      (stops_by (ready rows p b) (codes "--threads") rest (settling rows p) (turn_apart rows p b).fault f)
+  | is_joined t e ↦ subst (λ (x : Text). Agrees (ready rows p b) (x ∷ rest) None) (sym e)
+      (stops_by (ready rows p b) (codes "--threads=" ++ t) rest (joining t rows p) (turn_joined t rows p b).fault (fault_first _ _ f))
+  | is_refused k ↦ stops (ready rows p b) w rest (fault_unknown w k rows p b)
+  | is_plain k ↦ stops_by (ready rows p b) w rest (settling rows p) (turn_plain w k rows p b).fault f
 ]
 
 -- ---- the form, from any place on
@@ -193,15 +193,15 @@ joined_agrees : (t : Text) (rest : List Text) → OpenAgrees rest
     → Agrees (ready rows p b) ((codes "--threads=" ++ t) ∷ rest) (whole texts before (option_map (with_threads t) (said false rest)))
 joined_agrees t rest later [] rows p b before h =
     let sound : use_fault false threads (t ∷ []) (after rows p) ≡ [] = rw (unused (after rows p) before h.shows) refl in
-    let now : turn_fault shape [] (ready rows p b) (codes "--threads=" ++ t) ≡ [] = fault_joined t rows p b ∙
+    let now : turn_fault shape [] (ready rows p b) (codes "--threads=" ++ t) ≡ [] = (turn_joined t rows p b).fault ∙
     (ap (λ k. or_else k (use_fault false threads (t ∷ []) (after rows p))) h.sound ∙ sound) in
     let next = later (used threads (t ∷ []) (after rows p)) nothing false (t ∷ []) before
     (record { sound = refl; shows = shows_text (after rows p) before t h.shows; once = refl }) in
     onward (ready rows p b) (ready (used threads (t ∷ []) (after rows p)) nothing false) (codes "--threads=" ++ t) rest
-    (whole [] before (option_map (with_threads t) (said false rest))) now (walked_joined t rows p b) (rw whole_text at next)
+    (whole [] before (option_map (with_threads t) (said false rest))) now (turn_joined t rows p b).goes (rw whole_text at next)
 joined_agrees t rest later (x ∷ []) rows p b before h =
     rw (whole_twice before x t (said false rest)) (stops_by (ready rows p b) (codes "--threads=" ++ t) rest (joining t rows p)
-    (fault_joined t rows p b) (fault_second _ _ (second_use (after rows p) before t x h.shows)))
+    (turn_joined t rows p b).fault (fault_second _ _ (second_use (after rows p) before t x h.shows)))
 joined_agrees t rest later (x ∷ y ∷ more) rows p b before h =
     let bad : true ≡ false = sym h.once ∙ not_once x y more in
     cc
@@ -215,10 +215,10 @@ text_agrees : (t : Text) → IsPlain t → (rest : List Text) → AllText rest �
 text_agrees t k rest u later [] rows before s one =
     let next = later rows (text t) false (t ∷ []) before (holds_text rows before t s) in
     onward (asking rows) (ready rows (text t) false) t rest (whole [] before (option_map (with_threads t) (said false rest)))
-    (fault_text t k rows) (walked_text t k rows) (rw whole_text at next)
+    (turn_text t k rows).fault (turn_text t k rows).goes (rw whole_text at next)
 text_agrees t k rest u later (x ∷ []) rows before s one =
-    rw (whole_twice before x t (said false rest)) (onward (asking rows) (ready rows (text t) false) t rest None (fault_text t k rows)
-    (walked_text t k rows) (fails rest u rows (text t) false (rw (used_once rows before t x s) tt)))
+    rw (whole_twice before x t (said false rest)) (onward (asking rows) (ready rows (text t) false) t rest None (turn_text t k rows).fault
+    (turn_text t k rows).goes (fails rest u rows (text t) false (rw (used_once rows before t x s) tt)))
 text_agrees t k rest u later (x ∷ y ∷ more) rows before s one =
     let bad : true ≡ false = sym one ∙ not_once x y more in
     cc
@@ -227,34 +227,34 @@ text_agrees t k rest u later (x ∷ y ∷ more) rows before s one =
 
 open_agrees : (w : Text) (rest : List Text) → IsUtf8 w → OpenAgrees rest → WantedAgrees rest → OpenAgrees (w ∷ rest)
 open_agrees w rest u later wants rows p b texts before h = elim (sort_of w u) [
-  | ends e ↦ subst (λ (x : Text). Agrees (ready rows p b) (x ∷ rest) (whole texts before (said false (x ∷ rest)))) (sym e)
+  | is_end e ↦ subst (λ (x : Text). Agrees (ready rows p b) (x ∷ rest) (whole texts before (said false (x ∷ rest)))) (sym e)
       (rw (whole_now texts before h.once rest)
       (onward (ready rows p b) (ended rows p (waits b)) (codes "--") rest (Some (record { threads = texts; words = before ++ rest }))
-      (fault_ends rows p b) (walked_ends rows p b) (trailing_agrees rest rows p (waits b) texts before h)))
-  | apart e ↦ subst (λ (x : Text). Agrees (ready rows p b) (x ∷ rest) (whole texts before (said false (x ∷ rest)))) (sym e)
+      (turn_ends rows p b).fault (turn_ends rows p b).goes (trailing_agrees rest rows p (waits b) texts before h)))
+  | is_apart e ↦ subst (λ (x : Text). Agrees (ready rows p b) (x ∷ rest) (whole texts before (said false (x ∷ rest)))) (sym e)
       (onward (ready rows p b) (asking (after rows p)) (codes "--threads") rest (whole texts before (said true rest))
-      (fault_apart rows p b ∙ h.sound) (walked_apart rows p b) (wants (after rows p) texts before h.shows h.once))
-  | joined t e ↦ subst (λ (x : Text). Agrees (ready rows p b) (x ∷ rest) (whole texts before (said false (x ∷ rest)))) (sym e)
+      ((turn_apart rows p b).fault ∙ h.sound) (turn_apart rows p b).goes (wants (after rows p) texts before h.shows h.once))
+  | is_joined t e ↦ subst (λ (x : Text). Agrees (ready rows p b) (x ∷ rest) (whole texts before (said false (x ∷ rest)))) (sym e)
       (joined_agrees t rest later texts rows p b before h)
-  | unknown k ↦ rw (k.says rest) (stops (ready rows p b) w rest (fault_unknown w k rows p b))
-  | plain k ↦
+  | is_refused k ↦ rw (k.looks.says rest) (stops (ready rows p b) w rest (fault_unknown w k rows p b))
+  | is_plain k ↦
       let next = later (after rows p) (word w) true texts (before ++ w ∷ []) (holds_word (after rows p) texts before w h.shows h.once) in
-      rw (k.says rest) (onward (ready rows p b) (ready (after rows p) (word w) true) w rest
-      (whole texts before (option_map (with_word w) (said false rest))) (fault_plain w k rows p b ∙ h.sound) (walked_plain w k rows p b)
+      rw (k.looks.says rest) (onward (ready rows p b) (ready (after rows p) (word w) true) w rest
+      (whole texts before (option_map (with_word w) (said false rest))) ((turn_plain w k rows p b).fault ∙ h.sound) (turn_plain w k rows p b).goes
       (rw (whole_word texts before w (said false rest)) at next))
 ]
 
 wanted_agrees : (w : Text) (rest : List Text) → IsUtf8 w → AllText rest → OpenAgrees rest → WantedAgrees (w ∷ rest)
 wanted_agrees w rest u us later rows texts before s one = elim (sort_of w u) [
-  | ends e ↦ subst (λ (x : Text). Agrees (asking rows) (x ∷ rest) (whole texts before (said true (x ∷ rest)))) (sym e)
-      (onward (asking rows) (ended rows wanted (option (codes "threads"))) (codes "--") rest None (fault_ends_wanted rows)
-      (walked_ends_wanted rows) (trailing_fails rest rows wanted (option (codes "threads")) tt))
-  | apart e ↦ subst (λ (x : Text). Agrees (asking rows) (x ∷ rest) (whole texts before (said true (x ∷ rest)))) (sym e)
+  | is_end e ↦ subst (λ (x : Text). Agrees (asking rows) (x ∷ rest) (whole texts before (said true (x ∷ rest)))) (sym e)
+      (onward (asking rows) (ended rows wanted (option (codes "threads"))) (codes "--") rest None (turn_ends_wanted rows).fault
+      (turn_ends_wanted rows).goes (trailing_fails rest rows wanted (option (codes "threads")) tt))
+  | is_apart e ↦ subst (λ (x : Text). Agrees (asking rows) (x ∷ rest) (whole texts before (said true (x ∷ rest)))) (sym e)
       (stops (asking rows) (codes "--threads") rest (fault_apart_wanted rows))
-  | joined t e ↦ subst (λ (x : Text). Agrees (asking rows) (x ∷ rest) (whole texts before (said true (x ∷ rest)))) (sym e)
+  | is_joined t e ↦ subst (λ (x : Text). Agrees (asking rows) (x ∷ rest) (whole texts before (said true (x ∷ rest)))) (sym e)
       (stops (asking rows) (codes "--threads=" ++ t) rest (fault_joined_wanted t rows))
-  | unknown k ↦ rw k.dash (stops (asking rows) w rest (fault_unknown_wanted w k rows))
-  | plain k ↦ rw k.dash (text_agrees w k rest us later texts rows before s one)
+  | is_refused k ↦ rw k.looks.dash (stops (asking rows) w rest (fault_unknown_wanted w k rows))
+  | is_plain k ↦ rw k.looks.dash (text_agrees w k rest us later texts rows before s one)
 ]
 
 open_none : OpenAgrees []

@@ -47,19 +47,20 @@ pub record LooksPlain (word : List ℕ) : Type 0 where
   pub dash : has_dash word ≡ false
   pub says : (rest : List (List ℕ)) → said false (word ∷ rest) ≡ option_map (with_word word) (said false rest)
 
-pub data Look (word : List ℕ) : Type 0 where
-  is_end : word ≡ codes "--" → Look word
-  is_apart : word ≡ codes "--threads" → Look word
-  is_joined : (text : List ℕ) → word ≡ codes "--threads=" ++ text → Look word
-  is_refused : LooksRefused word → Look word
-  is_plain : LooksPlain word → Look word
+-- a word of these sorts, where one that is refused and one that is plain are known to be so
+pub data Look (Refused Plain : Type 0) (word : List ℕ) : Type 0 where
+  is_end : word ≡ codes "--" → Look Refused Plain word
+  is_apart : word ≡ codes "--threads" → Look Refused Plain word
+  is_joined : (text : List ℕ) → word ≡ codes "--threads=" ++ text → Look Refused Plain word
+  is_refused : Refused → Look Refused Plain word
+  is_plain : Plain → Look Refused Plain word
 
-pub look : (word : List ℕ) → Look word
+pub look : (word : List ℕ) → Look (LooksRefused word) (LooksPlain word) word
 look word = go (bytes_eq word (codes "--")) (bytes_eq word (codes "--threads")) (bytes_eq (take 10 word) (codes "--threads="))
     (has_dash word) refl refl refl refl
   where
     go : (e a j d : Bool) → bytes_eq word (codes "--") ≡ e → bytes_eq word (codes "--threads") ≡ a
-        → bytes_eq (take 10 word) (codes "--threads=") ≡ j → has_dash word ≡ d → Look word
+        → bytes_eq (take 10 word) (codes "--threads=") ≡ j → has_dash word ≡ d → Look (LooksRefused word) (LooksPlain word) word
     go true a j d e1 e2 e3 e4 = is_end ((bytes_eq-Decides word (codes "--")).0 e1)
     go false true j d e1 e2 e3 e4 = is_apart ((bytes_eq-Decides word (codes "--threads")).0 e2)
     go false false true d e1 e2 e3 e4 =

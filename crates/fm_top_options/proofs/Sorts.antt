@@ -1,5 +1,5 @@
 -- What sort of word a word is, to the definition of the form and to the command.
-use Rattle.std.proofs.Common.{◌≡◌, ◌∙◌, ◌++◌, ◌∷◌, ◌⊎◌, inl, inr, ℕ, ◌<◌, ◌≤◌, ◌==◌, Bool, true, false, List, [], Option, Some, None, refl, ap, sym, subst, arith, bytes_eq, codes, take, length, get_or, option_map, IsUtf8, chars, encode_utf8_all}
+use Rattle.std.proofs.Common.{◌≡◌, ◌∙◌, ◌++◌, ◌∷◌, ◌⊎◌, inl, inr, ℕ, ◌<◌, ◌≤◌, ◌==◌, Bool, true, false, List, [], Option, Some, None, refl, ap, sym, subst, arith, bytes_eq, codes, take, length, get_or, IsUtf8, chars, encode_utf8_all}
 use Rattle.std.specs.List.{position_or_len, before_first, after_first}
 use Rattle.std.proofs.lemmas.Bool.Decides.{nat_tests}
 use Rattle.std.proofs.lemmas.List.Sums.{split_at_first, passes_at_first, fails_before_first}
@@ -10,7 +10,7 @@ use Rattle.clap.specs.Walk.{Held, Row, Text}
 use Rattle.clap.specs.Faults.{flag_word_fault, flags_fault}
 use Rattle.clap.proofs.CutLemmas.{Lacks, list_any-at}
 use Rattle.clap.proofs.LexerLemmas.{name_and_value-without}
-use Rattle.fm_top_options.proofs.Said.{has_dash, is_apart, is_dash, is_end, is_joined, is_plain, is_refused, look, said, with_word}
+use Rattle.fm_top_options.proofs.Said.{Look, LooksPlain, LooksRefused, has_dash, is_apart, is_dash, is_end, is_joined, is_plain, is_refused, look}
 use Rattle.fm_top_options.proofs.Built.{rules}
 use Rattle.fm_top_options.proofs.Faulty.{IsFault}
 
@@ -20,25 +20,17 @@ held rows p = record { rows = rows; pending = p; skip = 0 }
 
 -- an option that the command lacks
 pub record IsUnknown (word : List ℕ) : Type 0 where
-  pub ends : bytes_eq word (codes "--") ≡ false
+  pub looks : LooksRefused word
   pub fault : (rows : List Row) (p : Option (Text × List Text)) → IsFault (flag_word_fault rules false (long_of word) word (held rows p))
-  pub dash : has_dash word ≡ true
-  pub says : (rest : List (List ℕ)) → said false (word ∷ rest) ≡ None
 
 -- no option
 pub record IsPlain (word : List ℕ) : Type 0 where
-  pub ends : bytes_eq word (codes "--") ≡ false
+  pub looks : LooksPlain word
   pub long : long_of word ≡ None
   pub short : short_of word ≡ None
-  pub dash : has_dash word ≡ false
-  pub says : (rest : List (List ℕ)) → said false (word ∷ rest) ≡ option_map (with_word word) (said false rest)
 
-pub data Sort (word : List ℕ) : Type 0 where
-  ends : word ≡ codes "--" → Sort word
-  apart : word ≡ codes "--threads" → Sort word
-  joined : (text : List ℕ) → word ≡ codes "--threads=" ++ text → Sort word
-  unknown : IsUnknown word → Sort word
-  plain : IsPlain word → Sort word
+abbrev pub Sort : List ℕ → Type 0
+Sort word = Look (IsUnknown word) (IsPlain word) word
 
 -- ---- a name and its value
 
@@ -152,11 +144,9 @@ plain_word (x ∷ y ∷ rest) d = (rw d refl, rw d refl)
 
 pub sort_of : (word : List ℕ) → IsUtf8 word → Sort word
 sort_of word u = elim (look word) [
-  | is_end e ↦ ends e
-  | is_apart e ↦ apart e
-  | is_joined text e ↦ joined text e
-  | is_refused k ↦ unknown (record { ends = k.no_end; fault = dashed word k.dash u k.no_end k.not_apart k.not_joined; dash = k.dash; says = k.says })
-  | is_plain k ↦
-      let looks = plain_word word k.dash in
-      plain (record { ends = k.no_end; long = looks.0; short = looks.1; dash = k.dash; says = k.says })
+  | is_end e ↦ is_end e
+  | is_apart e ↦ is_apart e
+  | is_joined text e ↦ is_joined text e
+  | is_refused k ↦ is_refused (record { looks = k; fault = dashed word k.dash u k.no_end k.not_apart k.not_joined })
+  | is_plain k ↦ let looks = plain_word word k.dash in is_plain (record { looks = k; long = looks.0; short = looks.1 })
 ]

@@ -46,52 +46,39 @@ settling rows p = settle_fault rules false (held rows (pending p))
 abbrev pub after : List Row → Pend → List Row
 after rows p = settled_rows rules (pending p) rows
 
+-- what a word does to a walk: its fault, and the walk behind it
+pub record Turn (walk : Walk) (w : Text) (faults : Kinds) (next : Walk) : Type 0 where
+  pub fault : turn_fault shape [] walk w ≡ faults
+  pub goes : walked rules [] walk w ≡ next
+
 -- ---- `--`
 
-pub fault_ends : (rows : List Row) (p : Pend) (b : Bool) → turn_fault shape [] (ready rows p b) (codes "--") ≡ []
-fault_ends rows p true = refl
-fault_ends rows p false = refl
-
-pub walked_ends : (rows : List Row) (p : Pend) (b : Bool) → walked rules [] (ready rows p b) (codes "--") ≡ ended rows p (waits b)
+pub turn_ends : (rows : List Row) (p : Pend) (b : Bool) → Turn (ready rows p b) (codes "--") [] (ended rows p (waits b))
 unfolding walked
-walked_ends rows p true = refl
-walked_ends rows p false = refl
+turn_ends rows p true = record { fault = refl; goes = refl }
+turn_ends rows p false = record { fault = refl; goes = refl }
 
-pub fault_ends_wanted : (rows : List Row) → turn_fault shape [] (asking rows) (codes "--") ≡ []
-fault_ends_wanted rows = refl
-
-pub walked_ends_wanted : (rows : List Row)
-    → walked rules [] (asking rows) (codes "--") ≡ ended rows wanted (option (codes "threads"))
+pub turn_ends_wanted : (rows : List Row) → Turn (asking rows) (codes "--") [] (ended rows wanted (option (codes "threads")))
 unfolding walked
-walked_ends_wanted rows = refl
+turn_ends_wanted rows = record { fault = refl; goes = refl }
 
 -- ---- `--threads`
 
-pub fault_apart : (rows : List Row) (p : Pend) (b : Bool) → turn_fault shape [] (ready rows p b) (codes "--threads") ≡ settling rows p
-fault_apart rows p true = or_else-nil (settling rows p)
-fault_apart rows p false = or_else-nil (settling rows p)
-
-pub walked_apart : (rows : List Row) (p : Pend) (b : Bool)
-    → walked rules [] (ready rows p b) (codes "--threads") ≡ asking (after rows p)
+pub turn_apart : (rows : List Row) (p : Pend) (b : Bool) → Turn (ready rows p b) (codes "--threads") (settling rows p) (asking (after rows p))
 unfolding walked
-walked_apart rows p true = refl
-walked_apart rows p false = refl
+turn_apart rows p true = record { fault = or_else-nil (settling rows p); goes = refl }
+turn_apart rows p false = record { fault = or_else-nil (settling rows p); goes = refl }
 
 pub fault_apart_wanted : (rows : List Row) → IsFault (turn_fault shape [] (asking rows) (codes "--threads"))
 fault_apart_wanted rows = tt
 
 -- ---- `--threads=TEXT`
 
-pub fault_joined : (t : List ℕ) (rows : List Row) (p : Pend) (b : Bool)
-    → turn_fault shape [] (ready rows p b) (codes "--threads=" ++ t) ≡ or_else (settling rows p) (use_fault false threads (t ∷ []) (after rows p))
-fault_joined t rows p true = or_else-nil _
-fault_joined t rows p false = or_else-nil _
-
-pub walked_joined : (t : List ℕ) (rows : List Row) (p : Pend) (b : Bool)
-    → walked rules [] (ready rows p b) (codes "--threads=" ++ t) ≡ ready (used threads (t ∷ []) (after rows p)) nothing false
+pub turn_joined : (t : List ℕ) (rows : List Row) (p : Pend) (b : Bool) → Turn (ready rows p b) (codes "--threads=" ++ t)
+    (or_else (settling rows p) (use_fault false threads (t ∷ []) (after rows p))) (ready (used threads (t ∷ []) (after rows p)) nothing false)
 unfolding walked
-walked_joined t rows p true = refl
-walked_joined t rows p false = refl
+turn_joined t rows p true = record { fault = or_else-nil _; goes = refl }
+turn_joined t rows p false = record { fault = or_else-nil _; goes = refl }
 
 pub fault_joined_wanted : (t : List ℕ) (rows : List Row)
     → IsFault (turn_fault shape [] (asking rows) (codes "--threads=" ++ t))
@@ -100,60 +87,39 @@ fault_joined_wanted t rows = tt
 -- ---- an unknown option
 
 pub fault_unknown : (w : Text) → IsUnknown w → (rows : List Row) (p : Pend) (b : Bool) → IsFault (turn_fault shape [] (ready rows p b) w)
-fault_unknown w k rows p true = rw k.ends (fault_first _ _ (k.fault rows (pending p)))
-fault_unknown w k rows p false = rw k.ends (fault_first _ _ (k.fault rows (pending p)))
+fault_unknown w k rows p true = rw k.looks.no_end (fault_first _ _ (k.fault rows (pending p)))
+fault_unknown w k rows p false = rw k.looks.no_end (fault_first _ _ (k.fault rows (pending p)))
 
 pub fault_unknown_wanted : (w : Text) → IsUnknown w → (rows : List Row)
     → IsFault (turn_fault shape [] (asking rows) w)
-fault_unknown_wanted w k rows = rw k.ends (fault_first _ _ (k.fault rows (pending wanted)))
+fault_unknown_wanted w k rows = rw k.looks.no_end (fault_first _ _ (k.fault rows (pending wanted)))
 
 -- ---- a positional word
 
-pub fault_plain : (w : Text) → IsPlain w → (rows : List Row) (p : Pend) (b : Bool)
-    → turn_fault shape [] (ready rows p b) w ≡ settling rows p
-fault_plain w k rows nothing true = rw (k.ends, k.long, k.short) refl
-fault_plain w k rows nothing false = rw (k.ends, k.long, k.short) refl
-fault_plain w k rows wanted true = rw (k.ends, k.long, k.short) refl
-fault_plain w k rows wanted false = rw (k.ends, k.long, k.short) refl
-fault_plain w k rows (text t) true = rw (k.ends, k.long, k.short) refl
-fault_plain w k rows (text t) false = rw (k.ends, k.long, k.short) refl
-fault_plain w k rows (word x) true = rw (k.ends, k.long, k.short) refl
-fault_plain w k rows (word x) false = rw (k.ends, k.long, k.short) refl
-
-pub walked_plain : (w : Text) → IsPlain w → (rows : List Row) (p : Pend) (b : Bool)
-    → walked rules [] (ready rows p b) w ≡ ready (after rows p) (word w) true
+pub turn_plain : (w : Text) → IsPlain w → (rows : List Row) (p : Pend) (b : Bool)
+    → Turn (ready rows p b) w (settling rows p) (ready (after rows p) (word w) true)
 unfolding walked
-walked_plain w k rows nothing true = rw (k.ends, k.long, k.short) refl
-walked_plain w k rows nothing false = rw (k.ends, k.long, k.short) refl
-walked_plain w k rows wanted true = rw (k.ends, k.long, k.short) refl
-walked_plain w k rows wanted false = rw (k.ends, k.long, k.short) refl
-walked_plain w k rows (text t) true = rw (k.ends, k.long, k.short) refl
-walked_plain w k rows (text t) false = rw (k.ends, k.long, k.short) refl
-walked_plain w k rows (word x) true = rw (k.ends, k.long, k.short) refl
-walked_plain w k rows (word x) false = rw (k.ends, k.long, k.short) refl
+turn_plain w k rows nothing true = record { fault = rw (k.looks.no_end, k.long, k.short) refl; goes = rw (k.looks.no_end, k.long, k.short) refl }
+turn_plain w k rows nothing false = record { fault = rw (k.looks.no_end, k.long, k.short) refl; goes = rw (k.looks.no_end, k.long, k.short) refl }
+turn_plain w k rows wanted true = record { fault = rw (k.looks.no_end, k.long, k.short) refl; goes = rw (k.looks.no_end, k.long, k.short) refl }
+turn_plain w k rows wanted false = record { fault = rw (k.looks.no_end, k.long, k.short) refl; goes = rw (k.looks.no_end, k.long, k.short) refl }
+turn_plain w k rows (text t) true = record { fault = rw (k.looks.no_end, k.long, k.short) refl; goes = rw (k.looks.no_end, k.long, k.short) refl }
+turn_plain w k rows (text t) false = record { fault = rw (k.looks.no_end, k.long, k.short) refl; goes = rw (k.looks.no_end, k.long, k.short) refl }
+turn_plain w k rows (word x) true = record { fault = rw (k.looks.no_end, k.long, k.short) refl; goes = rw (k.looks.no_end, k.long, k.short) refl }
+turn_plain w k rows (word x) false = record { fault = rw (k.looks.no_end, k.long, k.short) refl; goes = rw (k.looks.no_end, k.long, k.short) refl }
 
 -- ---- the option's text
 
-pub fault_text : (w : Text) → IsPlain w → (rows : List Row) → turn_fault shape [] (asking rows) w ≡ []
-fault_text w k rows = rw (k.ends, k.long, k.short) refl
-
-pub walked_text : (w : Text) → IsPlain w → (rows : List Row)
-    → walked rules [] (asking rows) w ≡ ready rows (text w) false
+pub turn_text : (w : Text) → IsPlain w → (rows : List Row) → Turn (asking rows) w [] (ready rows (text w) false)
 unfolding walked
-walked_text w k rows = rw (k.ends, k.long, k.short) refl
+turn_text w k rows = record { fault = rw (k.looks.no_end, k.long, k.short) refl; goes = rw (k.looks.no_end, k.long, k.short) refl }
 
 -- ---- a word after `--`
 
-pub fault_trailing : (w : Text) (rows : List Row) (p : Pend) (waiting : Waiting) → turn_fault shape [] (ended rows p waiting) w ≡ settling rows p
-fault_trailing w rows nothing waiting = refl
-fault_trailing w rows wanted waiting = refl
-fault_trailing w rows (text t) waiting = refl
-fault_trailing w rows (word x) waiting = refl
-
-pub walked_trailing : (w : Text) (rows : List Row) (p : Pend) (waiting : Waiting)
-    → walked rules [] (ended rows p waiting) w ≡ ended (after rows p) (word w) positional
+pub turn_trailing : (w : Text) (rows : List Row) (p : Pend) (waiting : Waiting)
+    → Turn (ended rows p waiting) w (settling rows p) (ended (after rows p) (word w) positional)
 unfolding walked
-walked_trailing w rows nothing waiting = refl
-walked_trailing w rows wanted waiting = refl
-walked_trailing w rows (text t) waiting = refl
-walked_trailing w rows (word x) waiting = refl
+turn_trailing w rows nothing waiting = record { fault = refl; goes = refl }
+turn_trailing w rows wanted waiting = record { fault = refl; goes = refl }
+turn_trailing w rows (text t) waiting = record { fault = refl; goes = refl }
+turn_trailing w rows (word x) waiting = record { fault = refl; goes = refl }

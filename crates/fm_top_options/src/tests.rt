@@ -47,46 +47,20 @@ fn reads_positional_words(rt: HostRuntime) -> Result<(), Fail> {
 #[test]
 fn reads_the_option_at_any_place(rt: HostRuntime) -> Result<(), Fail> {
     let alloc = rt.alloc();
-    assert!(rt;
-        says(
-            alloc,
-            &["--threads", "2", "l", "q", "f"],
-            Some("2"),
-            "l|q|f|"
-        )?
-    );
-    assert!(rt;
-        says(
-            alloc,
-            &["l", "--threads", "2", "q", "f"],
-            Some("2"),
-            "l|q|f|"
-        )?
-    );
-    assert!(rt;
-        says(
-            alloc,
-            &["l", "q", "f", "--threads", "2"],
-            Some("2"),
-            "l|q|f|"
-        )?
-    );
-    assert!(rt;
-        says(
-            alloc,
-            &["--threads=16", "l", "q", "f"],
-            Some("16"),
-            "l|q|f|"
-        )?
-    );
-    assert!(rt;
-        says(
-            alloc,
-            &["l", "q", "f", "--threads=16"],
-            Some("16"),
-            "l|q|f|"
-        )?
-    );
+    let lines = [
+        ("--threads 2 l q f", "2"),
+        ("l --threads 2 q f", "2"),
+        ("l q f --threads 2", "2"),
+        ("--threads=16 l q f", "16"),
+        ("l q f --threads=16", "16"),
+    ];
+    for (line, threads) in lines {
+        let mut words = Vec::new(alloc);
+        for word in line.split(' ') {
+            words.push(word)?;
+        }
+        assert!(rt; says(alloc, &words, Some(threads), "l|q|f|")?, "at {line}");
+    }
     Ok(())
 }
 

@@ -4,7 +4,7 @@ ghost use Rattle.fm_top_options.specs.Options.{texts};
 ghost use Rattle.fm_top.specs.Words.{HasValue, IsSum, five};
 
 use crate::command::file_words::is_file_word;
-use crate::command::number::number_of_word;
+use fm_base_text::parse_decimal;
 use fm_lanes::ValueKind;
 
 /// The most bytes of a record that is summed.
@@ -48,7 +48,7 @@ fn sum_command<'a>(
     if command != "sum" || !is_file_word(file) {
         return None;
     }
-    let (Some(size), Some(at)) = (number_of_word(size), number_of_word(at)) else {
+    let (Some(size), Some(at)) = (parse_decimal(size), parse_decimal(at)) else {
         return None;
     };
     let Some(kind) = ValueKind::named(kind) else {

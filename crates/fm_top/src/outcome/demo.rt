@@ -8,7 +8,7 @@ use crate::command::DemoCommand;
 use crate::outcome::answered::Answered;
 use crate::outcome::demo_layout::demo_layout;
 use crate::outcome::ending::Ending;
-use crate::outcome::text::Text;
+use crate::outcome::output::Output;
 use fm_base::Refusal;
 use fm_io::Gate;
 use fm_records_query::{Query, parse_query};
@@ -43,7 +43,7 @@ pub fn demo_ending<'a, R: Threads + Wait + Sync, G: Gate>(
         query: second,
         answer: two,
     };
-    Ok(Ending::answered_by_pool(Text::Both(one, two), finished))
+    Ok(Ending::answered_by_pool(Output::Both(one, two), finished))
 }
 
 /// So many records, in a pool of their own.

@@ -6,12 +6,12 @@ ghost use Rattle.fm_top.specs.Ending.{shown, text_of};
 ghost use Rattle.fm_top.specs.Run.{Prints};
 
 use crate::outcome::left::Left;
+use crate::outcome::output::Output;
 use crate::outcome::status::Status;
-use crate::outcome::text::Text;
 use fm_base::Refusal;
 use fm_io::{Fault, Sink};
 use fm_rule::Finished;
-use fm_script_report::Report;
+use fm_script::Report;
 use itoa::Buffer;
 use std::alloc::{AllocError, Global};
 
@@ -19,7 +19,7 @@ use std::alloc::{AllocError, Global};
 #[derive(Drop)]
 pub struct Ending<'a> {
     pub status: Status,
-    pub text: Text<'a>,
+    pub text: Output<'a>,
     pub left: Left,
 }
 
@@ -37,7 +37,7 @@ impl<'a> Ending<'a> {
     {
         Ending {
             status: Status::Missing,
-            text: Text::NoFile(file),
+            text: Output::NoFile(file),
             left: Left::Nothing,
         }
     }
@@ -92,7 +92,7 @@ impl<'a> Ending<'a> {
     }
 
     /// The answer, which is this text.
-    pub fn answered(text: Text<'a>) -> Ending<'a>
+    pub fn answered(text: Output<'a>) -> Ending<'a>
         ensures { shown result ≡ answered (text_of text.entry) }
     {
         Ending {
@@ -103,7 +103,7 @@ impl<'a> Ending<'a> {
     }
 
     /// The answer, and the pool that gave it.
-    pub fn answered_by_pool(text: Text<'a>, finished: Finished) -> Ending<'a>
+    pub fn answered_by_pool(text: Output<'a>, finished: Finished) -> Ending<'a>
         ensures { shown result ≡ answered_by_pool (text_of text.entry) finished }
     {
         Ending {
@@ -120,7 +120,7 @@ impl<'a> Ending<'a> {
     {
         Ending {
             status: Status::Answered,
-            text: Text::Whole(text),
+            text: Output::Whole(text),
             left: Left::Report(report),
         }
     }
@@ -131,7 +131,7 @@ impl<'a> Ending<'a> {
             shown ending ≡ answered (line (codes "sum " ++ signed_decimal sum))) }
     {
         let text = text_line(alloc, "sum ", Buffer::new().format(sum))?;
-        Ok(Ending::answered(Text::Whole(text)))
+        Ok(Ending::answered(Output::Whole(text)))
     }
 
     /// Writes the text, and answers the status that this leaves.
@@ -156,7 +156,7 @@ impl<'a> Ending<'a> {
     {
         Ending {
             status,
-            text: Text::Whole(text),
+            text: Output::Whole(text),
             left: Left::Nothing,
         }
     }

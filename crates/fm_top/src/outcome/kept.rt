@@ -3,7 +3,7 @@ ghost use Rattle.fm_top.specs.Keeps.{pool_in, report_in};
 
 use crate::outcome::left::Left;
 use fm_rule::Finished;
-use fm_script_report::Report;
+use fm_script::Report;
 use std::marker::Model;
 
 /// What a run leaves for its caller to look at. Each run empties it first.

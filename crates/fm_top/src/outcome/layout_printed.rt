@@ -4,7 +4,7 @@ ghost use Rattle.fm_top.specs.Ending.{text_of};
 ghost use Rattle.fm_top.specs.Outcome.{line, printed};
 
 use crate::command::LayoutText;
-use crate::outcome::text::Text;
+use crate::outcome::output::Output;
 use fm_layout::Layout;
 use fm_ljson_write::layout_to_json2;
 use fm_path::list_places;
@@ -15,12 +15,12 @@ pub fn text_of_layout<'a>(
     alloc: Global,
     text: LayoutText,
     layout: &Layout,
-) -> Result<Text<'a>, AllocError>
+) -> Result<Output<'a>, AllocError>
     ensures { IfOk result (λ printed_text. text_of printed_text ≡ printed text layout.now) }
 {
     match text {
         LayoutText::Places => match list_places(alloc, layout) {
-            Ok(text) => Ok(Text::Whole(text)),
+            Ok(text) => Ok(Output::Whole(text)),
             // It is refused for want of memory alone.
             Err(_) => Err(AllocError),
         },
@@ -29,7 +29,7 @@ pub fn text_of_layout<'a>(
 }
 
 /// The JSON of a layout, as a line.
-fn json_line<'a>(alloc: Global, layout: &Layout) -> Result<Text<'a>, AllocError>
+fn json_line<'a>(alloc: Global, layout: &Layout) -> Result<Output<'a>, AllocError>
     ensures { IfOk result (λ text. text_of text ≡ line (document_text layout.now)) }
 {
     // It is refused for want of memory alone.
@@ -37,5 +37,5 @@ fn json_line<'a>(alloc: Global, layout: &Layout) -> Result<Text<'a>, AllocError>
         return Err(AllocError);
     };
     bytes.push(b'\n')?;
-    Ok(Text::Bytes(bytes))
+    Ok(Output::Bytes(bytes))
 }

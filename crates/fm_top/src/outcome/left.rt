@@ -1,5 +1,5 @@
 use fm_rule::Finished;
-use fm_script_report::Report;
+use fm_script::Report;
 
 /// What a run leaves.
 #[derive(Drop)]

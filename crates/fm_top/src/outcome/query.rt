@@ -6,8 +6,8 @@ ghost use Rattle.fm_top.specs.declared.command.question.Question.TheVariants as 
 
 use crate::outcome::answered::Answered;
 use crate::outcome::ending::Ending;
+use crate::outcome::output::Output;
 use crate::outcome::plan::rest_of;
-use crate::outcome::text::Text;
 use fm_io::Gate;
 use fm_records_query::Query;
 use fm_top_load::RECORD_FILE_LIMIT;
@@ -51,5 +51,5 @@ fn query_answer<'a, R: Threads + Wait + Sync, G: Gate>(
     ensures { IfOk result (λ ending. IsAnswered question.Query q pooled (shown ending)) }
 {
     let (answer, finished) = pooled.answer(rt, alloc, &q, threads, gate)?;
-    Ok(Ending::answered_by_pool(Text::Answer(Answered { query: q, answer }), finished))
+    Ok(Ending::answered_by_pool(Output::Answer(Answered { query: q, answer }), finished))
 }

@@ -6,8 +6,8 @@ ghost use Rattle.fm_top.specs.declared.command.question.Question.TheVariants as 
 ghost use Rattle.fm_workers.specs.Counts.{IsTally};
 
 use crate::outcome::ending::Ending;
+use crate::outcome::output::Output;
 use crate::outcome::plan::rest_of;
-use crate::outcome::text::Text;
 use fm_io::Gate;
 use fm_records_query::Query;
 use fm_top_load::RECORD_FILE_LIMIT;
@@ -55,7 +55,7 @@ fn tally_answer<'a, R: Threads + Wait + Sync, G: Gate>(
 {
     let (counts, finished) = pooled.tally(rt, alloc, q, threads, gate)?;
     match print_counts(alloc, &counts) {
-        Ok(text) => Ok(Ending::answered_by_pool(Text::Whole(text), finished)),
+        Ok(text) => Ok(Ending::answered_by_pool(Output::Whole(text), finished)),
         // It is refused for want of memory alone.
         Err(_) => Err(AllocError),
     }

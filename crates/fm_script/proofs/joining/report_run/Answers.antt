@@ -1,5 +1,4 @@
-use Rattle.std.proofs.Common.{◌≡◌, ◌++◌, List, length, ap, ◌∙◌}
-use Rattle.std.specs.List.{flat_map}
+use Rattle.std.proofs.Common.{List, length, ap, ◌∙◌}
 use Rattle.std.specs.Borrow.{Bor}
 use Rattle.std.proofs.lemmas.List.{length-map}
 use Rattle.std.proofs.lemmas.Result.{IfOk-weaker}
@@ -7,47 +6,33 @@ use Rattle.fm_script_text.specs.declared.line.Line.{Line}
 use Rattle.fm_script_lines.specs.declared.bound.Bound.{Bound}
 use Rattle.fm_script_lines.specs.declared.reply.Reply.{Reply}
 use Rattle.fm_script_lines.specs.Ordering.{lines_at}
-use Rattle.fm_script.specs.declared.player.Player.{Player}
-use Rattle.fm_script.proofs.Ended.{all_opened, all_replies, arenas_lent, replies_many, run_told}
+use Rattle.fm_script.proofs.Ended.{all_opened, arenas_lent, replies_many, replies_put, run_told}
 use Rattle.fm_script.proofs.joining.report_run.Goals as goal
 
 pub report_lines-requires : goal.report_lines-requires
 report_lines-requires c =
     let order = lines_at c.args.order.now in
-    let main = c.args.main in
-    let h = c.requires in
-    let lasts = c.as_slice-2.ensures.value in
     let players = c.args.players.now in
-    let parts : c.as_slice-3.result.now ≡ all_replies c.args.script.now order c.args.names.now c.args.caller players main c.args.finished h =
-    c.as_slice-3.ensures.value
-    ∙ (c.in_ok-replies.ensures
-    ∙ ap (λ (rs : List Reply). main.firsts.items ++ (flat_map (λ (p : Player). p.replies.items) players ++ rs)) lasts) in
-    ap (λ (rs : List Reply). length rs) parts
-    ∙ (replies_many c.args.script.now order c.args.names.now c.args.caller players main c.args.finished h
+    ap (λ (rs : List Reply). length rs) (replies_put c.args.script.now order c.args.names.now c.args.caller players c.args.main c.args.finished c.requires
+    c.as_slice-3.ensures.value c.in_ok-replies.ensures c.as_slice-2.ensures.value)
+    ∙ (replies_many c.args.script.now order c.args.names.now c.args.caller players c.args.main c.args.finished c.requires
     ∙ length-map c.args.order.now (λ (l : Bor Line). l.now))
 
 pub of-requires : goal.of-requires
 of-requires c =
-    let main = c.args.main in
-    let arenas : c.as_slice-4.result.now ≡ arenas_lent main.lent.items =
-    c.as_slice-4.ensures.value ∙ (c.in_ok-opened.ensures ∙ ap (λ (ls : List Bound). arenas_lent ls) c.as_slice.ensures.value) in
-    all_opened c.args.script.now (lines_at c.args.order.now) c.args.names.now c.args.caller c.args.players.now main c.args.finished c.requires
-    c.as_slice-4.result.now arenas
+    all_opened c.args.script.now (lines_at c.args.order.now) c.args.names.now c.args.caller c.args.players.now c.args.main c.args.finished c.requires
+    c.as_slice-4.result.now
+    (c.as_slice-4.ensures.value ∙ (c.in_ok-opened.ensures ∙ ap (λ (ls : List Bound). arenas_lent ls) c.as_slice.ensures.value))
 
 pub returns-clause-report : goal.returns-clause-report
 returns-clause-report c =
     let order = lines_at c.args.order.now in
-    let main = c.args.main in
-    let h = c.requires in
-    let lasts = c.as_slice-2.ensures.value in
     let players = c.args.players.now in
-    let parts : c.as_slice-3.result.now ≡ all_replies c.args.script.now order c.args.names.now c.args.caller players main c.args.finished h =
-    c.as_slice-3.ensures.value
-    ∙ (c.in_ok-replies.ensures
-    ∙ ap (λ (rs : List Reply). main.firsts.items ++ (flat_map (λ (p : Player). p.replies.items) players ++ rs)) lasts) in
-    let arenas : c.as_slice-4.result.now ≡ arenas_lent main.lent.items =
-    c.as_slice-4.ensures.value ∙ (c.in_ok-opened.ensures ∙ ap (λ (ls : List Bound). arenas_lent ls) c.as_slice.ensures.value) in
     IfOk-weaker c.of.result _ _
-    (λ r is. run_told c.args.script.now order c.args.names.now c.args.caller players main c.args.finished h c.as_slice-4.result.now
-    c.in_ok-callers.callers.items c.as_slice-3.result.now c.in_ok-lines.lines.items r arenas c.in_ok-callers.ensures parts
+    (λ r is. run_told c.args.script.now order c.args.names.now c.args.caller players c.args.main c.args.finished c.requires c.as_slice-4.result.now
+    c.in_ok-callers.callers.items c.as_slice-3.result.now c.in_ok-lines.lines.items r
+    (c.as_slice-4.ensures.value ∙ (c.in_ok-opened.ensures ∙ ap (λ (ls : List Bound). arenas_lent ls) c.as_slice.ensures.value))
+    c.in_ok-callers.ensures
+    (replies_put c.args.script.now order c.args.names.now c.args.caller players c.args.main c.args.finished c.requires
+    c.as_slice-3.ensures.value c.in_ok-replies.ensures c.as_slice-2.ensures.value)
     c.in_ok-lines.ensures.lines is) c.of.ensures.report

@@ -1,11 +1,8 @@
-use Rattle.std.proofs.Common.{◌∙◌, ◌++◌, All, List, length, ap, sym, subst, arith}
-use Rattle.fm_script_lines.specs.declared.standing.Standing.{Standing}
-use Rattle.fm_script_lines.specs.Standings.{IsBacked}
+use Rattle.std.proofs.Common.{◌∙◌, List, length, ap, sym, subst, arith}
 use Rattle.fm_script.specs.declared.player.Player.{Player}
-use Rattle.fm_script.specs.Players.{playing}
-use Rattle.fm_script.specs.Runs.{Worked, names_lent}
-use Rattle.fm_script.proofs.Passing.{on_ok}
-use Rattle.fm_script.proofs.Staging.{all_after, all_failed, can_first, can_last, can_work, over_room}
+use Rattle.fm_script.specs.Mains.{TakesOver}
+use Rattle.fm_script.specs.Runs.{names_lent}
+use Rattle.fm_script.proofs.Staging.{all_after, all_failed, can_first, can_last, can_work, over_room, worked_over}
 use Rattle.fm_script.proofs.over.run_all.Goals as goal
 
 pub play_main-pass-requires : goal.play_main-pass-requires
@@ -37,52 +34,34 @@ returns-then-is_err-2 g c =
 pub take_over_all-requires : goal.take_over_all-requires
 take_over_all-requires g c =
     let e = c.play_main-pass.ensures in
-    let q = c.play_main-pass.result.0 in
-    let r = c.work_players-worked.new.pass in
-    let tasks : List Player = c.args.players.now.items in
-    let players : List Player = c.work_players-worked.new.players.items in
-    let w = subst (λ (ss : List Standing). Worked (playing c.args.names.now c.args.lines.now ss) q r tasks players) c.standings.ensures
-    (on_ok c.work_players-worked.result (sym c.is_err-2.ensures.value ∙ c.if-is_err-2.false) c.work_players-worked.ensures.worked) in
-    let room = over_room _ _ _ _ _ _ _ c.requires.can q c.play_main-pass.new.table c.play_main-pass.new.replies c.play_main-pass.result.1 e.after
-    (sym c.is_err.ensures.value ∙ c.if-is_err.false) e.sound r players w c.work_players-worked.ensures.backs in
+    let w = worked_over _ _ _ _ _ _ c.standings.ensures c.work_players-worked.result (sym c.is_err-2.ensures.value ∙ c.if-is_err-2.false)
+    c.work_players-worked.ensures.worked in
+    let room = over_room _ _ _ _ _ _ _ c.requires.can c.play_main-pass.result.0 c.play_main-pass.new.table c.play_main-pass.new.replies
+    c.play_main-pass.result.1 e.after (sym c.is_err.ensures.value ∙ c.if-is_err.false) e.sound c.work_players-worked.new.pass _ w
+    c.work_players-worked.ensures.backs in
     let slice = ap (λ (ps : List Player). length (names_lent ps)) c.as_slice.ensures.value in
-    record { room = omega (arith, room, slice) }
+    omega (arith, room, slice)
 
 pub play_main-requires : goal.play_main-requires
 play_main-requires g c =
     let e = c.play_main-pass.ensures in
-    let q = c.play_main-pass.result.0 in
-    let r = c.work_players-worked.new.pass in
-    let tasks : List Player = c.args.players.now.items in
-    let players : List Player = c.work_players-worked.new.players.items in
-    let w = subst (λ (ss : List Standing). Worked (playing c.args.names.now c.args.lines.now ss) q r tasks players) c.standings.ensures
-    (on_ok c.work_players-worked.result (sym c.is_err-2.ensures.value ∙ c.if-is_err-2.false) c.work_players-worked.ensures.worked) in
-    let t = c.take_over_all.ensures in
-    let own : List Standing = c.play_main-pass.new.table.own.items in
+    let w = worked_over _ _ _ _ _ _ c.standings.ensures c.work_players-worked.result (sym c.is_err-2.ensures.value ∙ c.if-is_err-2.false)
+    c.work_players-worked.ensures.worked in
     record {
       outside = c.work_players-worked.ensures.outside;
-      can = can_last _ _ _ _ _ _ _ c.requires.can q c.play_main-pass.new.table c.play_main-pass.new.replies c.play_main-pass.result.1 e.after
-          (sym c.is_err.ensures.value ∙ c.if-is_err.false) e.sound r players w c.work_players-worked.ensures.backs c.take_over_all.new.table t.keeps
-          (t.own ∙ ap (λ (ps : List Player). own ++ names_lent ps) c.as_slice.ensures.value)
-          (λ v holds handles b known. t.backs v holds handles b
-          (subst (λ (ps : List Player). All (IsBacked v) (names_lent ps)) (sym c.as_slice.ensures.value) known))
+      can = can_last _ _ _ _ _ _ _ c.requires.can c.play_main-pass.result.0 c.play_main-pass.new.table c.play_main-pass.new.replies
+          c.play_main-pass.result.1 e.after (sym c.is_err.ensures.value ∙ c.if-is_err.false) e.sound c.work_players-worked.new.pass _ w
+          c.work_players-worked.ensures.backs c.take_over_all.new.table
+          (subst (λ (ps : List Player). TakesOver c.play_main-pass.new.table c.take_over_all.new.table ps) c.as_slice.ensures.value c.take_over_all.ensures)
           c.work_players-worked.ensures.outside;
     }
 
 pub returns : goal.returns
 returns g c =
     let e = c.play_main-pass.ensures in
-    let q = c.play_main-pass.result.0 in
-    let r = c.work_players-worked.new.pass in
-    let tasks : List Player = c.args.players.now.items in
-    let players : List Player = c.work_players-worked.new.players.items in
-    let w = subst (λ (ss : List Standing). Worked (playing c.args.names.now c.args.lines.now ss) q r tasks players) c.standings.ensures
-    (on_ok c.work_players-worked.result (sym c.is_err-2.ensures.value ∙ c.if-is_err-2.false) c.work_players-worked.ensures.worked) in
-    let t = c.take_over_all.ensures in
-    let own : List Standing = c.play_main-pass.new.table.own.items in
-    all_after _ _ _ _ _ _ _ c.requires.can q c.play_main-pass.new.table c.play_main-pass.new.replies c.play_main-pass.result.1 e.after
-    (sym c.is_err.ensures.value ∙ c.if-is_err.false) e.sound r players w c.work_players-worked.ensures.backs c.take_over_all.new.table t.keeps
-    (t.own ∙ ap (λ (ps : List Player). own ++ names_lent ps) c.as_slice.ensures.value)
-    (λ v holds handles b known. t.backs v holds handles b
-    (subst (λ (ps : List Player). All (IsBacked v) (names_lent ps)) (sym c.as_slice.ensures.value) known))
+    let w = worked_over _ _ _ _ _ _ c.standings.ensures c.work_players-worked.result (sym c.is_err-2.ensures.value ∙ c.if-is_err-2.false)
+    c.work_players-worked.ensures.worked in
+    all_after _ _ _ _ _ _ _ c.requires.can c.play_main-pass.result.0 c.play_main-pass.new.table c.play_main-pass.new.replies c.play_main-pass.result.1 e.after
+    (sym c.is_err.ensures.value ∙ c.if-is_err.false) e.sound c.work_players-worked.new.pass _ w c.work_players-worked.ensures.backs c.take_over_all.new.table
+    (subst (λ (ps : List Player). TakesOver c.play_main-pass.new.table c.take_over_all.new.table ps) c.as_slice.ensures.value c.take_over_all.ensures)
     c.play_main.result.0 c.play_main.new.table c.play_main.new.replies c.play_main.result.1 c.play_main.ensures.after c.play_main.ensures.outside

@@ -2,7 +2,6 @@ use Rattle.std.specs.Prelude.{OnOk, Vec, vec_capacity}
 use Rattle.std.specs.declared.alloc.Global.{Global}
 use Rattle.std.proofs.Common.{◌≡◌, ◌∙◌, ℕ, List, [], Result, ap, arith, subst, sym}
 use Rattle.fm_rule_facts.specs.Views.{View}
-use Rattle.fm_rule.specs.Passes.{IsOf}
 use Rattle.fm_script_lines.specs.declared.bound.Bound.{Bound}
 use Rattle.fm_script_lines.specs.declared.standing.Standing.{Standing}
 use Rattle.fm_script_lines.specs.Learnt.{CanSettle, IsFresh}
@@ -10,7 +9,7 @@ use Rattle.fm_script_lines.specs.Tokens.{IsReady}
 use Rattle.fm_script.specs.declared.player.Player.{Player}
 use Rattle.fm_script.specs.Mains.{HasRoom}
 use Rattle.fm_script.specs.Runs.{AllRan}
-use Rattle.fm_script.proofs.Outside.{still_of}
+use Rattle.fm_script.proofs.Outside.{shares_still}
 use Rattle.fm_script.proofs.Passing.{all_spent, ran_settled, ready_backs}
 use Rattle.fm_script.proofs.over.run_over.Goals as goal
 
@@ -61,17 +60,11 @@ returns-in-Ok-ran-clause-ran g c =
     }
 
 pub returns-in-Ok-ran-clause-outside : goal.returns-in-Ok-ran-clause-outside
-returns-in-Ok-ran-clause-outside g c = record {
-  outside = c.into_pass-pass.ensures.outside c.args.pool.now
-      (still_of c.args.pool.now c.new-memory.result c.settle.new.m c.settle.ensures.went.went
-      (subst (λ (p : View). IsOf c.args.pool.now p) (sym c.new-memory.ensures) c.run_all-pass.ensures.outside.outside.of));
-  no_page = c.into_pass-pass.ensures.no_page;
-}
+returns-in-Ok-ran-clause-outside g c =
+    shares_still c.args.pool.now c.run_all-pass.result.0 c.new-memory.result c.settle.new.m c.into_pass-pass.result c.new-memory.ensures
+    c.settle.ensures.went.went c.into_pass-pass.ensures c.run_all-pass.ensures.outside.outside.of
 
 pub returns-in-Err-ran-clause-outside : goal.returns-in-Err-ran-clause-outside
-returns-in-Err-ran-clause-outside g c = record {
-  outside = c.into_pass-pass.ensures.outside c.args.pool.now
-      (still_of c.args.pool.now c.new-memory.result c.settle.new.m c.settle.ensures.went.went
-      (subst (λ (p : View). IsOf c.args.pool.now p) (sym c.new-memory.ensures) c.run_all-pass.ensures.outside.outside.of));
-  no_page = c.into_pass-pass.ensures.no_page;
-}
+returns-in-Err-ran-clause-outside g c =
+    shares_still c.args.pool.now c.run_all-pass.result.0 c.new-memory.result c.settle.new.m c.into_pass-pass.result c.new-memory.ensures
+    c.settle.ensures.went.went c.into_pass-pass.ensures c.run_all-pass.ensures.outside.outside.of

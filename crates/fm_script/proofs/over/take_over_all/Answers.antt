@@ -6,6 +6,7 @@ use Rattle.fm_script_lines.specs.Standings.{IsBacked, standing_as}
 use Rattle.fm_script_lines.specs.Tokens.{Backs}
 use Rattle.fm_script_lines.proofs.Returning.{keeps_then}
 use Rattle.fm_script.specs.declared.player.Player.{Player}
+use Rattle.fm_script.specs.Mains.{TakesOver}
 use Rattle.fm_script.specs.Runs.{names_lent}
 use Rattle.fm_script.proofs.Arranged.{all_of_both, lent_room, lent_taken}
 use Rattle.fm_script.proofs.over.take_over_all.Goals as goal
@@ -22,7 +23,7 @@ take_over-requires c =
           let long = ap (λ (xs : List Standing). length xs) i.own in
           let parts = length-append c.args.table.now.own.items (names_lent (take k ps)) in
           let same = ap (λ (xs : List Bound). length xs) c.as_slice.ensures.value in
-          let room = c.requires.room in
+          let room = c.requires in
           let cap = i.keeps.room in
           omega (arith, here, long, parts, same, room, cap);
     }
@@ -53,8 +54,7 @@ loop-player-preserved c =
           (subst (λ (xs : List Standing). All (IsBacked v) xs) (sym taken) parts.1));
     }
 
-pub returns-clause-backs : goal.returns-clause-backs
-returns-clause-backs c p holds handles b known =
-    c.loop-player.invariant.backs p holds handles b
-    (subst (λ (xs : List Player). All (IsBacked p) (names_lent xs))
-    (sym (take_all c.loop-player.player-index c.args.players.now c.loop-player-test.false)) known)
+pub returns : goal.returns
+returns c =
+    subst (λ (ps : List Player). TakesOver c.args.table.now c.loop-player.table ps)
+    (take_all c.loop-player.player-index c.args.players.now c.loop-player-test.false) c.loop-player.invariant

@@ -1,5 +1,5 @@
 use Rattle.std.proofs.Common.{refl, ap}
-use Rattle.fm_script_lines.specs.declared.outcome.Outcome.{Outcome}
+use Rattle.fm_script_lines.specs.declared.outcome.LineOutcome.{LineOutcome}
 use Rattle.fm_script_lines.specs.declared.reply.Reply.TheVariants.{Fine}
 use Rattle.fm_script_lines.proofs.Handled.{line_started, line_not_started}
 use Rattle.fm_script_lines.proofs.Opening.{told_fine, told_refused}
@@ -16,4 +16,4 @@ returns-in-Ok-clause-slots g c = told_fine c.in-Ok.handle Fine refl c.in-Ok.ensu
 
 pub returns-in-Err-clause-slots : goal.returns-in-Err-clause-slots
 returns-in-Err-clause-slots g c =
-    told_refused c.in-Err.refusal c.plain.result.reply (ap (λ (o : Outcome). o.reply) c.plain.ensures) c.in-Err.ensures.no_slot c.in-Err.ensures.exact
+    told_refused c.in-Err.refusal c.plain.result.reply (ap (λ (o : LineOutcome). o.reply) c.plain.ensures) c.in-Err.ensures.no_slot c.in-Err.ensures.exact

@@ -1,5 +1,5 @@
 use Rattle.std.proofs.Common.{refl, ap}
-use Rattle.fm_script_lines.specs.declared.outcome.Outcome.{Outcome}
+use Rattle.fm_script_lines.specs.declared.outcome.LineOutcome.{LineOutcome}
 use Rattle.fm_script_lines.specs.declared.reply.Reply.TheVariants.{Fine}
 use Rattle.fm_script_lines.proofs.Handled.{line_opened, line_not_opened}
 use Rattle.fm_script_lines.proofs.Opening.{told_fine, told_by_hand}
@@ -16,5 +16,5 @@ returns-in-Ok-clause-slots g c = told_fine c.in-Ok.arena Fine refl c.in-Ok.ensur
 
 pub returns-in-Err-clause-slots : goal.returns-in-Err-clause-slots
 returns-in-Err-clause-slots g c =
-    told_by_hand c.args.kind c.in-Err.refusal c.plain.result.reply (ap (λ (o : Outcome). o.reply) c.plain.ensures) c.in-Err.ensures.opens
+    told_by_hand c.args.kind c.in-Err.refusal c.plain.result.reply (ap (λ (o : LineOutcome). o.reply) c.plain.ensures) c.in-Err.ensures.opens
     c.in-Err.ensures.exact

@@ -1,5 +1,5 @@
 use Rattle.std.proofs.Common.{ap, Ok, Err, refl, ◌∙◌, sym}
-use Rattle.fm_script_lines.specs.declared.outcome.Outcome.{Outcome}
+use Rattle.fm_script_lines.specs.declared.outcome.LineOutcome.{LineOutcome}
 use Rattle.fm_script_lines.specs.Calls.{Allocates}
 use Rattle.fm_script_lines.proofs.Allocating.{pages_told, pages_untold}
 use Rattle.fm_script_lines.proofs.Lines.{line_none}
@@ -20,4 +20,4 @@ returns-in-Ok-clause-pages g c =
 pub returns-in-Err-clause-pages : goal.returns-in-Err-clause-pages
 returns-in-Err-clause-pages g c =
     pages_told _ c.in-Some.arena c.args.size c.args.align (Err c.in-Err.refusal) c.plain-in-Err.result.reply (sym c.arena.ensures ∙ c.in-Some.is)
-    (ap (λ (o : Outcome). o.reply) c.plain-in-Err.ensures) c.in-Err.ensures.exact
+    (ap (λ (o : LineOutcome). o.reply) c.plain-in-Err.ensures) c.in-Err.ensures.exact

@@ -1,12 +1,9 @@
-use Rattle.std.proofs.Common.{refl, sym}
-use Rattle.std.proofs.lemmas.Option.{MatchOption-at_none}
-use Rattle.fm_script_lines.specs.Numbers.{number_at}
-use Rattle.fm_script_lines.specs.Standings.{handle_in}
-use Rattle.fm_script_lines.proofs.Naming.{not-own, lent-handle_in}
+use Rattle.std.proofs.Common.{◌∙◌, ap, sym}
+use Rattle.std.specs.Option.{option_map}
+use Rattle.fm_script_lines.proofs.Taking.{no_handle}
 use Rattle.fm_script_lines.proofs.table.Table.handle.Goals as goal
 
-pub returns-in_default : goal.returns-in_default
-returns-in_default c =
-    let t = c.args.self.now in
-    sym (not-own handle_in lent-handle_in refl t.base.now t.start t.own.items (number_at t.names.now c.args.name.now)
-    (MatchOption-at_none _ _ c.in_default.is c.own_place.ensures))
+pub returns-in_err-at : goal.returns-in_err-at
+returns-in_err-at c =
+    ap (option_map (λ h. h.now)) c.from_residual.ensures
+    ∙ sym (no_handle c.args.self.now c.args.name.now c.own_place.result c.own_place.ensures c.in_err-at.was)

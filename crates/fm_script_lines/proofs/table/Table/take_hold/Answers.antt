@@ -1,14 +1,8 @@
-use Rattle.std.proofs.Common.{refl}
-use Rattle.std.proofs.lemmas.Option.{MatchOption-at_none}
-use Rattle.fm_script_lines.specs.Numbers.{number_at}
-use Rattle.fm_script_lines.specs.Standings.{hold_in}
-use Rattle.fm_script_lines.proofs.Naming.{not-own, lent-hold_in}
+use Rattle.fm_script_lines.specs.Standings.{hold_in, unheld}
+use Rattle.fm_script_lines.proofs.Taking.{no_hold, none_taken}
 use Rattle.fm_script_lines.proofs.table.Table.take_hold.Goals as goal
 
-pub returns-in_default-clause-took : goal.returns-in_default-clause-took
-returns-in_default-clause-took c =
-    let t = c.args.self.now in (
-      not-own hold_in lent-hold_in refl t.base.now t.start t.own.items (number_at t.names.now c.args.name.now)
-          (MatchOption-at_none _ _ c.in_default.is c.own_place.ensures),
-      refl,
-    )
+pub returns-in_err-at-clause-took : goal.returns-in_err-at-clause-took
+returns-in_err-at-clause-took c =
+    none_taken unheld hold_in c.args.self.now c.args.name.now c.from_residual.result
+    (no_hold c.args.self.now c.args.name.now c.own_place.result c.own_place.ensures c.in_err-at.was) c.from_residual.ensures

@@ -1,7 +1,7 @@
 use Rattle.std.proofs.Common.{ℕ, List, ◌∷◌, [], subst}
 use Rattle.fm_io.proofs.Sent.{prefix-after}
 use Rattle.fm_io.specs.Sink.{Appends}
-use Rattle.fm_top.proofs.outcome.text.write_line.Goals as goal
+use Rattle.fm_top.proofs.outcome.output.write_line.Goals as goal
 
 pub returns-clause-prefix : goal.returns-clause-prefix
 returns-clause-prefix g c =

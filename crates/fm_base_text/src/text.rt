@@ -3,7 +3,7 @@ ghost use Rattle.std.specs.String.{string_bytes};
 
 use std::marker::Model;
 
-/// A text of a query's part, seen as its bytes.
+/// A text, seen as its bytes.
 #[derive(Debug, Drop)]
 pub struct Text {
     text: String,

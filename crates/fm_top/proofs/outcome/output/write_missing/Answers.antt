@@ -1,7 +1,7 @@
 use Rattle.std.proofs.Common.{codes}
 use Rattle.fm_io.proofs.Sent.{prefix-after, prefix-more}
 use Rattle.fm_top.specs.Outcome.{line}
-use Rattle.fm_top.proofs.outcome.text.write_missing.Goals as goal
+use Rattle.fm_top.proofs.outcome.output.write_missing.Goals as goal
 
 pub returns-in_err-write_text-clause-prefix : goal.returns-in_err-write_text-clause-prefix
 returns-in_err-write_text-clause-prefix g c =

@@ -1,6 +1,6 @@
 use Rattle.fm_io.proofs.Sent.{prefix-after}
 use Rattle.fm_top.specs.Ending.{answered_text}
-use Rattle.fm_top.proofs.outcome.text.Text.write.Goals as goal
+use Rattle.fm_top.proofs.outcome.output.Output.write.Goals as goal
 
 pub returns-in_ok-write-in-Both-clause-prefix : goal.returns-in_ok-write-in-Both-clause-prefix
 returns-in_ok-write-in-Both-clause-prefix g c =

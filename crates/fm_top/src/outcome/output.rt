@@ -10,7 +10,7 @@ use std::alloc::Global;
 
 /// What a run prints.
 #[derive(Drop)]
-pub enum Text<'a> {
+pub enum Output<'a> {
     /// This text.
     Whole(String),
     /// The text of these bytes.
@@ -23,7 +23,7 @@ pub enum Text<'a> {
     Both(Answered, Answered),
 }
 
-impl Text<'_> {
+impl Output<'_> {
     /// Writes all of it. After an error a prefix of it was written.
     pub fn write<O: Sink>(&self, alloc: Global, out: &mut O) -> Result<(), Fault>
         ensures whole { OnOk result
@@ -34,11 +34,11 @@ impl Text<'_> {
             (O.view out.old).faults (O.view out.new).faults }
     {
         match self {
-            Text::Whole(text) => write_text(out, text.as_str().as_bytes()),
-            Text::Bytes(bytes) => write_text(out, bytes),
-            Text::NoFile(file) => write_missing(out, file),
-            Text::Answer(answered) => answered.write(alloc, out),
-            Text::Both(first, second) => {
+            Output::Whole(text) => write_text(out, text.as_str().as_bytes()),
+            Output::Bytes(bytes) => write_text(out, bytes),
+            Output::NoFile(file) => write_missing(out, file),
+            Output::Answer(answered) => answered.write(alloc, out),
+            Output::Both(first, second) => {
                 first.write(alloc, out)?;
                 second.write(alloc, out)
             }
