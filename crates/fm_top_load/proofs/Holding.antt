@@ -239,7 +239,7 @@ put_still v w own a place bytes h makes out ch last =
 -- ---- what stays elsewhere
 
 -- a change of one arena leaves their names
-changed_names : (f : Arena → Arena) → KeepsName f → (s : State) (a : ArenaId) → names_in (changed s a f) ≡ names_in s
+pub changed_names : (f : Arena → Arena) → KeepsName f → (s : State) (a : ArenaId) → names_in (changed s a f) ≡ names_in s
 changed_names f named [] a = refl
 changed_names f named (x ∷ s) a =
     let P : Bool → Type 0 = λ b. names_in (if b then f x ∷ s else x ∷ changed s a f) ≡ names_in (x ∷ s) in

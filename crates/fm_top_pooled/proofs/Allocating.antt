@@ -22,7 +22,8 @@ use Rattle.fm_rule_facts.specs.Views.{View, given_of, limit_of, state_in, unlent
 use Rattle.fm_rule_facts.proofs.Scarcity.{lacking_most}
 use Rattle.fm_rule.specs.declared.pool.Pool.{Pool}
 use Rattle.fm_top_pooled.specs.Stocked.{HasPagesFor, IsAlone}
-use Rattle.fm_top_pooled.proofs.Tidying.{AllChangeNone, loans_too, tidy_none, tidy_on}
+use Rattle.fm_top_pooled.proofs.Opening.{kept_alone}
+use Rattle.fm_top_pooled.proofs.Tidying.{AllChangeNone}
 
 -- ---- nothing is wanting
 
@@ -82,21 +83,7 @@ module _ {gs : List Gathered} {pool : Pool} {p q : View} (a : ArenaId) (size : �
 
     -- The pass is by itself still.
     pub allocated_lone : IsAlone gs pool q
-    allocated_lone =
-        let goes = after.did.goes in
-        let own : List Entry = after.did.own in
-        let none : AllChangeNone own = loans_too own (subst AllChangeNone (sym after.did.does.2) (tt, (tt, (tt, tt)))) in
-        record {
-          outside = after.outside;
-          sound = goes.sound;
-          whole = goes.same_whole ∙ lone.whole;
-          tidy = tidy_on p q own lone.tidy goes.same_shape (goes.seen ∙ ap (λ (es : List Entry). p.seen ++ es) (goes.alone lone.whole))
-              (tidy_none (limit_of p.shape) (state_in p) own none);
-          gathered = goes.same_gathered ∙ lone.gathered;
-          none_to_end = ap (λ (x : Rest). x.closes) after.did.rest ∙ lone.none_to_end;
-          none_to_sweep = no_sweeps p q after.did.rest lone.none_to_sweep;
-          no_page = ap (λ (x : Rest). x.pages) after.did.rest ∙ lone.no_page;
-        }
+    allocated_lone = kept_alone lone after.did after.outside (subst AllChangeNone (sym after.did.does.2) (tt, (tt, (tt, tt))))
 
     -- The bytes are the arena's first ones.
     pub first_held : HoldsThen (view_of_pass q) a size (words_at (view_of_pass p) a)

@@ -115,7 +115,7 @@ never_wanting threads h passes (inr most) = let all = h.passes in omega (arith, 
 -- ---- a query
 
 -- a query adds to no word
-abbrev NoneMayAdd : ArenaId → ℕ → Type 0
+abbrev pub NoneMayAdd : ArenaId → ℕ → Type 0
 NoneMayAdd a word = ⊥
 
 module _ {n : ℕ} {pool : Pool} {p q : View} {s : Region} {plan : Plan} {threads : ℕ} (h : IsStockedOf n pool p s) (sound : IsSound q) where
@@ -166,8 +166,8 @@ module _ {n : ℕ} {pool : Pool} {p q : View} {s : Region} {plan : Plan} {thread
 pub only_wants : {pool : Pool} {p q : View} {s : Region} {plan : Plan} {threads : ℕ} (h : IsStocked pool p s) → IsSound q
     → (r : Result (List Found) Refusal) → QueriedWith threads p q plan s r → s.size % plan.size ≡ 0 → HasPasses p threads → IfErr r (λ e. e ≡ Memory)
 only_wants h sound (Ok a) w even passes = tt
-only_wants {threads = threads} h sound (Err r) w even passes =
-    ⊎_elim (λ (m : r ≡ Memory). m) (λ (t : (r ≡ NoPass) × AreTooMany _ threads). absurd (never_wanting threads h passes t.1)) (wants h sound (Err r) w even)
+only_wants {p = p} {threads = threads} h sound (Err r) w even passes =
+    ⊎_elim (λ (m : r ≡ Memory). m) (λ (t : (r ≡ NoPass) × AreTooMany p threads). absurd (never_wanting threads h passes t.1)) (wants h sound (Err r) w even)
 
 -- ---- the finished pool
 
@@ -216,7 +216,7 @@ shows {p = p} {q = q} {s = s} {f = f} bytes Asks more h k kept seen were are spa
 
 -- ---- two queries
 
-read_in : (es fs : List Entry) (id : ArenaId) (word : ℕ) → ((e : Entry) → IsAmong e es → IsAmong e fs) → IsReadByOther es id word
+pub read_in : (es fs : List Entry) (id : ArenaId) (word : ℕ) → ((e : Entry) → IsAmong e es → IsAmong e fs) → IsReadByOther es id word
     → IsReadByOther fs id word
 read_in es fs id word into r = record {
   caller = r.caller;

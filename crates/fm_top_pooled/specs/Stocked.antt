@@ -1,5 +1,5 @@
 -- Where the first pass of a pool stands, before bytes are put into an arena of it, and then.
-use Rattle.std.specs.Prelude.{◌≡◌, ◌⊎◌, ℕ, ◌+◌, ◌<◌, ◌≤◌, true, List, [], Option, length}
+use Rattle.std.specs.Prelude.{◌≡◌, ◌⊎◌, ℕ, ◌+◌, ◌<◌, ◌≤◌, true, List, [], ◌∷◌, ◌++◌, Option, length}
 use Rattle.fm_base.specs.declared.arena_id.ArenaId.{ArenaId}
 use Rattle.fm_base.specs.declared.kind.Kind.TheVariants.{Shared}
 use Rattle.fm_base.specs.Arenas.{Alive, arena_of}
@@ -12,7 +12,7 @@ use Rattle.fm_base.specs.View.{given_in}
 use Rattle.fm_io.specs.Files.{Contents}
 use Rattle.fm_segment_access.specs.Alone.{bytes_of_arena}
 use Rattle.fm_top_load.specs.declared.reaching.Reached.{Reached}
-use Rattle.fm_top_load.specs.Held.{HoldsThen, IsEmpty, IsHeld, OnlyIn, words_at}
+use Rattle.fm_top_load.specs.Held.{HoldsThen, IsEmpty, IsHeld, OnlyIn, names_in, words_at}
 use Rattle.fm_top_load.specs.Limits.{record_file_limit}
 use Rattle.fm_top_load.specs.Reached.{Reaches}
 use Rattle.fm_top_load.specs.Whole.{IsWhole}
@@ -73,6 +73,7 @@ pub record HasOpened (gs : List Gathered) (pool : Pool) (p q : View) (a : ArenaI
   pub unknown : ¬ (IsKnown p a)
   pub only : (b : ArenaId) → IsKnown q b → (b ≡ a) ⊎ IsKnown p b
   pub keeps : KeepsArenas p q
+  pub names : names_in (state_in q) ≡ names_in (state_in p) ++ a ∷ []
   pub loans : loans_of q.seen ≡ loans_of p.seen
 
 abbrev pub IsOpened : Pool → View → View → ArenaId → Type 0
@@ -90,7 +91,7 @@ bytes_in_pool p s = bytes_at_places (state_in p) s
 
 -- A pass that is known to be whole, of a pool of so many, and a segment that is the start of a shared arena, which is alive; all entries
 -- are tidy
-pub record IsStockedOf (passes : ℕ) (pool : Pool) (p : View) (s : Region) : Type 0 where
+pub record IsStockedOf (many : ℕ) (pool : Pool) (p : View) (s : Region) : Type 0 where
   pub outside : IsOutside pool p
   pub sound : IsSound p
   pub whole : p.whole ≡ true
@@ -99,7 +100,7 @@ pub record IsStockedOf (passes : ℕ) (pool : Pool) (p : View) (s : Region) : Ty
   pub known : IsKnownTo (view_of_pass p) s
   pub alive : (arena_of (state_in p) s.arena).life ≡ Alive
   pub shared : s.arena.kind ≡ Shared
-  pub passes : p.shape.passes ≡ passes
+  pub passes : p.shape.passes ≡ many
 
 abbrev pub IsStocked : Pool → View → Region → Type 0
 IsStocked pool p s = IsStockedOf pool_passes pool p s
