@@ -1,8 +1,8 @@
 pub mod Going
 pub mod Waiting
-pub mod Filling
+pub mod Fills
 pub mod Reading
-pub mod Closing
+pub mod Closes
 pub mod Cutting
 pub mod Standing
-pub mod Streaming
+pub mod GoesOn

@@ -1,6 +1,6 @@
 -- A pass that waits for a slot or a page, which changes no arena.
-use Rattle.std.proofs.Common.{◌≡◌, ℕ, ◌+◌, ◌≤◌, true, List, [], ◌∷◌, ◌++◌, Ok, Err, refl, ap, sym, ◌∙◌, subst, inl, inr, arith}
-use Rattle.std.specs.Prelude.{◌⊎◌, ⊎_elim}
+use Rattle.std.proofs.Common.{◌≡◌, ℕ, ◌+◌, ◌≤◌, true, List, [], ◌∷◌, ◌++◌, Ok, Err, refl, ap, sym, ◌∙◌, subst, inl, inr, ⊎_elim, arith}
+use Rattle.std.specs.Prelude.{◌⊎◌}
 use Rattle.fm_base.specs.declared.arena_id.ArenaId.{ArenaId}
 use Rattle.fm_base.specs.declared.kind.Kind.TheVariants.{Shared}
 use Rattle.fm_base.specs.declared.refusal.Refusal.{Refusal}
@@ -48,7 +48,8 @@ module _ {pool : Pool} {p m q : View} (w : Waits pool p m) where
       let did = did_of m q (λ own. DoesOpen m.caller Shared (Err r) (but_loans own)) after.did in
       record {
         goes = goes_then w.goes (kept_goes alone after.did after.outside (subst AllChangeNone (sym none) tt));
-        state = (did_only (view_of_pass m) (view_of_pass q) did.own [] (inr alone.whole) did.makes none).state ∙ w.state;
+        state = (did_only (view_of_pass m) (view_of_pass q) did.own [] (inr alone.whole) did.makes
+            (subst (λ (x : Refusal). DoesOpen m.caller Shared (Err x) (but_loans did.own)) after.no_slot.0 did.does)).state ∙ w.state;
         loans = after.lends alone.whole ∙ w.loans;
       }
 
@@ -92,22 +93,23 @@ pub record WaitsFor (pool : Pool) (p m : View) (a : ArenaId) : Type 0 where
   pub state : state_in m ≡ state_in p
   pub empty : IsEmpty (view_of_pass m) a
 
-module _ {pool : Pool} {p m q : View} (a : ArenaId) (size : ℕ) (w : WaitsFor pool p m a) where
-  -- So many bytes have room.
+-- So many bytes have room.
+module _ {pool : Pool} {p m : View} (a : ArenaId) (size : ℕ) (w : WaitsFor pool p m a) where
   room : size ≤ limit_of pool.shape → rounded_up (given_in (view_of_pass m) a) 8 + size ≤ limit_of m.shape
   room fits =
       let none : rounded_up (given_in (view_of_pass m) a) 8 ≡ 0 = ap (λ n. rounded_up n 8) w.empty.none in
       let limit : limit_of m.shape ≡ limit_of pool.shape = ap limit_of w.goes.alone.outside.of.1 in
       omega (arith, none, limit, fits)
 
+module _ {pool : Pool} {p m q : View} (a : ArenaId) (size : ℕ) (w : WaitsFor pool p m a) where
   pub waits_on : (r : Refusal) → size ≤ limit_of pool.shape → AfterAllocate pool m q a size 8 (Err r) → WaitsFor pool p q a
   waits_on r fits after =
       let did : DidAllocate (view_of_pass m) (view_of_pass q) a size 8 (Err r) =
       did_of m q (λ own. DoesAllocate m.caller a size 8 (Err r) (but_loans own)) after.did in
-      let held = refused_held (view_of_pass m) (view_of_pass q) a size r w.empty.held (room fits) after.outside.outside did in
+      let held = refused_held (view_of_pass m) (view_of_pass q) a size r w.empty.held (room a size w fits) after.outside.outside did in
       record {
         goes = goes_then w.goes (kept_goes w.goes.alone after.did after.outside (refused_none m.caller a size r (but_loans after.did.own) after.did.does));
-        state = refusal_stays (view_of_pass m) (view_of_pass q) a size r w.empty.held (room fits) did ∙ w.state;
+        state = refusal_stays (view_of_pass m) (view_of_pass q) a size r w.empty.held (room a size w fits) did ∙ w.state;
         empty = record { held = held.held; none = held.given_is ∙ w.empty.none };
       }
 

@@ -51,6 +51,7 @@ pub record CanGoThrough (most threads : ℕ) (p : Plan) (pool : Pool) (v : View)
   pub begins : v.seen ≡ []
   pub room : most ≤ limit_of pool.shape
   pub any : 0 < most
+  pub sized : 0 < p.size
   pub even : most % p.size ≡ 0
   pub some : 0 < threads
   pub few : threads ≤ 16

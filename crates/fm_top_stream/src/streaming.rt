@@ -97,8 +97,9 @@ pub(crate) fn go_through<R: Threads + Wait + Sync, F: Files, G: Gate>(
             return Err(LoadFault::Memory);
         };
         closed(rt, pool, &mut pass, arena);
-        if answer.join(found).is_err() {
-            return Err(LoadFault::Memory);
+        match answer.join(found) {
+            Ok(()) => {}
+            Err(_) => return Err(LoadFault::Memory),
         }
         at += size;
         if chunk.ended {

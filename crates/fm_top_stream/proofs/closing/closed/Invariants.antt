@@ -1,4 +1,4 @@
-use Rattle.fm_top_stream.proofs.Closing.{WaitsToClose}
+use Rattle.fm_top_stream.proofs.Closes.{WaitsToClose}
 use Rattle.fm_top_stream.proofs.closing.closed.Given as goal
 
 abbrev pub invariant-loop : goal.invariant-loop

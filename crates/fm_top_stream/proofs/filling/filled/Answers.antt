@@ -3,7 +3,7 @@ use Rattle.fm_rule_calls.specs.Told.{view_of_pass}
 use Rattle.fm_rule_facts.specs.Views.{View, limit_of}
 use Rattle.fm_top_load.specs.Reached.{CanReach}
 use Rattle.fm_words.specs.declared.shape.Shape.{Shape}
-use Rattle.fm_top_stream.proofs.Filling.{fills}
+use Rattle.fm_top_stream.proofs.Fills.{fills}
 use Rattle.fm_top_stream.proofs.filling.filled.Goals as goal
 
 pub load_chunk-requires-clause-can : goal.load_chunk-requires-clause-can

@@ -9,5 +9,5 @@ loop-init g c = record { goes = goes_here c.requires.alone; state = refl; empty 
 pub loop-preserved : goal.loop-preserved
 loop-preserved g c = waits_on c.args.arena c.args.size c.loop.invariant c.in-Err.field-0 c.requires.room c.in-Err.ensures
 
-pub returns : goal.returns
-returns g c = gives_then c.args.arena c.args.size c.loop.invariant c.in-Ok.field-0 c.in-Ok.ensures
+pub returns-in-Ok : goal.returns-in-Ok
+returns-in-Ok g c = gives_then c.args.arena c.args.size c.loop.invariant c.in-Ok.field-0 c.in-Ok.ensures

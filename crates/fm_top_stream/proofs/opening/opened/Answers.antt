@@ -7,5 +7,5 @@ loop-init g c = waits_none c.requires
 pub loop-preserved : goal.loop-preserved
 loop-preserved g c = waits_more c.loop.invariant c.in-Err.field-0 c.in-Err.ensures
 
-pub returns : goal.returns
-returns g c = opened_then c.loop.invariant c.in-Ok.arena c.in-Ok.ensures
+pub returns-in-Ok : goal.returns-in-Ok
+returns-in-Ok g c = opened_then c.loop.invariant c.in-Ok.arena c.in-Ok.ensures

@@ -58,7 +58,7 @@ module _ {pool : Pool} {p m q : View} (a : ArenaId) (w : WaitsToClose pool p m) 
       record {
         goes = goes_then w.goes (kept_goes alone after.did after.outside leaves.none);
         state = (did_only (view_of_pass m) (view_of_pass q) did.own (but_loans did.own) (inr alone.whole) did.makes refl).state
-            ∙ leaves.state (limit_of m.shape) (state_in m) ∙ w.state;
+            ∙ (close_refused m.caller a r (but_loans did.own) did.does).state (limit_of m.shape) (state_in m) ∙ w.state;
       }
 
   pub closes_then : IsKnown p a → AfterClose pool m q a (Ok tt) → Closes pool p q a

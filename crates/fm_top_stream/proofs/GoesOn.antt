@@ -1,14 +1,15 @@
 -- A stream goes on by one chunk, and ends.
-use Rattle.std.proofs.Common.{◌≡◌, ◌≢◌, ℕ, ◌+◌, ◌*◌, ◌/◌, ◌%◌, ◌^◌, ◌<◌, ◌≤◌, true, false, List, [], ◌∷◌, ◌++◌, length, map, take, Option, Some, refl, ap, sym, ◌∙◌, subst, arith, append_assoc, length-append}
+use Rattle.std.proofs.Common.{◌≡◌, ◌≢◌, ℕ, ◌+◌, ◌*◌, ◌/◌, ◌%◌, ◌^◌, ◌<◌, ◌≤◌, Bool, true, false, List, [], ◌∷◌, ◌++◌, length, map, take, Option, Some, refl, ap, sym, ◌∙◌, subst, arith, append_assoc, length-append}
 use Rattle.std.specs.Prelude.{⊤}
 use Rattle.std.specs.List.{AllByRecursion, AllZip, flat_map, range_with_len}
-use Rattle.std.proofs.Math.Nat.{mul-mod_left}
+use Rattle.std.proofs.Math.Nat.{mul-add-mod_self_right, mul-mod_left, zero-mod}
 use Rattle.std.proofs.lemmas.List.{append-nil, length-take-le}
 use Rattle.std.proofs.lemmas.Nat.{div-add-mod'}
 use Rattle.fm_base_bytes.specs.Words.{byte_at}
 use Rattle.fm_base.specs.declared.arena_id.ArenaId.{ArenaId}
 use Rattle.fm_base.specs.Arenas.{State, arena_of}
 use Rattle.fm_base.specs.Calls.{Entry}
+use Rattle.fm_base.specs.Histories.{state_after}
 use Rattle.fm_base.specs.View.{given_in}
 use Rattle.fm_io.specs.Files.{Contents, AreBytesFrom, EndsBefore}
 use Rattle.fm_io.proofs.Filled.{AreBytesFrom-append}
@@ -28,6 +29,7 @@ use Rattle.fm_records.proofs.Few.{few_join}
 use Rattle.fm_records.proofs.Joining.{answer-append}
 use Rattle.fm_top_load.specs.declared.chunk.Chunk.{Chunk}
 use Rattle.fm_top_load.specs.Held.{IsHeld, names_in}
+use Rattle.fm_top_load.specs.Reached.{IsNextPiece}
 use Rattle.fm_top_load.specs.Whole.{IsCut, IsWhole}
 use Rattle.fm_top_load.proofs.Chunks.{first_to_last}
 use Rattle.fm_top_pooled.specs.Shown.{AreRead, AsksWord, IsReadByOther}
@@ -122,7 +124,7 @@ module _ {limit most at : ℕ} {told : Option Contents} {name : List ℕ} {pool 
       let all = fits in
       pooled_is x s ∙ ap (bytes_at_places (state_in x)) is ∙ places_have (state_in x) (region_of a 0 chunk.count) (omega (arith, all))
 
-  module _ {passes : ℕ} {y z : View} {s : Region} {plan : Plan} {found : List Found} (is : s ≡ region_of a 0 chunk.count)
+  module _ {passes : ℕ} {y : View} {s : Region} {plan : Plan} {found : List Found} (is : s ≡ region_of a 0 chunk.count)
       (answers : Answers passes pool x y s plan found) where
     -- Its arena can be closed.
     pub can_close : CanClose pool y a
@@ -135,7 +137,7 @@ module _ {limit most at : ℕ} {told : Option Contents} {name : List ℕ} {pool 
           shared = opens.opened.shared;
         }
 
-    module _ (closes : Closes pool y z a) where
+    module _ {z : View} (closes : Closes pool y z a) where
       goes : GoesOn pool v z
       goes = goes_then opens.goes (goes_then gives.goes (goes_then fills.goes (goes_then answers.goes closes.goes)))
 
@@ -188,3 +190,165 @@ module _ {limit most at : ℕ} {told : Option Contents} {name : List ℕ} {pool 
             few = subst (λ n. AreFew n plan (joined was found)) count joins.few;
             chunks = one_more_shown plan runs bytes adds gone.chunks shown;
           })
+
+-- ---- the file so far
+
+-- A chunk that isn't the last is whole, and one with a rest is the last.
+module _ {limit most at : ℕ} {told : Option Contents} {name : List ℕ} (bytes : List ℕ) {ended : Bool} (cut : IsCut limit most told name at bytes ended) where
+  last_or_whole : ended ≢ true → length bytes ≡ most
+  last_or_whole other = cut.full (is_false ended other)
+    where
+      is_false : (b : Bool) → b ≢ true → b ≡ false
+      is_false true n = absurd (n refl)
+      is_false false n = refl
+
+  module _ (before : List ℕ) (count : length before ≡ at) (first : AreBytesFrom told name 0 before) where
+    -- It comes behind what came before.
+    pub first_more : AreBytesFrom told name 0 (before ++ bytes)
+    first_more =
+        let there : at ≡ 0 + length before = omega (arith, count) in
+        AreBytesFrom-append told name before bytes 0 first (subst (λ n. AreBytesFrom told name n bytes) there cut.bytes_are)
+
+    pub count_more : length (before ++ bytes) ≡ at + length bytes
+    count_more = length-append before bytes ∙ ap (λ n. n + length bytes) count
+
+    -- Where the file ends with it they are the file.
+    pub whole_file : ended ≡ true → IsWhole told name (before ++ bytes)
+    whole_file last = first_to_last told name (before ++ bytes) first_more (subst (EndsBefore told name) (sym count_more) (cut.ends last))
+
+    -- Where it leaves a rest the file does.
+    pub is_ragged : (p : Plan) (rest : ℕ) → length before % p.size ≡ 0 → most % p.size ≡ 0 → rest ≡ length bytes % p.size → 0 < rest
+        → IsRagged told name p rest
+    is_ragged p rest even whole is some = record {
+      bytes = before ++ bytes;
+      is_file = whole_file (is_true ended (λ f. let all = cut.full f in omega (arith, ap (λ n. n % p.size) all, whole, is, some)));
+      is = is ∙ sym (ap (λ n. n % p.size) (length-append before bytes) ∙ rest_of (length before) (length bytes) p.size even);
+      some = some;
+    }
+      where
+        is_true : (b : Bool) → ¬ (b ≡ false) → b ≡ true
+        is_true true n = refl
+        is_true false n = absurd (n refl)
+
+        rest_of : (a b n : ℕ) → a % n ≡ 0 → (a + b) % n ≡ b % n
+        rest_of a b n e =
+            let whole : a ≡ a / n * n = sym (div-add-mod' a n) ∙ omega (arith, e) in
+            ap (λ m. (m + b) % n) whole ∙ mul-add-mod_self_right (a / n) n b
+
+-- Where nothing comes the file has ended.
+pub ends_here : {limit most at : ℕ} {told : Option Contents} {name buffer : List ℕ} {piece : Chunk} → IsNextPiece limit most told name at buffer piece
+    → piece.count ≡ 0 → 0 < most → EndsBefore told name at
+ends_here {most = most} {at = at} {told = told} {name = name} {buffer = buffer} {piece = piece} next none some =
+    let short : length (take piece.count buffer) ≡ 0 = ap (λ n. length (take n buffer)) none ∙ ap length (take_none buffer) in
+    subst (EndsBefore told name) (omega (arith, short)) (next.bytes.ends (is_true piece.ended (λ f. let full = next.bytes.full f in omega (arith, full, short, some))))
+  where
+    take_none : (xs : List ℕ) → take 0 xs ≡ []
+    take_none [] = refl
+    take_none (x ∷ xs) = refl
+
+    is_true : (b : Bool) → ¬ (b ≡ false) → b ≡ true
+    is_true true n = refl
+    is_true false n = absurd (n refl)
+
+-- ---- the stream so far
+
+-- No chunk has gone through.
+pub gone_none : {told : Option Contents} {name : List ℕ} {most : ℕ} {pool : Pool} {v : View} {p : Plan} {a : List Found} → IsAlone v.gathered pool v
+    → v.seen ≡ [] → a ≡ answer p [] → AreFew 0 p a → AreBytesFrom told name 0 [] → GoneSoFar told name most 0 pool v p a
+gone_none {v = v} {p = p} alone none is few first = record {
+  runs = [];
+  gone = record {
+    alone = alone;
+    value = is;
+    few = few;
+    chunks = subst (λ (es : List Entry). AllZip (ShowsChunk (state_in v) v.seen p) (names_in (state_after (limit_of v.shape) [] es)) []) (sym none) tt;
+  };
+  whole = tt;
+  count = refl;
+  first = first;
+}
+
+module _ {told : Option Contents} {name : List ℕ} {most at : ℕ} {pool : Pool} {v : View} {p : Plan} {was : List Found}
+    (so_far : GoneSoFar told name most at pool v p was) where
+  pub even_so_far : 0 < p.size → most % p.size ≡ 0 → length (all_bytes so_far.runs) % p.size ≡ 0
+  even_so_far some even = even_all most p.size so_far.runs even (zero-mod p.size) so_far.whole
+
+  -- The file ended behind whole chunks.
+  pub gone_whole : 0 < p.size → 0 < most → most % p.size ≡ 0 → EndsBefore told name at → GoneThrough told name most pool v p was
+  gone_whole some any even ends = record {
+    runs = so_far.runs;
+    gone = so_far.gone;
+    cut = cut_whole most so_far.runs any so_far.whole;
+    is_file = first_to_last told name (all_bytes so_far.runs) so_far.first (subst (EndsBefore told name) (sym so_far.count) ends);
+    even = even_so_far some even;
+  }
+
+  module _ {z : View} {bytes : List ℕ} {now : List Found} {limit : ℕ} {ended : Bool} (gone : HasGone pool z p (so_far.runs ++ bytes ∷ []) now)
+      (cut : IsCut limit most told name at bytes ended) where
+    -- One chunk more, which isn't the last.
+    pub gone_more : ended ≡ false → GoneSoFar told name most (at + length bytes) pool z p now
+    gone_more goes =
+        let all = all_more so_far.runs bytes in
+        record {
+          runs = so_far.runs ++ bytes ∷ [];
+          gone = gone;
+          whole = whole_more most so_far.runs bytes so_far.whole (cut.full goes);
+          count = ap length all ∙ count_more bytes cut (all_bytes so_far.runs) so_far.count so_far.first;
+          first = subst (AreBytesFrom told name 0) (sym all) (first_more bytes cut (all_bytes so_far.runs) so_far.count so_far.first);
+        }
+
+    -- The last one.
+    pub gone_last : ended ≡ true → 0 < length bytes → 0 < p.size → most % p.size ≡ 0 → length bytes % p.size ≡ 0 → GoneThrough told name most pool z p now
+    gone_last last any some even whole =
+        let all = all_more so_far.runs bytes in
+        record {
+          runs = so_far.runs ++ bytes ∷ [];
+          gone = gone;
+          cut = cut_more most so_far.runs bytes so_far.whole any cut.within;
+          is_file = subst (IsWhole told name) (sym all) (whole_file bytes cut (all_bytes so_far.runs) so_far.count so_far.first last);
+          even = ap (λ bs. length bs % p.size) all ∙ ap (λ n. n % p.size) (length-append (all_bytes so_far.runs) bytes)
+              ∙ even_sum (length (all_bytes so_far.runs)) (length bytes) p.size (even_so_far some even) whole;
+        }
+
+-- ---- the next chunk of a stream
+
+module _ {limit most at : ℕ} {told : Option Contents} {name : List ℕ} {pool : Pool} {v u w x : View} {a : ArenaId} {chunk : Chunk} {p : Plan} {was : List Found}
+    (opens : Opens pool v u a) (gives : Gives pool u w a most) (fills : Fills limit most told name at pool w x a chunk) (room : most ≤ limit_of pool.shape)
+    (so_far : GoneSoFar told name most at pool v p was) (some : 0 < p.size) (even : most % p.size ≡ 0) where
+  -- It has so many bytes.
+  count_is : length (take chunk.count (bytes_of_arena (state_in x) a)) ≡ chunk.count
+  count_is = long opens gives fills room
+
+  pub next_short : at + chunk.count ≤ limit
+  next_short = let short = fills.cut.short in omega (arith, short, count_is)
+
+  -- The file's last bytes may be no whole record.
+  pub next_ragged : {rest : ℕ} → rest ≡ chunk.count % p.size → 0 < rest → IsRagged told name p rest
+  next_ragged {rest} is any =
+      is_ragged (take chunk.count (bytes_of_arena (state_in x) a)) fills.cut (all_bytes so_far.runs) so_far.count so_far.first p rest (even_so_far so_far some even)
+      even (is ∙ ap (λ n. n % p.size) (sym count_is)) any
+
+  module _ (few : limit ≤ 2 ^ 62) {passes : ℕ} {y z : View} {s : Region} {found : List Found} (is : s ≡ region_of a 0 chunk.count)
+      (answers : Answers passes pool x y s p found) (closes : Closes pool y z a) where
+    on : CanJoin was found × HasGone pool z p (so_far.runs ++ take chunk.count (bytes_of_arena (state_in x) a) ∷ []) (joined was found)
+    on =
+        let short = fills.cut.short in
+        let count = so_far.count in
+        gone_on opens gives fills room is answers closes so_far.runs was so_far.gone some (even_so_far so_far some even)
+        (omega (arith, count, short, count_is, few))
+
+    pub next_joins : CanJoin was found
+    next_joins = on.0
+
+    -- It is whole, and more may come.
+    pub next_gone : {now : List Found} → now ≡ joined was found → chunk.ended ≡ false → GoneSoFar told name most (at + chunk.count) pool z p now
+    next_gone {now} same goes =
+        subst (λ n. GoneSoFar told name most (at + n) pool z p now) count_is
+        (gone_more so_far (subst (HasGone pool z p (so_far.runs ++ take chunk.count (bytes_of_arena (state_in x) a) ∷ [])) (sym same) on.1) fills.cut goes)
+
+    -- It is the file's last.
+    pub next_last : {now : List Found} → now ≡ joined was found → chunk.ended ≡ true → chunk.count % p.size ≡ 0 → GoneThrough told name most pool z p now
+    next_last {now} same last whole =
+        let any = fills.some in
+        gone_last so_far (subst (HasGone pool z p (so_far.runs ++ take chunk.count (bytes_of_arena (state_in x) a) ∷ [])) (sym same) on.1) fills.cut last
+        (omega (arith, count_is, any)) some even (ap (λ n. n % p.size) count_is ∙ whole)
