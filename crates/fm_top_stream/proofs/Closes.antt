@@ -1,10 +1,10 @@
 -- A pass closes an arena that it alone uses, or waits.
-use Rattle.std.proofs.Common.{◌≡◌, ◌≢◌, ℕ, true, List, [], ◌∷◌, ◌++◌, Result, Ok, Err, refl, ap, sym, ◌∙◌, subst, inr}
+use Rattle.std.proofs.Common.{◌≡◌, ℕ, List, [], ◌∷◌, Ok, Err, refl, ap, sym, ◌∙◌, subst, inr}
 use Rattle.fm_base.specs.declared.arena_id.ArenaId.{ArenaId}
 use Rattle.fm_base.specs.declared.caller.Caller.{Caller}
 use Rattle.fm_base.specs.declared.refusal.Refusal.{Refusal}
 use Rattle.fm_base.specs.declared.refusal.Refusal.TheVariants as refusal
-use Rattle.fm_base.specs.Arenas.{Arena, State, arena_of, changed, has_arena}
+use Rattle.fm_base.specs.Arenas.{Arena, State, arena_of, changed}
 use Rattle.fm_base.specs.Calls.{End, Entry, Fine, Shut, entry_of}
 use Rattle.fm_base.specs.Does.{DidClose, DoesClose}
 use Rattle.fm_base.specs.Histories.{state_after}
@@ -16,7 +16,6 @@ use Rattle.fm_rule_calls.specs.Told.{view_of_pass}
 use Rattle.fm_rule_calls.proofs.Telling.{did_of}
 use Rattle.fm_rule_facts.specs.Views.{View, IsKnown, limit_of, state_in}
 use Rattle.fm_rule.specs.declared.pool.Pool.{Pool}
-use Rattle.fm_top_load.specs.Held.{OnlyIn}
 use Rattle.fm_top_load.proofs.Holding.{did_only, only_changed}
 use Rattle.fm_top_pooled.proofs.Tidying.{AllChangeNone}
 use Rattle.fm_top_stream.specs.Steps.{CanClose, Closes, GoesOn}

@@ -5,7 +5,6 @@ use Rattle.std.proofs.lemmas.List.{append-nil, take_all, take_at, drop_at}
 use Rattle.fm_records.specs.Records.{pieces}
 use Rattle.fm_top_stream.specs.Chunks.{AreCut, all_bytes, cut_in}
 
-
 -- As many pieces as there are runs are the runs.
 pieces_again : (size : ℕ) (runs : List (List ℕ)) → AreCut size runs → pieces (length runs) size (all_bytes runs) ≡ runs
 pieces_again size [] cut = refl

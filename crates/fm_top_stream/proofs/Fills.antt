@@ -1,5 +1,5 @@
 -- A chunk that is put into the arena of a pass that is known to be whole.
-use Rattle.std.proofs.Common.{◌≡◌, ℕ, ◌+◌, ◌≤◌, ◌<◌, List, ◌++◌, take, Option, refl, ap, sym, ◌∙◌, subst, inr, arith}
+use Rattle.std.proofs.Common.{◌≡◌, ℕ, ◌≤◌, ◌<◌, List, ◌++◌, take, Option, ap, sym, ◌∙◌, subst, inr}
 use Rattle.fm_base.specs.declared.arena_id.ArenaId.{ArenaId}
 use Rattle.fm_base.specs.Calls.{Entry}
 use Rattle.fm_base.specs.View.{given_in}
@@ -17,7 +17,7 @@ use Rattle.fm_top_load.specs.Whole.{IsCut}
 use Rattle.fm_top_pooled.specs.Stocked.{IsAlone}
 use Rattle.fm_top_pooled.proofs.Filed.{puts_stay}
 use Rattle.fm_top_pooled.proofs.Filling.{only_on, stay_lone}
-use Rattle.fm_top_stream.specs.Steps.{Fills, GoesOn}
+use Rattle.fm_top_stream.specs.Steps.{Fills}
 use Rattle.fm_top_stream.proofs.Going.{alone_still}
 
 module _ {limit most at : ℕ} {told : Option Contents} {name : List ℕ} {pool : Pool} {p m q r : View} {a : ArenaId} {chunk : Chunk} where

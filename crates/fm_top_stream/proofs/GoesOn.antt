@@ -1,38 +1,37 @@
 -- A stream goes on by one chunk, and ends.
-use Rattle.std.proofs.Common.{◌≡◌, ◌≢◌, ℕ, ◌+◌, ◌*◌, ◌/◌, ◌%◌, ◌^◌, ◌<◌, ◌≤◌, Bool, true, false, List, [], ◌∷◌, ◌++◌, length, map, take, Option, Some, refl, ap, sym, ◌∙◌, subst, arith, append_assoc, length-append}
-use Rattle.std.specs.Prelude.{⊤}
-use Rattle.std.specs.List.{AllByRecursion, AllZip, flat_map, range_with_len}
+use Rattle.std.proofs.Common.{◌≡◌, ◌≢◌, ℕ, ◌+◌, ◌*◌, ◌/◌, ◌%◌, ◌^◌, ◌<◌, ◌≤◌, Bool, true, false, List, [], ◌∷◌, ◌++◌, length, map, take, Option, refl, ap, sym, ◌∙◌, subst, arith, append_assoc, length-append}
+use Rattle.std.specs.List.{AllByRecursion, AllZip, range_with_len}
 use Rattle.std.proofs.Math.Nat.{mul-add-mod_self_right, mul-mod_left, zero-mod}
 use Rattle.std.proofs.lemmas.List.{append-nil, length-take-le}
 use Rattle.std.proofs.lemmas.Nat.{div-add-mod'}
 use Rattle.fm_base_bytes.specs.Words.{byte_at}
 use Rattle.fm_base.specs.declared.arena_id.ArenaId.{ArenaId}
-use Rattle.fm_base.specs.Arenas.{State, arena_of}
+use Rattle.fm_base.specs.Arenas.{arena_of}
 use Rattle.fm_base.specs.Calls.{Entry}
 use Rattle.fm_base.specs.Histories.{state_after}
 use Rattle.fm_base.specs.View.{given_in}
 use Rattle.fm_io.specs.Files.{Contents, AreBytesFrom, EndsBefore}
 use Rattle.fm_io.proofs.Filled.{AreBytesFrom-append}
 use Rattle.fm_rule_calls.specs.Told.{view_of_pass}
-use Rattle.fm_rule_facts.specs.Views.{View, IsKnown, limit_of, state_in}
+use Rattle.fm_rule_facts.specs.Views.{View, limit_of, state_in}
 use Rattle.fm_rule.specs.declared.pool.Pool.{Pool}
 use Rattle.fm_segment_access.specs.Alone.{bytes_of_arena}
 use Rattle.fm_segment.specs.Region.{Region, region_of}
-use Rattle.fm_records_query.specs.Plan.{IsPlan, Plan}
+use Rattle.fm_records_query.specs.Plan.{Plan}
 use Rattle.fm_records.specs.declared.found.Found.{Found}
 use Rattle.fm_records.specs.Alone.{bytes_at_places}
 use Rattle.fm_records.specs.Answers.{answer}
-use Rattle.fm_records.specs.Few.{AreFew, Joins}
+use Rattle.fm_records.specs.Few.{AreFew}
 use Rattle.fm_records.specs.Joined.{CanJoin, joined}
 use Rattle.fm_records.proofs.AnsweringBytes.{places_have}
 use Rattle.fm_records.proofs.Few.{few_join}
 use Rattle.fm_records.proofs.Joining.{answer-append}
 use Rattle.fm_top_load.specs.declared.chunk.Chunk.{Chunk}
-use Rattle.fm_top_load.specs.Held.{IsHeld, names_in}
+use Rattle.fm_top_load.specs.Held.{names_in}
 use Rattle.fm_top_load.specs.Reached.{IsNextPiece}
 use Rattle.fm_top_load.specs.Whole.{IsCut, IsWhole}
 use Rattle.fm_top_load.proofs.Chunks.{first_to_last}
-use Rattle.fm_top_pooled.specs.Shown.{AreRead, AsksWord, IsReadByOther}
+use Rattle.fm_top_pooled.specs.Shown.{AsksWord, IsReadByOther}
 use Rattle.fm_top_pooled.specs.Stocked.{IsAlone, IsStockedOf, bytes_in_pool}
 use Rattle.fm_top_pooled.proofs.Filling.{held_room}
 use Rattle.fm_top_pooled.proofs.Shows.{pooled_is, read_in}
@@ -42,7 +41,7 @@ use Rattle.fm_top_stream.specs.Gone.{GoneSoFar, GoneThrough, HasGone, IsRagged}
 use Rattle.fm_top_stream.specs.Shown.{ShowsChunk}
 use Rattle.fm_top_stream.specs.Steps.{Answers, CanClose, Closes, Fills, Gives, GoesOn, Opens}
 use Rattle.fm_top_stream.proofs.Going.{goes_then}
-use Rattle.fm_top_stream.proofs.Standing.{AddsArena, one_more_shown, still_shown}
+use Rattle.fm_top_stream.proofs.Standing.{AddsArena, one_more_shown}
 
 -- ---- runs of bytes
 
@@ -182,14 +181,16 @@ module _ {limit most at : ℕ} {told : Option Contents} {name : List ℕ} {pool 
           let size : s.size ≡ length bytes = ap (λ (r : Region). r.size) is ∙ sym long in
           let joins = few_join plan (length (all_bytes runs)) s.size was found gone.few answers.few (let n = ap (λ (r : Region). r.size) is in omega (arith, n, small)) in
           let count : length (all_bytes runs) + s.size ≡ length (all_bytes (runs ++ bytes ∷ [])) =
-          ap (λ n. length (all_bytes runs) + n) size ∙ sym (length-append (all_bytes runs) bytes) ∙ ap length (sym all) in
-          (joins.can, record {
-            alone = closes.goes.alone;
-            value = ap (λ b. joined b found) gone.value ∙ ap (joined (answer plan (all_bytes runs))) (answers.value ∙ ap (answer plan) (bytes_are s is))
-                ∙ answer-append plan (all_bytes runs) bytes some even ∙ ap (answer plan) (sym all);
-            few = subst (λ n. AreFew n plan (joined was found)) count joins.few;
-            chunks = one_more_shown plan runs bytes adds gone.chunks shown;
-          })
+          ap (λ n. length (all_bytes runs) + n) size ∙ sym (length-append (all_bytes runs) bytes) ∙ ap length (sym all) in (
+            joins.can,
+            record {
+              alone = closes.goes.alone;
+              value = ap (λ b. joined b found) gone.value ∙ ap (joined (answer plan (all_bytes runs))) (answers.value ∙ ap (answer plan) (bytes_are s is))
+                  ∙ answer-append plan (all_bytes runs) bytes some even ∙ ap (answer plan) (sym all);
+              few = subst (λ n. AreFew n plan (joined was found)) count joins.few;
+              chunks = one_more_shown plan runs bytes adds gone.chunks shown;
+            },
+          )
 
 -- ---- the file so far
 

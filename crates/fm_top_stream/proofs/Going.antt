@@ -1,5 +1,5 @@
 -- A pass that is known to be whole goes on by itself.
-use Rattle.std.proofs.Common.{◌≡◌, List, [], ◌++◌, refl, ap, sym, ◌∙◌, append_assoc}
+use Rattle.std.proofs.Common.{List, [], ◌++◌, refl, ap, sym, ◌∙◌, append_assoc}
 use Rattle.std.proofs.lemmas.List.{append-nil}
 use Rattle.fm_base.specs.Calls.{Entry}
 use Rattle.fm_base.specs.Finds.{Gathered}

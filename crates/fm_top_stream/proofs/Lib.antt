@@ -6,3 +6,4 @@ pub mod Closes
 pub mod Cutting
 pub mod Standing
 pub mod GoesOn
+pub mod Ends

@@ -1,6 +1,6 @@
 -- What was shown of chunks is shown still, while the pass goes on with the next.
-use Rattle.std.proofs.Common.{◌≡◌, ◌≢◌, ℕ, ◌+◌, ◌≤◌, Bool, true, false, List, [], ◌∷◌, ◌++◌, length, map, take, refl, ap, sym, ◌∙◌, subst, inl, inr, arith}
-use Rattle.std.specs.Prelude.{◌⊎◌, if◌then◌else◌}
+use Rattle.std.proofs.Common.{◌≡◌, ◌≢◌, ℕ, true, false, List, [], ◌∷◌, ◌++◌, length, map, refl, ap, sym, ◌∙◌, subst, inl, inr}
+use Rattle.std.specs.Prelude.{if◌then◌else◌}
 use Rattle.std.specs.List.{AllZip, range_with_len}
 use Rattle.fm_base_bytes.specs.Words.{byte_at}
 use Rattle.fm_base_lists.specs.Among.{IsAmong}
@@ -9,10 +9,8 @@ use Rattle.fm_base.specs.declared.arena_id.ArenaId.{ArenaId}
 use Rattle.fm_base.specs.Arenas.{State, arena_of, has_arena, same_id}
 use Rattle.fm_base.specs.Calls.{Entry}
 use Rattle.fm_base.proofs.Names.{same_id-self}
-use Rattle.fm_records.specs.Alone.{bytes_at_places}
 use Rattle.fm_records_query.specs.Plan.{Plan}
 use Rattle.fm_rule_facts.specs.Views.{View, IsKnown, state_in}
-use Rattle.fm_segment.specs.Region.{region_of}
 use Rattle.fm_top_load.specs.Held.{names_in}
 use Rattle.fm_top_pooled.specs.Shown.{IsReadByOther}
 use Rattle.fm_top_pooled.proofs.Shows.{read_in}
@@ -53,7 +51,7 @@ named_known (a ∷ s) id (inl is) =
     ap (λ b. if b then true else has_arena s id) same
 named_known (a ∷ s) id (inr i) =
     let rest = named_known s id i in
-    elim (same_id a.id id) as (λ b. (if b then true else has_arena s id) ≡ true) [ | true ↦ refl | false ↦ rest ]
+    elim (same_id a.id id) as (λ b. (if b then true else has_arena s id) ≡ true) [ true ↦ refl | false ↦ rest ]
 
 -- ---- all of them
 
@@ -72,9 +70,9 @@ pub one_more_shown : {v w : View} {id : ArenaId} (p : Plan) (runs : List (List �
 one_more_shown {v} {w} {id} p runs bytes adds before last =
     let still : (b : ArenaId) (run : List ℕ) → IsAmong b (names_in (state_in v)) → ShowsChunk (state_in v) v.seen p b run
     → ShowsChunk (state_in w) w.seen p b run = λ b run i shown.
-        let known = named_known (state_in v) b i in
-        let other : b ≢ id = λ e. adds.unknown (subst (λ (x : ArenaId). IsKnown v x) e known) in
-        still_shown adds.more adds.seen (adds.life b known other) (adds.words b known other) shown in
+    let known = named_known (state_in v) b i in
+    let other : b ≢ id = λ e. adds.unknown (subst (λ (x : ArenaId). IsKnown v x) e known) in
+    still_shown adds.more adds.seen (adds.life b known other) (adds.words b known other) shown in
     subst (λ ns. AllZip (ShowsChunk (state_in w) w.seen p) ns (runs ++ bytes ∷ [])) (sym adds.names)
     (all_zip_more (ShowsChunk (state_in w) w.seen p) (names_in (state_in v)) runs id bytes
     (all_zip_each (ShowsChunk (state_in v) v.seen p) (ShowsChunk (state_in w) w.seen p) (names_in (state_in v)) runs still before) last)

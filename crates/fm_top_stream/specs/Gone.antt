@@ -1,5 +1,5 @@
 -- How far a stream has gone.
-use Rattle.std.specs.Prelude.{◌≡◌, ◌%◌, ◌+◌, ◌<◌, ◌≤◌, Bool, true, false, ℕ, List, [], ◌∷◌, ◌++◌, length, Option}
+use Rattle.std.specs.Prelude.{◌≡◌, ◌%◌, ◌<◌, ◌≤◌, ℕ, List, [], length, Option}
 use Rattle.std.specs.List.{AllByRecursion, AllZip}
 use Rattle.fm_io.specs.Files.{Contents, AreBytesFrom}
 use Rattle.fm_rule_facts.specs.Views.{View, limit_of, state_in}

@@ -1,5 +1,5 @@
 -- What the history of a stream's pool shows, and what the stream answers.
-use Rattle.std.specs.Prelude.{◌≡◌, ◌%◌, ◌<◌, ℕ, List, length, Option}
+use Rattle.std.specs.Prelude.{◌≡◌, ◌%◌, ℕ, List, length, Option}
 use Rattle.std.specs.List.{AllZip}
 use Rattle.fm_base.specs.declared.arena_id.ArenaId.{ArenaId}
 use Rattle.fm_base.specs.Arenas.{Ended, State, arena_of}

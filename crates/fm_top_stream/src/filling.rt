@@ -54,7 +54,16 @@ pub(crate) fn filled<R: Wait, F: Files>(
 {
     let mut memory = Shared::new(pool, pass);
     match load_chunk(
-        rt, files, name, limit, at, most, buffer, first, &mut memory, arena,
+        rt,
+        files,
+        name,
+        limit,
+        at,
+        most,
+        buffer,
+        first,
+        &mut memory,
+        arena,
     ) {
         Ok(chunk) => Ok((memory.into_pass(), chunk)),
         Err(fault) => Err(fault),

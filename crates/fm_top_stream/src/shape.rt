@@ -31,6 +31,7 @@ pub(crate) fn shape_of(threads: u32) -> Shape
 pub(crate) fn chunk_bytes(q: &Query) -> u64
     ensures is { result ≡ chunk_size q.now.size }
     ensures most { result ≤ most_chunk }
+    ensures sized { 0 < q.now.size }
 {
     MOST_CHUNK / q.record_size() * q.record_size()
 }

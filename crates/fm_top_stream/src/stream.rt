@@ -53,7 +53,17 @@ pub fn stream_with<R: Threads + Wait + Sync, F: Files, G: Gate>(
     };
     let most = chunk_bytes(q);
     let gone = match go_through(
-        rt, alloc, files, name, q, most, threads, gate, &mut buffer, &pool, pass,
+        rt,
+        alloc,
+        files,
+        name,
+        q,
+        most,
+        threads,
+        gate,
+        &mut buffer,
+        &pool,
+        pass,
     ) {
         Ok(gone) => gone,
         Err(fault) => return Err(fault_of(fault)),

@@ -1,11 +1,7 @@
-use Rattle.std.proofs.Common.{◌≡◌, ◌+◌, ◌%◌, ◌<◌, ◌≤◌, ◌^◌, ℕ, List, [], length, take, Option, refl, sym, ap, subst, ◌∙◌, arith}
-use Rattle.fm_io.specs.Files.{Contents, EndsBefore}
-use Rattle.fm_io.specs.Reads.{At}
+use Rattle.std.proofs.Common.{◌+◌, ◌%◌, [], Option, refl, sym, ap, subst, ◌∙◌, arith}
+use Rattle.fm_io.specs.Files.{Contents}
 use Rattle.fm_io.proofs.Followed.{ReadsFile-none}
 use Rattle.fm_io.proofs.Left.{leaves_none, leaves_then}
-use Rattle.fm_records.specs.Joined.{joined}
-use Rattle.fm_segment_access.specs.Alone.{bytes_of_arena}
-use Rattle.fm_rule_facts.specs.Views.{state_in}
 use Rattle.fm_top_load.specs.Reached.{IsNextPiece}
 use Rattle.fm_top_load.specs.Reading.{piece_limit}
 use Rattle.fm_top_load.proofs.Chunks.{no_bytes_from}
@@ -40,7 +36,7 @@ pub returns-then-first-eq0-clause-goes : goal.returns-then-first-eq0-clause-goes
 returns-then-first-eq0-clause-goes g c =
     let i = c.chunks.invariant in
     let next = subst (λ (told : Option Contents). IsNextPiece stream_file_limit c.args.most told c.args.name.now c.chunks.at c.read_piece.new.bytes
-        c.in-Ok-read_piece.piece) i.left.held c.in-Ok-read_piece.ensures.took in
+    c.in-Ok-read_piece.piece) i.left.held c.in-Ok-read_piece.ensures.took in
     record {
       whole = λ none. gone_whole i.gone c.requires.can.sized c.requires.can.any c.requires.can.even (ends_here next c.if-first-eq0.true c.requires.can.any);
       ragged = λ some. absurd (omega (arith, some));
@@ -71,7 +67,7 @@ returns-then-rest-ne0-clause-goes g c =
     let i = c.chunks.invariant in
     let held = read_quietly c.in-Ok-read_piece.ensures.tells in
     let fills = subst (λ (told : Option Contents). Fills stream_file_limit c.args.most told c.args.name.now c.chunks.at c.args.pool.now c.given.new.pass
-        c.in-Ok-filled.filled.0 c.opened-arena.result c.in-Ok-filled.filled.1) (held.held ∙ i.left.held) c.in-Ok-filled.ensures.fills in
+    c.in-Ok-filled.filled.0 c.opened-arena.result c.in-Ok-filled.filled.1) (held.held ∙ i.left.held) c.in-Ok-filled.ensures.fills in
     record {
       whole = λ none. absurd (c.if-rest-ne0.true none);
       ragged = λ some. next_ragged c.opened-arena.ensures c.given.ensures fills c.requires.can.room i.gone c.requires.can.sized c.requires.can.even
@@ -117,7 +113,7 @@ join-requires g c =
     let i = c.chunks.invariant in
     let held = read_quietly c.in-Ok-read_piece.ensures.tells in
     let fills = subst (λ (told : Option Contents). Fills stream_file_limit c.args.most told c.args.name.now c.chunks.at c.args.pool.now c.given.new.pass
-        c.in-Ok-filled.filled.0 c.opened-arena.result c.in-Ok-filled.filled.1) (held.held ∙ i.left.held) c.in-Ok-filled.ensures.fills in
+    c.in-Ok-filled.filled.0 c.opened-arena.result c.in-Ok-filled.filled.1) (held.held ∙ i.left.held) c.in-Ok-filled.ensures.fills in
     next_joins c.opened-arena.ensures c.given.ensures fills c.requires.can.room i.gone c.requires.can.sized c.requires.can.even (omega arith) c.of-s.ensures
     c.in-Ok-asked.ensures c.closed.ensures
 
@@ -126,7 +122,7 @@ returns-then-chunk-clause-goes g c =
     let i = c.chunks.invariant in
     let held = read_quietly c.in-Ok-read_piece.ensures.tells in
     let fills = subst (λ (told : Option Contents). Fills stream_file_limit c.args.most told c.args.name.now c.chunks.at c.args.pool.now c.given.new.pass
-        c.in-Ok-filled.filled.0 c.opened-arena.result c.in-Ok-filled.filled.1) (held.held ∙ i.left.held) c.in-Ok-filled.ensures.fills in
+    c.in-Ok-filled.filled.0 c.opened-arena.result c.in-Ok-filled.filled.1) (held.held ∙ i.left.held) c.in-Ok-filled.ensures.fills in
     record {
       whole = λ none. next_last c.opened-arena.ensures c.given.ensures fills c.requires.can.room i.gone c.requires.can.sized c.requires.can.even (omega arith)
           c.of-s.ensures c.in-Ok-asked.ensures c.closed.ensures c.in-Ok-join.ensures.joined c.if-chunk.true
@@ -151,7 +147,7 @@ chunks-preserved g c =
     let i = c.chunks.invariant in
     let held = read_quietly c.in-Ok-read_piece.ensures.tells in
     let fills = subst (λ (told : Option Contents). Fills stream_file_limit c.args.most told c.args.name.now c.chunks.at c.args.pool.now c.given.new.pass
-        c.in-Ok-filled.filled.0 c.opened-arena.result c.in-Ok-filled.filled.1) (held.held ∙ i.left.held) c.in-Ok-filled.ensures.fills in
+    c.in-Ok-filled.filled.0 c.opened-arena.result c.in-Ok-filled.filled.1) (held.held ∙ i.left.held) c.in-Ok-filled.ensures.fills in
     record {
       buffer = c.filled.ensures.buffer;
       short = next_short c.opened-arena.ensures c.given.ensures fills c.requires.can.room i.gone c.requires.can.sized c.requires.can.even;
