@@ -16,7 +16,7 @@ use Rattle.fm_rule.specs.declared.pool.Pool.{Pool}
 use Rattle.fm_top_load.specs.Held.{names_in}
 use Rattle.fm_top_pooled.proofs.Opening.{begun}
 use Rattle.fm_top_pooled.proofs.Shows.{keeps_history, state_kept}
-use Rattle.fm_top_stream.specs.Chunks.{all_bytes, chunk_size, cut_in, most_chunk}
+use Rattle.fm_top_stream.specs.Chunks.{all_bytes, chunk_size, cut_in, most_chunk, stream_file_limit}
 use Rattle.fm_top_stream.specs.Gone.{CanGoThrough, GoneThrough}
 use Rattle.fm_top_stream.specs.Shapes.{CanStream, stream_shape}
 use Rattle.fm_top_stream.specs.Shown.{ShowsChunk, Streams}
@@ -48,7 +48,7 @@ can_go {threads} {p} pool v most can sized shape first sound is = record {
 
 -- The answer, and the pool that gave it.
 pub streamed : {threads : ℕ} {told : Option Contents} {name : List ℕ} {p : Plan} {pool : Pool} {v : View} {a : List Found} {f : FinishedView} (most : ℕ)
-    → most ≡ chunk_size p.size → 0 < most → pool.shape ≡ stream_shape threads → GoneThrough told name most pool v p a → Finishes pool v f
+    → most ≡ chunk_size p.size → 0 < most → pool.shape ≡ stream_shape threads → GoneThrough stream_file_limit told name most pool v p a → Finishes pool v f
     → Streams threads told name p a f
 streamed {threads} {p = p} {pool = pool} {v = v} {a = a} {f = f} most is any shape through finishes =
     let kept = keeps_history through.gone.alone.outside.of.1 through.gone.alone.tidy finishes in
@@ -57,6 +57,7 @@ streamed {threads} {p = p} {pool = pool} {v = v} {a = a} {f = f} most is any sha
     record {
       bytes = all_bytes through.runs;
       is_file = through.is_file;
+      short = through.short;
       even = through.even;
       value = through.gone.value;
       shows = record {

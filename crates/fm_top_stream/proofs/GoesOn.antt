@@ -219,10 +219,11 @@ module _ {limit most at : ℕ} {told : Option Contents} {name : List ℕ} (bytes
 
     -- Where it leaves a rest the file does.
     pub is_ragged : (p : Plan) (rest : ℕ) → length before % p.size ≡ 0 → most % p.size ≡ 0 → rest ≡ length bytes % p.size → 0 < rest
-        → IsRagged told name p rest
+        → IsRagged limit told name p rest
     is_ragged p rest even whole is some = record {
       bytes = before ++ bytes;
       is_file = whole_file (is_true ended (λ f. let all = cut.full f in omega (arith, ap (λ n. n % p.size) all, whole, is, some)));
+      short = (let short = cut.short in omega (arith, count_more, short));
       is = is ∙ sym (ap (λ n. n % p.size) (length-append before bytes) ∙ rest_of (length before) (length bytes) p.size even);
       some = some;
     }
@@ -275,12 +276,13 @@ module _ {told : Option Contents} {name : List ℕ} {most at : ℕ} {pool : Pool
   even_so_far some even = even_all most p.size so_far.runs even (zero-mod p.size) so_far.whole
 
   -- The file ended behind whole chunks.
-  pub gone_whole : 0 < p.size → 0 < most → most % p.size ≡ 0 → EndsBefore told name at → GoneThrough told name most pool v p was
-  gone_whole some any even ends = record {
+  pub gone_whole : 0 < p.size → 0 < most → most % p.size ≡ 0 → {limit : ℕ} → at ≤ limit → EndsBefore told name at → GoneThrough limit told name most pool v p was
+  gone_whole some any even within ends = record {
     runs = so_far.runs;
     gone = so_far.gone;
     cut = cut_whole most so_far.runs any so_far.whole;
     is_file = first_to_last told name (all_bytes so_far.runs) so_far.first (subst (EndsBefore told name) (sym so_far.count) ends);
+    short = (let count = so_far.count in omega (arith, count, within));
     even = even_so_far some even;
   }
 
@@ -299,13 +301,14 @@ module _ {told : Option Contents} {name : List ℕ} {most at : ℕ} {pool : Pool
         }
 
     -- The last one.
-    pub gone_last : ended ≡ true → 0 < length bytes → 0 < p.size → most % p.size ≡ 0 → length bytes % p.size ≡ 0 → GoneThrough told name most pool z p now
+    pub gone_last : ended ≡ true → 0 < length bytes → 0 < p.size → most % p.size ≡ 0 → length bytes % p.size ≡ 0 → GoneThrough limit told name most pool z p now
     gone_last last any some even whole =
         let all = all_more so_far.runs bytes in
         record {
           runs = so_far.runs ++ bytes ∷ [];
           gone = gone;
           cut = cut_more most so_far.runs bytes so_far.whole any cut.within;
+          short = (let count = ap length all ∙ count_more bytes cut (all_bytes so_far.runs) so_far.count so_far.first in let short = cut.short in omega (arith, count, short));
           is_file = subst (IsWhole told name) (sym all) (whole_file bytes cut (all_bytes so_far.runs) so_far.count so_far.first last);
           even = ap (λ bs. length bs % p.size) all ∙ ap (λ n. n % p.size) (length-append (all_bytes so_far.runs) bytes)
               ∙ even_sum (length (all_bytes so_far.runs)) (length bytes) p.size (even_so_far some even) whole;
@@ -324,7 +327,7 @@ module _ {limit most at : ℕ} {told : Option Contents} {name : List ℕ} {pool 
   next_short = let short = fills.cut.short in omega (arith, short, count_is)
 
   -- The file's last bytes may be no whole record.
-  pub next_ragged : {rest : ℕ} → rest ≡ chunk.count % p.size → 0 < rest → IsRagged told name p rest
+  pub next_ragged : {rest : ℕ} → rest ≡ chunk.count % p.size → 0 < rest → IsRagged limit told name p rest
   next_ragged {rest} is any =
       is_ragged (take chunk.count (bytes_of_arena (state_in x) a)) fills.cut (all_bytes so_far.runs) so_far.count so_far.first p rest (even_so_far so_far some even)
       even (is ∙ ap (λ n. n % p.size) (sym count_is)) any
@@ -348,7 +351,7 @@ module _ {limit most at : ℕ} {told : Option Contents} {name : List ℕ} {pool 
         (gone_more so_far (subst (HasGone pool z p (so_far.runs ++ take chunk.count (bytes_of_arena (state_in x) a) ∷ [])) (sym same) on.1) fills.cut goes)
 
     -- It is the file's last.
-    pub next_last : {now : List Found} → now ≡ joined was found → chunk.ended ≡ true → chunk.count % p.size ≡ 0 → GoneThrough told name most pool z p now
+    pub next_last : {now : List Found} → now ≡ joined was found → chunk.ended ≡ true → chunk.count % p.size ≡ 0 → GoneThrough limit told name most pool z p now
     next_last {now} same last whole =
         let any = fills.some in
         gone_last so_far (subst (HasGone pool z p (so_far.runs ++ take chunk.count (bytes_of_arena (state_in x) a) ∷ [])) (sym same) on.1) fills.cut last

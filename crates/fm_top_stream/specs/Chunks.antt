@@ -3,6 +3,11 @@ use Rattle.std.specs.Prelude.{◌≡◌, ℕ, ◌+◌, ◌-◌, ◌*◌, ◌/◌
 use Rattle.std.specs.List.{flat_map}
 use Rattle.fm_records.specs.Records.{pieces}
 
+-- the most bytes of a file
+abbrev pub stream_file_limit : ℕ
+stream_file_limit = 1099511627776
+
+-- the most bytes of a chunk, and so of a record
 abbrev pub most_chunk : ℕ
 most_chunk = 1048576
 

@@ -8,10 +8,8 @@ use Rattle.fm_top_load.specs.declared.load_fault.LoadFault.{LoadFault}
 use Rattle.fm_top_load.specs.declared.load_fault.LoadFault.TheVariants as load
 use Rattle.fm_top_stream.specs.declared.stream_fault.StreamFault.{StreamFault}
 use Rattle.fm_top_stream.specs.declared.stream_fault.StreamFault.TheVariants.{Missing, Read, Ragged, TooLong, Memory}
+use Rattle.fm_top_stream.specs.Chunks.{stream_file_limit}
 use Rattle.fm_top_stream.specs.Gone.{IsRagged}
-
-abbrev pub stream_file_limit : ℕ
-stream_file_limit = 1099511627776
 
 -- what a load's fault is to a stream
 abbrev pub fault_of_load : LoadFault → StreamFault
@@ -26,4 +24,4 @@ pub record TellsStream (old new : FilesView) (name : List ℕ) (p : Plan) (fault
   pub left : Leaves (fault ≡ Some Read) (fault ≡ Some Missing) old new
   pub too_long : fault ≡ Some TooLong → IsOver old.holds name stream_file_limit
   pub absent : fault ≡ Some Missing → IsAbsent old.holds name
-  pub ragged : (rest : ℕ) → fault ≡ Some (Ragged rest) → IsRagged old.holds name p rest
+  pub ragged : (rest : ℕ) → fault ≡ Some (Ragged rest) → IsRagged stream_file_limit old.holds name p rest

@@ -11,7 +11,7 @@ use Rattle.fm_records.specs.Few.{AreFew}
 use Rattle.fm_top_load.specs.Held.{names_in}
 use Rattle.fm_top_load.specs.Whole.{IsWhole}
 use Rattle.fm_top_pooled.specs.Stocked.{IsAlone}
-use Rattle.fm_top_stream.specs.Chunks.{AreCut, all_bytes}
+use Rattle.fm_top_stream.specs.Chunks.{AreCut, all_bytes, stream_file_limit}
 use Rattle.fm_top_stream.specs.Shown.{ShowsChunk}
 use Rattle.fm_top_stream.specs.declared.streaming.Gone.{Gone}
 
@@ -30,19 +30,21 @@ pub record GoneSoFar (told : Option Contents) (name : List ℕ) (most at : ℕ) 
   pub count : length (all_bytes runs) ≡ at
   pub first : AreBytesFrom told name 0 (all_bytes runs)
 
--- the file's bytes leave this rest
-pub record IsRagged (told : Option Contents) (name : List ℕ) (p : Plan) (rest : ℕ) : Type 0 where
+-- the bytes of the file, which may have so many, leave this rest
+pub record IsRagged (limit : ℕ) (told : Option Contents) (name : List ℕ) (p : Plan) (rest : ℕ) : Type 0 where
   pub bytes : List ℕ
   pub is_file : IsWhole told name bytes
+  pub short : length bytes ≤ limit
   pub is : rest ≡ length bytes % p.size
   pub some : 0 < rest
 
--- the whole file, in chunks
-pub record GoneThrough (told : Option Contents) (name : List ℕ) (most : ℕ) (pool : Pool) (v : View) (p : Plan) (a : List Found) : Type 0 where
+-- the whole file, which may have so many bytes, in chunks
+pub record GoneThrough (limit : ℕ) (told : Option Contents) (name : List ℕ) (most : ℕ) (pool : Pool) (v : View) (p : Plan) (a : List Found) : Type 0 where
   pub runs : List (List ℕ)
   pub gone : HasGone pool v p runs a
   pub cut : AreCut most runs
   pub is_file : IsWhole told name (all_bytes runs)
+  pub short : length (all_bytes runs) ≤ limit
   pub even : length (all_bytes runs) % p.size ≡ 0
 
 -- a pass that has made no entry yet, of a pool with room for a chunk in an arena, and a chunk of whole records
@@ -58,5 +60,5 @@ pub record CanGoThrough (most threads : ℕ) (p : Plan) (pool : Pool) (v : View)
 
 -- the whole file was gone through, or its end is no whole record
 pub record GoesThrough (told : Option Contents) (name : List ℕ) (most : ℕ) (p : Plan) (pool : Pool) (g : Gone) : Type 0 where
-  pub whole : g.rest ≡ 0 → GoneThrough told name most pool g.pass p g.answer
-  pub ragged : 0 < g.rest → IsRagged told name p g.rest
+  pub whole : g.rest ≡ 0 → GoneThrough stream_file_limit told name most pool g.pass p g.answer
+  pub ragged : 0 < g.rest → IsRagged stream_file_limit told name p g.rest

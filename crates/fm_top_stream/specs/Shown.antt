@@ -1,5 +1,5 @@
 -- What the history of a stream's pool shows, and what the stream answers.
-use Rattle.std.specs.Prelude.{◌≡◌, ◌%◌, ℕ, List, length, Option}
+use Rattle.std.specs.Prelude.{◌≡◌, ◌%◌, ◌≤◌, ℕ, List, length, Option}
 use Rattle.std.specs.List.{AllZip}
 use Rattle.fm_base.specs.declared.arena_id.ArenaId.{ArenaId}
 use Rattle.fm_base.specs.Arenas.{Ended, State, arena_of}
@@ -16,7 +16,7 @@ use Rattle.fm_segment.specs.Region.{region_of}
 use Rattle.fm_top_load.specs.Held.{names_in}
 use Rattle.fm_top_load.specs.Whole.{IsWhole}
 use Rattle.fm_top_pooled.specs.Shown.{AreRead, AsksWord, IsHistory}
-use Rattle.fm_top_stream.specs.Chunks.{chunks}
+use Rattle.fm_top_stream.specs.Chunks.{chunks, stream_file_limit}
 use Rattle.fm_top_stream.specs.Shapes.{stream_shape}
 
 -- the chunk's bytes stand from place 0 of the arena, which has ended, and others than the first pass have read there each word that is
@@ -36,6 +36,7 @@ pub record ShowsStream (threads : ℕ) (f : FinishedView) (p : Plan) (bytes : Li
 pub record Streams (threads : ℕ) (told : Option Contents) (name : List ℕ) (p : Plan) (a : List Found) (f : FinishedView) : Type 0 where
   pub bytes : List ℕ
   pub is_file : IsWhole told name bytes
+  pub short : length bytes ≤ stream_file_limit
   pub even : length bytes % p.size ≡ 0
   pub value : a ≡ answer p bytes
   pub shows : ShowsStream threads f p bytes

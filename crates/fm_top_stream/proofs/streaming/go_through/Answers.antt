@@ -7,7 +7,7 @@ use Rattle.fm_top_load.specs.Reading.{piece_limit}
 use Rattle.fm_top_load.proofs.Chunks.{no_bytes_from}
 use Rattle.fm_top_load.proofs.Following.{chunk_reads, reads_then}
 use Rattle.fm_top_load.proofs.Telling.{read_quietly, tells_memory, tells_then}
-use Rattle.fm_top_stream.specs.Faults.{stream_file_limit}
+use Rattle.fm_top_stream.specs.Chunks.{stream_file_limit}
 use Rattle.fm_top_stream.specs.Steps.{Fills}
 use Rattle.fm_top_stream.proofs.GoesOn.{ends_here, gone_none, gone_whole, next_gone, next_last, next_joins, next_ragged, next_short}
 use Rattle.fm_top_stream.proofs.streaming.go_through.Goals as goal
@@ -38,7 +38,7 @@ returns-then-first-eq0-clause-goes g c =
     let next = subst (λ (told : Option Contents). IsNextPiece stream_file_limit c.args.most told c.args.name.now c.chunks.at c.read_piece.new.bytes
     c.in-Ok-read_piece.piece) i.left.held c.in-Ok-read_piece.ensures.took in
     record {
-      whole = λ none. gone_whole i.gone c.requires.can.sized c.requires.can.any c.requires.can.even (ends_here next c.if-first-eq0.true c.requires.can.any);
+      whole = λ none. gone_whole i.gone c.requires.can.sized c.requires.can.any c.requires.can.even i.short (ends_here next c.if-first-eq0.true c.requires.can.any);
       ragged = λ some. absurd (omega (arith, some));
     }
 

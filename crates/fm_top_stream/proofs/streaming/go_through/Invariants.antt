@@ -2,7 +2,7 @@ use Rattle.std.proofs.Common.{◌≡◌, ◌-◌, ◌≤◌, length}
 use Rattle.fm_io.specs.Reads.{At}
 use Rattle.fm_io.specs.View.{Leaves}
 use Rattle.fm_top_load.specs.Reading.{ReadsUpTo, piece_limit}
-use Rattle.fm_top_stream.specs.Faults.{stream_file_limit}
+use Rattle.fm_top_stream.specs.Chunks.{stream_file_limit}
 use Rattle.fm_top_stream.specs.Gone.{GoneSoFar}
 use Rattle.fm_top_stream.proofs.streaming.go_through.Given as goal
 
