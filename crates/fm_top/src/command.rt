@@ -62,6 +62,9 @@ pub fn command_of<'a>(alloc: Global, words: &'a [String]) -> Result<Option<Comma
     if let Some(ask) = ask_words(alloc, words, Question::Query)? {
         return Ok(Some(Command::Ask(ask)));
     }
+    if let Some(ask) = ask_words(alloc, words, Question::Stream)? {
+        return Ok(Some(Command::Ask(ask)));
+    }
     if let Some(ask) = ask_words(alloc, words, Question::Tally)? {
         return Ok(Some(Command::Ask(ask)));
     }

@@ -1,16 +1,14 @@
 -- A pool's first pass that has a new arena give its first bytes.
-use Rattle.std.proofs.Common.{◌≡◌, ℕ, ◌+◌, ◌<◌, ◌≤◌, true, false, List, ◌++◌, Ok, Err, refl, ap, ◌∙◌, sym, subst, arith}
+use Rattle.std.proofs.Common.{◌≡◌, ℕ, ◌+◌, ◌<◌, ◌≤◌, true, false, List, Ok, Err, refl, ap, ◌∙◌, sym, subst, arith}
 use Rattle.fm_base.specs.declared.arena_id.ArenaId.{ArenaId}
 use Rattle.fm_base.specs.declared.refusal.Refusal.{Refusal}
 use Rattle.fm_base.specs.declared.refusal.Refusal.TheVariants.{Memory, NoSlot, PoolFull}
-use Rattle.fm_base.specs.Calls.{Entry}
 use Rattle.fm_base.specs.Does.{DidAllocate, DoesAllocate}
-use Rattle.fm_base.specs.Finds.{Gathered, Rest}
+use Rattle.fm_base.specs.Finds.{Gathered}
 use Rattle.fm_base.specs.Machine.{rounded_up}
 use Rattle.fm_base.specs.Outcomes.{MayRefuse, Nature}
 use Rattle.fm_base.specs.View.{but_loans, given_in}
 use Rattle.fm_rule_calls.specs.Told.{view_of_pass}
-use Rattle.fm_rule_calls.proofs.Sweeps.{no_sweeps}
 use Rattle.fm_rule_calls.proofs.Telling.{did_of}
 use Rattle.fm_gate.specs.Learnt.{AfterAllocate}
 use Rattle.fm_gate.proofs.Scarce.{one_empty}

@@ -22,5 +22,6 @@ mod stream;
 mod stream_fault;
 mod streaming;
 
+pub use shape::MOST_CHUNK;
 pub use stream::{STREAM_FILE_LIMIT, stream_with};
 pub use stream_fault::StreamFault;

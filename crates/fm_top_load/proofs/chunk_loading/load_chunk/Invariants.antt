@@ -1,4 +1,4 @@
-use Rattle.std.proofs.Common.{◌≡◌, ◌+◌, ◌-◌, ◌<◌, ◌≤◌, ℕ, List, Option, take}
+use Rattle.std.proofs.Common.{◌+◌, ◌-◌, ◌<◌, ◌≤◌, ℕ, List, Option, take}
 use Rattle.fm_segment_access.specs.Alone.{bytes_of_arena}
 use Rattle.fm_io.specs.Files.{AreBytesFrom}
 use Rattle.fm_io.specs.Reads.{Read, ReadsFile}
