@@ -7,9 +7,10 @@ use Rattle.fm_lanes.specs.declared.value_kind.ValueKind.{ValueKind}
 use Rattle.fm_layout.specs.Tree.{Tree}
 use Rattle.fm_ljson.specs.Answer.{layout_of_json}
 use Rattle.fm_records_query.specs.Plan.{Plan}
+use Rattle.fm_top_load.specs.Limits.{record_file_limit}
 use Rattle.fm_top.specs.Causes.{LacksFile, HasLongFile, HasRefusedLayout, HasRefusedQuery, HasRaggedFile, HasRefusedScript}
 use Rattle.fm_top.specs.Outcome.{Outcome, RecordsEnd, no_file, too_many, uneven, even, IsSummed, layout_outcome, shows, layout_file_limit, too_long}
-use Rattle.fm_top.specs.Queries.{IsRecordLayout, IsPlanned, IsAnswered, TextEnds, unplanned, planned, AskEnds, no_layout, long_layout, bad_layout, over_layout}
+use Rattle.fm_top.specs.Queries.{IsRecordLayout, IsPlanned, IsAnswered, records_limit, TextEnds, unplanned, planned, AskEnds, no_layout, long_layout, bad_layout, over_layout}
 use Rattle.fm_top.specs.Run.{EndsBy}
 use Rattle.fm_top.specs.Scripts.{ScriptEnds, no_script, long_script, bad_script, ran}
 use Rattle.fm_top.specs.Words.{Request, Sum, Layout, Ask, Demo, Run}
@@ -34,7 +35,7 @@ answer_cause request first last o is = subst (λ (s : Status). CauseOf s request
 
 -- a sum's
 sum_cause : (size at : ℕ) (kind : ValueKind) (file : List ℕ) (first last : Option (List ℕ)) (o : Outcome)
-    → RecordsEnd size file (IsSummed size at kind) first o → CauseOf o.status (Sum size at kind file) first last
+    → RecordsEnd record_file_limit size file (IsSummed size at kind) first o → CauseOf o.status (Sum size at kind file) first last
 sum_cause size at kind file first last o no_file = refl
 sum_cause size at kind file first last o (too_many bytes long) = long
 sum_cause size at kind file first last o (uneven bytes short rest) = (short, rest)
@@ -59,8 +60,8 @@ layout_cause text name None last = refl
 layout_cause text name (Some bytes) last = listed_cause text name bytes last (nat_lt layout_file_limit (length bytes)) (layout_of_json bytes) refl refl
 
 -- that of a query or a tally
-module _ (q : Question) (threads : ℕ) (layout text file bytes : List ℕ) (t : Tree) (is : IsRecordLayout bytes t) where
-  plan_cause : (p : Plan) (last : Option (List ℕ)) (o : Outcome) → IsPlanned q text t p → RecordsEnd p.size file (IsAnswered q p) last o
+module _ (q : Question) (threads : ℕ) (layout text file bytes : List ℕ) (t : Tree) (is : IsRecordLayout q bytes t) where
+  plan_cause : (p : Plan) (last : Option (List ℕ)) (o : Outcome) → IsPlanned q text t p → RecordsEnd (records_limit q) p.size file (IsAnswered q threads p) last o
       → CauseOf o.status (Ask q threads layout text file) (Some bytes) last
   plan_cause p last o plan no_file = inr (p, (t, is, plan), refl)
   plan_cause p last o plan (too_many all long) = inr (p, (t, is, plan), long)
@@ -68,12 +69,12 @@ module _ (q : Question) (threads : ℕ) (layout text file bytes : List ℕ) (t :
   plan_cause p last o plan (even all x short whole answer) =
       answer_cause (Ask q threads layout text file) (Some bytes) (Some all) x (ap (λ (y : Outcome). y.status) (sym answer.outcome))
 
-  text_cause : (last : Option (List ℕ)) (o : Outcome) → TextEnds q text t file last o → CauseOf o.status (Ask q threads layout text file) (Some bytes) last
+  text_cause : (last : Option (List ℕ)) (o : Outcome) → TextEnds q threads text t file last o → CauseOf o.status (Ask q threads layout text file) (Some bytes) last
   text_cause last o (unplanned e refused) = (t, is, e, refused)
   text_cause last o (planned p x plan ends) = plan_cause p last x plan ends
 
 ask_cause : (q : Question) (threads : ℕ) (layout text file : List ℕ) (first last : Option (List ℕ)) (o : Outcome)
-    → AskEnds q layout text file last first o → CauseOf o.status (Ask q threads layout text file) first last
+    → AskEnds q threads layout text file last first o → CauseOf o.status (Ask q threads layout text file) first last
 ask_cause q threads layout text file first last o no_layout = inl refl
 ask_cause q threads layout text file first last o (long_layout bytes long) = inl long
 ask_cause q threads layout text file first last o (bad_layout bytes e refused) = (e, refused)

@@ -24,9 +24,9 @@ counts_are ns counts are =
     (λ k below. let small : k < 256 = subst (λ (n : ℕ). k < n) are.all below in are.each k small ∙ sym (count_at ns k small))
 
 -- the answer to a tally
-pub tallied : (p : Plan) (bytes text counts : List ℕ) (f : FinishedView) (o : Outcome) → AreCounts (listed (answer p bytes)) counts
-    → text ≡ counts_text counts → ShowsQuery f p bytes → o ≡ answered_by_pool text f → IsAnswered Tally p bytes o
-tallied p bytes text counts f o are is_text shows is = record {
+pub tallied : (threads : ℕ) (p : Plan) (bytes text counts : List ℕ) (f : FinishedView) (o : Outcome) → AreCounts (listed (answer p bytes)) counts
+    → text ≡ counts_text counts → ShowsQuery f p bytes → o ≡ answered_by_pool text f → IsAnswered Tally threads p bytes o
+tallied threads p bytes text counts f o are is_text shows is = record {
   finished = f;
   outcome = is ∙ ap (λ (t : List ℕ). answered_by_pool t f) (is_text ∙ ap counts_text (counts_are (listed (answer p bytes)) counts are));
   shows = shows;

@@ -104,10 +104,10 @@ first_found request bytes last o there ends is =
     there (subst (λ (s : Status). CauseOf s request (Some bytes) last) is (end_cause request (Some bytes) last o ends))
 
 -- that of a plan over a record file that was found
-pub plan_found : (q : Question) (p : Plan) (file bytes : List ℕ) (found : Option (List ℕ)) (o : Outcome) → found ≡ Some bytes → PlanEnds q p file found o
+pub plan_found : (q : Question) (threads : ℕ) (p : Plan) (file bytes : List ℕ) (found : Option (List ℕ)) (o : Outcome) → found ≡ Some bytes → PlanEnds q threads p file found o
     → o.status ≡ status.Missing → ⊥
-plan_found q p file bytes found o some no_file is = absurd (cc)
-plan_found q p file bytes found o some (too_many all long) is = let same : status.TooLong ≡ status.Missing = is in absurd (cc)
-plan_found q p file bytes found o some (uneven all short rest) is = let same : status.Ragged ≡ status.Missing = is in absurd (cc)
-plan_found q p file bytes found o some (even all x short whole answer) is =
+plan_found q threads p file bytes found o some no_file is = absurd (cc)
+plan_found q threads p file bytes found o some (too_many all long) is = let same : status.TooLong ≡ status.Missing = is in absurd (cc)
+plan_found q threads p file bytes found o some (uneven all short rest) is = let same : status.Ragged ≡ status.Missing = is in absurd (cc)
+plan_found q threads p file bytes found o some (even all x short whole answer) is =
     let same : status.Answered ≡ status.Missing = sym (ap (λ (y : Outcome). y.status) answer.outcome) ∙ is in absurd (cc)

@@ -15,3 +15,4 @@ pub mod Runs
 pub mod Sums
 pub mod Threaded
 pub mod Unloaded
+pub mod Streamed

@@ -1,5 +1,5 @@
 -- Words print one outcome.
-use Rattle.std.proofs.Common.{◌≡◌, ℕ, List, Option, Some, Result, Ok, Err, refl, sym, ap, subst, ◌∙◌, arith}
+use Rattle.std.proofs.Common.{◌≡◌, ℕ, List, Option, Some, Result, Ok, Err, refl, inl, inr, sym, ap, subst, ◌∙◌, arith}
 use Rattle.fm_base.specs.declared.refusal.Refusal.{Refusal}
 use Rattle.fm_base.specs.declared.refusal.Refusal.TheVariants.{NoSize, ElementRagged}
 use Rattle.fm_top_demo.specs.Records.{made_layout}
@@ -15,12 +15,13 @@ use Rattle.fm_records_query.specs.Records.{IsRecord, IsNoRecord}
 use Rattle.fm_top.specs.Demos.{DemoEnds, made_text}
 use Rattle.fm_top.specs.Laws.{PrintAlike, HaveOneOutcome}
 use Rattle.fm_top.specs.Outcome.{Outcome, RecordsEnd, no_file, too_many, uneven, even, IsSummed, layout_refused, query_refused}
-use Rattle.fm_top.specs.Queries.{IsRecordLayout, IsNoRecordLayout, IsLayoutRefused, IsPlanned, IsUnplanned, IsAnswered, TextEnds, unplanned, planned, AskEnds, no_layout, long_layout, bad_layout, over_layout}
+use Rattle.fm_top_load.specs.Limits.{record_file_limit}
+use Rattle.fm_top.specs.Queries.{IsRecordLayout, IsNoRecordLayout, IsLayoutRefused, IsSmall, records_limit, IsPlanned, IsUnplanned, IsAnswered, TextEnds, unplanned, planned, AskEnds, no_layout, long_layout, bad_layout, over_layout}
 use Rattle.fm_top.specs.Tallies.{IsTallied, IsPathRefused, no_list, no_bytes}
 use Rattle.fm_top.specs.Run.{HasOutcome, IsOutcomeOver, faulty, asked}
 use Rattle.fm_top.specs.Words.{Request, Sum, Layout, Ask, Demo, Run, Asks, IsRun}
 use Rattle.fm_top.specs.declared.command.question.Question.{Question}
-use Rattle.fm_top.specs.declared.command.question.Question.TheVariants.{Query, Tally}
+use Rattle.fm_top.specs.declared.command.question.Question.TheVariants.{Query, Stream, Tally}
 use Rattle.fm_top.proofs.Comes.{over_told}
 use Rattle.fm_top.proofs.Requests.{same_request}
 use Rattle.fm_workers.specs.Counts.{IsTally}
@@ -42,24 +43,24 @@ alike_by o x a b is_a is_b same = subst (λ (z : Outcome). PrintAlike o z) (sym 
 abbrev PrintOne : (List ℕ → Outcome → Type 0) → Type 0
 PrintOne Answers = (bytes : List ℕ) (o x : Outcome) → Answers bytes o → Answers bytes x → PrintAlike o x
 
-records_once : (size : ℕ) (file : List ℕ) (Answers : List ℕ → Outcome → Type 0) → PrintOne Answers → (found : Option (List ℕ)) (o x : Outcome)
-    → RecordsEnd size file Answers found o → RecordsEnd size file Answers found x → PrintAlike o x
-records_once size file Answers one found o x no_file no_file = alike o x refl
-records_once size file Answers one found o x (too_many bytes a) (too_many bytes' b) = alike o x refl
-records_once size file Answers one found o x (too_many bytes a) (uneven bytes' b rest) = absurd (omega (arith, a, b))
-records_once size file Answers one found o x (too_many bytes a) (even bytes' x' b whole answers) = absurd (omega (arith, a, b))
-records_once size file Answers one found o x (uneven bytes a rest) (too_many bytes' b) = absurd (omega (arith, a, b))
-records_once size file Answers one found o x (uneven bytes a rest) (uneven bytes' b rest') = alike o x refl
-records_once size file Answers one found o x (uneven bytes a rest) (even bytes' x' b whole answers) = absurd (rest whole)
-records_once size file Answers one found o x (even bytes o' a whole answers) (too_many bytes' b) = absurd (omega (arith, a, b))
-records_once size file Answers one found o x (even bytes o' a whole answers) (uneven bytes' b rest) = absurd (rest whole)
-records_once size file Answers one found o x (even bytes o' a whole answers) (even bytes' x' b whole' answers') = one bytes o' x' answers answers'
+records_once : (limit size : ℕ) (file : List ℕ) (Answers : List ℕ → Outcome → Type 0) → PrintOne Answers → (found : Option (List ℕ)) (o x : Outcome)
+    → RecordsEnd limit size file Answers found o → RecordsEnd limit size file Answers found x → PrintAlike o x
+records_once limit size file Answers one found o x no_file no_file = alike o x refl
+records_once limit size file Answers one found o x (too_many bytes a) (too_many bytes' b) = alike o x refl
+records_once limit size file Answers one found o x (too_many bytes a) (uneven bytes' b rest) = absurd (omega (arith, a, b))
+records_once limit size file Answers one found o x (too_many bytes a) (even bytes' x' b whole answers) = absurd (omega (arith, a, b))
+records_once limit size file Answers one found o x (uneven bytes a rest) (too_many bytes' b) = absurd (omega (arith, a, b))
+records_once limit size file Answers one found o x (uneven bytes a rest) (uneven bytes' b rest') = alike o x refl
+records_once limit size file Answers one found o x (uneven bytes a rest) (even bytes' x' b whole answers) = absurd (rest whole)
+records_once limit size file Answers one found o x (even bytes o' a whole answers) (too_many bytes' b) = absurd (omega (arith, a, b))
+records_once limit size file Answers one found o x (even bytes o' a whole answers) (uneven bytes' b rest) = absurd (rest whole)
+records_once limit size file Answers one found o x (even bytes o' a whole answers) (even bytes' x' b whole' answers') = one bytes o' x' answers answers'
 
 summed_once : (size at : ℕ) (kind : ValueKind) → PrintOne (IsSummed size at kind)
 summed_once size at kind bytes o x a b = alike o x (a ∙ sym b)
 
-answered_once : (q : Question) (p : Plan) → PrintOne (IsAnswered q p)
-answered_once q p bytes o x a b = alike_by o x _ _ a.outcome b.outcome (record { status = refl; text = refl })
+answered_once : (q : Question) (threads : ℕ) (p : Plan) → PrintOne (IsAnswered q threads p)
+answered_once q threads p bytes o x a b = alike_by o x _ _ a.outcome b.outcome (record { status = refl; text = refl })
 
 -- ---- texts
 
@@ -70,6 +71,7 @@ refused_not_tallied text t p e (no_bytes r list none) is = none (subst IsTally (
 
 refused_not_planned : (q : Question) (text : List ℕ) (t : Tree) (p : Plan) (e : Refusal) → IsUnplanned q text t e → IsPlanned q text t p → ⊥
 refused_not_planned Query text t p e denied is = refused_has_none text t p e denied.no_query denied.refused is
+refused_not_planned Stream text t p e denied is = refused_has_none text t p e denied.no_query denied.refused is
 refused_not_planned Tally text t p e denied is = refused_not_tallied text t p e denied is
 
 path_refused_once : (text : List ℕ) (t : Tree) (e f : Refusal) → IsPathRefused text t e → IsPathRefused text t f → e ≡ f
@@ -80,21 +82,23 @@ path_refused_once text t e f (no_bytes p list none) (no_bytes r list' none') = r
 
 unplanned_once : (q : Question) (text : List ℕ) (t : Tree) (e f : Refusal) → IsUnplanned q text t e → IsUnplanned q text t f → e ≡ f
 unplanned_once Query text t e f a b = one_refusal text t e f a.no_query b.no_query a.refused b.refused
+unplanned_once Stream text t e f a b = one_refusal text t e f a.no_query b.no_query a.refused b.refused
 unplanned_once Tally text t e f a b = path_refused_once text t e f a b
 
 planned_once : (q : Question) (text : List ℕ) (t : Tree) (p r : Plan) → IsPlanned q text t p → IsPlanned q text t r → p ≡ r
 planned_once Query text t p r a b = one_plan text t p r a b
+planned_once Stream text t p r a b = one_plan text t p r a b
 planned_once Tally text t p r a b = one_list text t p r a.list b.list
 
-text_once : (q : Question) (text : List ℕ) (t : Tree) (file : List ℕ) (found : Option (List ℕ)) (o x : Outcome) → TextEnds q text t file found o
-    → TextEnds q text t file found x → PrintAlike o x
-text_once q text t file found o x (unplanned e a) (unplanned f b) =
+text_once : (q : Question) (threads : ℕ) (text : List ℕ) (t : Tree) (file : List ℕ) (found : Option (List ℕ)) (o x : Outcome) → TextEnds q threads text t file found o
+    → TextEnds q threads text t file found x → PrintAlike o x
+text_once q threads text t file found o x (unplanned e a) (unplanned f b) =
     alike o x (ap query_refused (unplanned_once q text t e f a b))
-text_once q text t file found o x (unplanned e a) (planned p x' b ends) = absurd (refused_not_planned q text t p e a b)
-text_once q text t file found o x (planned p o' a ends) (unplanned f b) = absurd (refused_not_planned q text t p f b a)
-text_once q text t file found o x (planned p o' a ends) (planned r x' b ends') =
-    records_once r.size file (IsAnswered q r) (answered_once q r) found o x
-    (subst (λ (y : Plan). RecordsEnd y.size file (IsAnswered q y) found o) (planned_once q text t p r a b) ends) ends'
+text_once q threads text t file found o x (unplanned e a) (planned p x' b ends) = absurd (refused_not_planned q text t p e a b)
+text_once q threads text t file found o x (planned p o' a ends) (unplanned f b) = absurd (refused_not_planned q text t p f b a)
+text_once q threads text t file found o x (planned p o' a ends) (planned r x' b ends') =
+    records_once (records_limit q) r.size file (IsAnswered q threads r) (answered_once q threads r) found o x
+    (subst (λ (y : Plan). RecordsEnd (records_limit q) y.size file (IsAnswered q threads y) found o) (planned_once q text t p r a b) ends) ends'
 
 -- ---- layouts
 
@@ -104,34 +108,43 @@ not_no_record t NoSize is denied = let some = is.sized in omega (arith, some, de
 not_no_record t ElementRagged is denied = denied.1 is.even
 not_no_record t e is denied = denied
 
-not_layout_refused : (bytes : List ℕ) (t : Tree) (e : Refusal) → IsRecordLayout bytes t → IsLayoutRefused bytes e → ⊥
-not_layout_refused bytes t e is denied = not_no_record t e is.records (subst (λ (r : Result Tree Refusal). IsNoRecordLayout r e) is.read denied.refused)
+-- nor is it one of which no records are
+admits : (q : Question) (t : Tree) (e : Refusal) → IsRecord t → IsSmall q t → IsNoRecordLayout q (Ok t) e → ⊥
+admits q t e is small (inl denied) = not_no_record t e is denied
+admits q t e is small (inr large) = large.1 small
+
+not_layout_refused : (q : Question) (bytes : List ℕ) (t : Tree) (e : Refusal) → IsRecordLayout q bytes t → IsLayoutRefused q bytes e → ⊥
+not_layout_refused q bytes t e is denied =
+    admits q t e is.records is.small (subst (λ (r : Result Tree Refusal). IsNoRecordLayout q r e) is.read denied.refused)
 
 -- a layout's file is refused for one reason
-no_layout_once : (r : Result Tree Refusal) (e f : Refusal) → IsNoRecordLayout r e → IsNoRecordLayout r f → e ≡ f
-no_layout_once (Err x) e f a b = a ∙ sym b
-no_layout_once (Ok t) e f a b = no_record_once t e f a b
+no_layout_once : (q : Question) (r : Result Tree Refusal) (e f : Refusal) → IsNoRecordLayout q r e → IsNoRecordLayout q r f → e ≡ f
+no_layout_once q (Err x) e f a b = a ∙ sym b
+no_layout_once q (Ok t) e f (inl a) (inl b) = no_record_once t e f a b
+no_layout_once q (Ok t) e f (inl a) (inr b) = absurd (not_no_record t e b.0 a)
+no_layout_once q (Ok t) e f (inr a) (inl b) = absurd (not_no_record t f a.0 b)
+no_layout_once q (Ok t) e f (inr a) (inr b) = a.2 ∙ sym b.2
 
-same_layouts : (bytes : List ℕ) (t u : Tree) → IsRecordLayout bytes t → IsRecordLayout bytes u → t ≡ u
-same_layouts bytes t u a b =
+same_layouts : (q : Question) (bytes : List ℕ) (t u : Tree) → IsRecordLayout q bytes t → IsRecordLayout q bytes u → t ≡ u
+same_layouts q bytes t u a b =
     let one = a.read in
     let two = b.read in
     cc
 
-ask_once : (q : Question) (layout text file : List ℕ) (last first : Option (List ℕ)) (o x : Outcome) → AskEnds q layout text file last first o
-    → AskEnds q layout text file last first x → PrintAlike o x
-ask_once q layout text file last first o x no_layout no_layout = alike o x refl
-ask_once q layout text file last first o x (long_layout bytes a) (long_layout bytes' b) = alike o x refl
-ask_once q layout text file last first o x (long_layout bytes a) (bad_layout bytes' f b) = absurd (omega (arith, a, b.short))
-ask_once q layout text file last first o x (long_layout bytes a) (over_layout bytes' u x' b ends) = absurd (omega (arith, a, b.short))
-ask_once q layout text file last first o x (bad_layout bytes e a) (long_layout bytes' b) = absurd (omega (arith, b, a.short))
-ask_once q layout text file last first o x (bad_layout bytes e a) (bad_layout bytes' f b) =
-    alike o x (ap layout_refused (no_layout_once (layout_of_json bytes) e f a.refused b.refused))
-ask_once q layout text file last first o x (bad_layout bytes e a) (over_layout bytes' u x' b ends) = absurd (not_layout_refused bytes u e b a)
-ask_once q layout text file last first o x (over_layout bytes t o' a ends) (long_layout bytes' b) = absurd (omega (arith, b, a.short))
-ask_once q layout text file last first o x (over_layout bytes t o' a ends) (bad_layout bytes' f b) = absurd (not_layout_refused bytes t f a b)
-ask_once q layout text file last first o x (over_layout bytes t o' a ends) (over_layout bytes' u x' b ends') =
-    text_once q text u file last o x (subst (λ (v : Tree). TextEnds q text v file last o) (same_layouts bytes t u a b) ends) ends'
+ask_once : (q : Question) (threads : ℕ) (layout text file : List ℕ) (last first : Option (List ℕ)) (o x : Outcome) → AskEnds q threads layout text file last first o
+    → AskEnds q threads layout text file last first x → PrintAlike o x
+ask_once q threads layout text file last first o x no_layout no_layout = alike o x refl
+ask_once q threads layout text file last first o x (long_layout bytes a) (long_layout bytes' b) = alike o x refl
+ask_once q threads layout text file last first o x (long_layout bytes a) (bad_layout bytes' f b) = absurd (omega (arith, a, b.short))
+ask_once q threads layout text file last first o x (long_layout bytes a) (over_layout bytes' u x' b ends) = absurd (omega (arith, a, b.short))
+ask_once q threads layout text file last first o x (bad_layout bytes e a) (long_layout bytes' b) = absurd (omega (arith, b, a.short))
+ask_once q threads layout text file last first o x (bad_layout bytes e a) (bad_layout bytes' f b) =
+    alike o x (ap layout_refused (no_layout_once q (layout_of_json bytes) e f a.refused b.refused))
+ask_once q threads layout text file last first o x (bad_layout bytes e a) (over_layout bytes' u x' b ends) = absurd (not_layout_refused q bytes u e b a)
+ask_once q threads layout text file last first o x (over_layout bytes t o' a ends) (long_layout bytes' b) = absurd (omega (arith, b, a.short))
+ask_once q threads layout text file last first o x (over_layout bytes t o' a ends) (bad_layout bytes' f b) = absurd (not_layout_refused q bytes t f a b)
+ask_once q threads layout text file last first o x (over_layout bytes t o' a ends) (over_layout bytes' u x' b ends') =
+    text_once q threads text u file last o x (subst (λ (v : Tree). TextEnds q threads text v file last o) (same_layouts q bytes t u a b) ends) ends'
 
 -- ---- demonstrations
 
@@ -154,10 +167,10 @@ IsOne request = Unit {0}
 request_once : (request : Request) (contents : Contents) (o x : Outcome) → IsOne request → IsOutcomeOver request contents o
     → IsOutcomeOver request contents x → PrintAlike o x
 request_once (Sum size at kind file) contents o x one a b =
-    records_once size file (IsSummed size at kind) (summed_once size at kind) (file_of contents file) o x a b
+    records_once record_file_limit size file (IsSummed size at kind) (summed_once size at kind) (file_of contents file) o x a b
 request_once (Layout text file) contents o x one a b = alike o x (a ∙ sym b)
 request_once (Ask q threads layout text file) contents o x one a b =
-    ask_once q layout text file (file_of contents file) (file_of contents layout) o x a b
+    ask_once q threads layout text file (file_of contents file) (file_of contents layout) o x a b
 request_once (Demo threads count) contents o x one a b = demo_once count o x a b
 request_once (Run file) contents o x one a b = absurd one
 

@@ -11,7 +11,6 @@ use Rattle.fm_base.specs.declared.refusal.Refusal.{Refusal}
 use Rattle.fm_base.specs.declared.refusal.Refusal.TheVariants.{Memory}
 use Rattle.fm_top.specs.Ending.{shown}
 use Rattle.fm_top.specs.Found.{IsFound, OfFound}
-use Rattle.fm_top_load.specs.Limits.{record_file_limit}
 use Rattle.fm_top.specs.Outcome.{Outcome, RecordsEnd, uneven, even, ragged, layout_of_file, too_long, layout_refused, query_refused, layout_file_limit}
 use Rattle.fm_top.specs.Queries.{IsLayoutRefused, IsUnplanned, TextEnds, unplanned, AskEnds, bad_layout}
 use Rattle.fm_top.specs.Run.{HasOutcome}
@@ -56,43 +55,43 @@ long_layout_ends text bytes long =
 module _ (q : Question) (threads : ℕ) (layout text file : List ℕ) (told : Option Contents) (o : Outcome) where
   -- the layout's file was read, and then the record file, of which the files still tell the same
   pub ask-whole : {bytes given : List ℕ} {later : Option Contents} → IsWhole told layout bytes → given ≡ bytes → later ≡ told
-      → OfFound later file (λ found. AskEnds q layout text file found (Some given) o) → HasOutcome (Ask q threads layout text file) told o
+      → OfFound later file (λ found. AskEnds q threads layout text file found (Some given) o) → HasOutcome (Ask q threads layout text file) told o
   ask-whole {bytes} {given} {later} whole same held ends =
-      let of_bytes = subst (λ (b : List ℕ). OfFound later file (λ found. AskEnds q layout text file found (Some b) o)) same ends in
-      (Some bytes, whole, subst (λ (x : Option Contents). OfFound x file (λ found. AskEnds q layout text file found (Some bytes) o)) held of_bytes)
+      let of_bytes = subst (λ (b : List ℕ). OfFound later file (λ found. AskEnds q threads layout text file found (Some b) o)) same ends in
+      (Some bytes, whole, subst (λ (x : Option Contents). OfFound x file (λ found. AskEnds q threads layout text file found (Some bytes) o)) held of_bytes)
 
 -- what an outcome of all that may be found is, is one of what is found
 pub some_end : (told : Option Contents) (name : List ℕ) (P : Option (List ℕ) → Type 0) → ((found : Option (List ℕ)) → P found) → OfFound told name P
 some_end told name P each = let found = some_found told name in (found.0, found.1, each found.0)
 
 -- whatever is found of the record file
-module _ (q : Question) (text file : List ℕ) (found : Option (List ℕ)) (o : Outcome) where
+module _ (q : Question) (threads : ℕ) (text file : List ℕ) (found : Option (List ℕ)) (o : Outcome) where
   -- the layout is refused
-  pub refused-layout : (layout bytes : List ℕ) (e : Refusal) → IsLayoutRefused bytes e ⊎ (e ≡ Memory) → e ≢ Memory → o ≡ layout_refused e
-      → AskEnds q layout text file found (Some bytes) o
+  pub refused-layout : (layout bytes : List ℕ) (e : Refusal) → IsLayoutRefused q bytes e ⊎ (e ≡ Memory) → e ≢ Memory → o ≡ layout_refused e
+      → AskEnds q threads layout text file found (Some bytes) o
   refused-layout layout bytes e (inr memory) other is = absurd (other memory)
   refused-layout layout bytes e (inl denied) other is =
-      subst (λ (x : Outcome). AskEnds q layout text file found (Some bytes) x) (sym is) (bad_layout bytes e denied)
+      subst (λ (x : Outcome). AskEnds q threads layout text file found (Some bytes) x) (sym is) (bad_layout bytes e denied)
 
   -- the text is refused
-  pub refused-text : (t : Tree) (e : Refusal) → (e ≢ Memory → IsUnplanned q text t e) → e ≢ Memory → o ≡ query_refused e → TextEnds q text t file found o
-  refused-text t e denied other is = subst (λ (x : Outcome). TextEnds q text t file found x) (sym is) (unplanned e (denied other))
+  pub refused-text : (t : Tree) (e : Refusal) → (e ≢ Memory → IsUnplanned q text t e) → e ≢ Memory → o ≡ query_refused e → TextEnds q threads text t file found o
+  refused-text t e denied other is = subst (λ (x : Outcome). TextEnds q threads text t file found x) (sym is) (unplanned e (denied other))
 
 -- the rest of so many bytes behind the last whole record was taken
-module _ (size : ℕ) (bytes : List ℕ) (Answers : List ℕ → Outcome → Type 0) {n rest : ℕ} (short : length bytes ≤ record_file_limit)
+module _ (limit size : ℕ) (bytes : List ℕ) (Answers : List ℕ → Outcome → Type 0) {n rest : ℕ} (short : length bytes ≤ limit)
     (is_rest : rest ≡ n % size) (is_count : n ≡ length bytes) where
   same_rest : rest ≡ length bytes % size
   same_rest = is_rest ∙ ap (λ (m : ℕ). m % size) is_count
 
   -- there is one, and the run ends so
   pub ragged_ends : (end : Result Ending AllocError) → (rest ≡ 0 → ⊥) → IfOk end (λ ending. shown ending ≡ ragged rest)
-      → IfOk end (λ ending. (file : List ℕ) → RecordsEnd size file Answers (Some bytes) (shown ending))
+      → IfOk end (λ ending. (file : List ℕ) → RecordsEnd limit size file Answers (Some bytes) (shown ending))
   ragged_ends end some ends = IfOk-weaker end _ _ (λ ending is file.
-      subst (λ (o : Outcome). RecordsEnd size file Answers (Some bytes) o) (sym (is ∙ ap ragged same_rest))
+      subst (λ (o : Outcome). RecordsEnd limit size file Answers (Some bytes) o) (sym (is ∙ ap ragged same_rest))
       (uneven bytes short (λ whole. some (same_rest ∙ whole)))) ends
 
   -- there is none, and the run answers
   pub even_ends : (end : Result Ending AllocError) → rest ≡ 0 → IfOk end (λ ending. Answers bytes (shown ending))
-      → IfOk end (λ ending. (file : List ℕ) → RecordsEnd size file Answers (Some bytes) (shown ending))
+      → IfOk end (λ ending. (file : List ℕ) → RecordsEnd limit size file Answers (Some bytes) (shown ending))
   even_ends end none ends =
       IfOk-weaker end _ _ (λ ending answers file. even bytes (shown ending) short (sym same_rest ∙ none) answers) ends

@@ -1,11 +1,12 @@
 -- What texts come to.
-use Rattle.std.proofs.Common.{◌≡◌, ℕ, List, Result, Ok, Err, IfOk, IfErr, subst, sym, ◌∙◌}
+use Rattle.std.proofs.Common.{◌≡◌, ℕ, ◌≤◌, List, Result, Ok, Err, IfOk, IfErr, subst, sym, ◌∙◌}
 use Rattle.fm_layout.specs.Tree.{Tree}
 use Rattle.fm_records_query.specs.Plan.{Plan}
 use Rattle.fm_workers.specs.Counts.{IsTally}
-use Rattle.fm_top.specs.Queries.{IsPlanned}
+use Rattle.fm_top_stream.specs.Chunks.{most_chunk}
+use Rattle.fm_top.specs.Queries.{IsPlanned, IsSmall}
 use Rattle.fm_top.specs.declared.command.question.Question.{Question}
-use Rattle.fm_top.specs.declared.command.question.Question.TheVariants.{Query, Tally}
+use Rattle.fm_top.specs.declared.command.question.Question.TheVariants.{Query, Stream, Tally}
 
 -- what is known of an answer
 pub of_ok : {T E : Type 0} {answered answer : Result T E} {x : T} (P : T → Type 0) → answer ≡ answered → answer ≡ Ok x → IfOk answered P → P x
@@ -17,4 +18,11 @@ of_err P same is known = subst (λ r. IfErr r P) (sym same ∙ is) known
 -- the plan of a tally lists bytes or booleans
 pub tally_planned : (q : Question) (text : List ℕ) (t : Tree) (p : Plan) → IsPlanned q text t p → q ≡ Tally → IsTally p
 tally_planned Query text t p plan is = absurd (cc)
+tally_planned Stream text t p plan is = absurd (cc)
 tally_planned Tally text t p plan is = plan.bytes
+
+-- the plan of a stream has records that have room in a chunk
+pub stream_planned : (q : Question) (text : List ℕ) (t : Tree) (p : Plan) → IsPlanned q text t p → IsSmall q t → q ≡ Stream → p.size ≤ most_chunk
+stream_planned Query text t p plan small is = absurd (cc)
+stream_planned Stream text t p plan small is = subst (λ n. n ≤ most_chunk) (sym plan.is_plan.size) small
+stream_planned Tally text t p plan small is = absurd (cc)

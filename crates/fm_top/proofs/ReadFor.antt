@@ -6,10 +6,10 @@ use Rattle.fm_io.specs.Reads.{Read, ReadsOn, Next, Ended}
 use Rattle.fm_io.proofs.Followed.{ReadsOn-none, ReadsOn-append}
 use Rattle.fm_records_query.specs.Plan.{Plan}
 use Rattle.fm_top.specs.Causes.{IsAsked}
-use Rattle.fm_top_load.specs.Limits.{record_file_limit}
 use Rattle.fm_top.specs.Outcome.{layout_file_limit}
 use Rattle.fm_top_load.specs.Reading.{ReadsUpTo}
-use Rattle.fm_top.specs.Reading.{ReadsIf, AreReadsOf, first_limit, ReadsFor}
+use Rattle.fm_top.specs.Reading.{ReadsIf, AreReadsOf, first_limit, last_limit, ReadsFor}
+use Rattle.fm_top.specs.Queries.{records_limit}
 use Rattle.fm_top_load.specs.Whole.{IsWhole}
 use Rattle.fm_top.specs.Words.{Request, Ask, first_file, last_file}
 use Rattle.fm_top.specs.declared.command.question.Question.{Question}
@@ -25,7 +25,7 @@ no_reads {request} {told} {reads} = record {
   last = [];
   noted = ReadsOn-none reads;
   first_is = none_of (first_file request) (first_limit request);
-  last_is = none_of (last_file request) record_file_limit;
+  last_is = none_of (last_file request) (last_limit request);
   in_place = λ some. absurd (some refl);
 }
 
@@ -52,14 +52,14 @@ first_reads request told {old} {new} is reads = record {
   last = [];
   noted = only_first old new reads.reads reads.noted;
   first_is = subst (λ (file : Option (List ℕ)). AreReadsOf file (first_limit request) reads.reads) (sym is) reads.follow;
-  last_is = none_of (last_file request) record_file_limit;
+  last_is = none_of (last_file request) (last_limit request);
   in_place = λ some. absurd (some refl);
 }
 
 -- both files were read, the second for what was found in the first
 pub ask_both : (q : Question) (threads : ℕ) (layout text file : List ℕ) (told : Option Contents) {bytes given : List ℕ} {old mid new : Option (List Read)}
     → IsWhole told layout bytes → given ≡ bytes → ReadsUpTo old mid layout layout_file_limit (λ next. next ≡ Ended)
-    → ReadsIf mid new file record_file_limit ((p : Plan) × IsAsked q (Some given) text p) → ReadsFor (Ask q threads layout text file) told old new
+    → ReadsIf mid new file (records_limit q) ((p : Plan) × IsAsked q (Some given) text p) → ReadsFor (Ask q threads layout text file) told old new
 ask_both q threads layout text file told {bytes} {given} {old} {mid} {new} whole same first last = record {
   first = first.reads;
   last = last.reads;

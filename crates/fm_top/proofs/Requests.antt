@@ -12,7 +12,7 @@ use Rattle.fm_top.specs.Words.{Request, Sum, Layout, Ask, Demo, Run, Asks, IsSum
 use Rattle.fm_top.specs.declared.command.layout_text.LayoutText.{LayoutText}
 use Rattle.fm_top.specs.declared.command.layout_text.LayoutText.TheVariants.{Places, Json}
 use Rattle.fm_top.specs.declared.command.question.Question.{Question}
-use Rattle.fm_top.specs.declared.command.question.Question.TheVariants.{Query, Tally}
+use Rattle.fm_top.specs.declared.command.question.Question.TheVariants.{Query, Stream, Tally}
 use Rattle.fm_top.proofs.Threaded.{one_count}
 
 same_sum : (words : List (List ℕ)) (n m n' m' : ℕ) (kind kind' : ValueKind) (file file' : List ℕ)
@@ -68,8 +68,13 @@ other_words v w other same = other (ap (λ (x : List ℕ). get_or x 0 0) same)
 
 one_question : (q r : Question) → question_word q ≡ question_word r → q ≡ r
 one_question Query Query is = refl
+one_question Query Stream is = absurd (other_words (codes "query") (codes "stream") (λ (e : 113 ≡ 115). omega (arith, e)) is)
 one_question Query Tally is = absurd (other_words (codes "query") (codes "tally") (λ (e : 113 ≡ 116). omega (arith, e)) is)
+one_question Stream Query is = absurd (other_words (codes "stream") (codes "query") (λ (e : 115 ≡ 113). omega (arith, e)) is)
+one_question Stream Stream is = refl
+one_question Stream Tally is = absurd (other_words (codes "stream") (codes "tally") (λ (e : 115 ≡ 116). omega (arith, e)) is)
 one_question Tally Query is = absurd (other_words (codes "tally") (codes "query") (λ (e : 116 ≡ 113). omega (arith, e)) is)
+one_question Tally Stream is = absurd (other_words (codes "tally") (codes "stream") (λ (e : 116 ≡ 115). omega (arith, e)) is)
 one_question Tally Tally is = refl
 
 one_text : (t u : LayoutText) → layout_word t ≡ layout_word u → t ≡ u
@@ -131,6 +136,7 @@ words_sort (w ∷ ws) = word_sort w
 question_sort : (q : Question) → word_sort (question_word q) ≡ 2
 unfolding word_sort
 question_sort Query = refl
+question_sort Stream = refl
 question_sort Tally = refl
 
 text_sort : (text : LayoutText) → word_sort (layout_word text) ≡ 1

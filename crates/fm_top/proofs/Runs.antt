@@ -6,7 +6,7 @@ use Rattle.fm_top.specs.Ending.{TellsMiss}
 use Rattle.fm_top.specs.Found.{OfFile}
 use Rattle.fm_top.specs.Outcome.{Outcome}
 use Rattle.fm_top.specs.Run.{EndsBy, HasOutcome, IsOutcome, faulty, asked, Traces, Prints, printed, failed, stopped, Runs, ended, unread, unknown, TellsMissing, code_of, EndsWith}
-use Rattle.fm_top.specs.Words.{Request, Sum, Layout, Ask, Demo, Run, Asks, CanBeAsked, AreFaulty, first_file, last_file}
+use Rattle.fm_top.specs.Words.{Request, Sum, Ask, Demo, Asks, CanBeAsked, AreFaulty, first_file, last_file}
 use Rattle.fm_top.specs.declared.outcome.left.Left.{Left}
 use Rattle.fm_top.specs.declared.outcome.status.Status.{Status}
 use Rattle.fm_top.specs.declared.outcome.status.Status.TheVariants.{Answered, Usage, Missing, Unread, LayoutRefused, QueryRefused, Ragged, TooLong, Unwritten, NoMemory, ScriptRefused}

@@ -9,7 +9,7 @@ use Rattle.fm_script_text.specs.Scripts.{IsRefused as IsScriptRefused}
 use Rattle.fm_top_load.specs.Limits.{record_file_limit}
 use Rattle.fm_top.specs.Found.{file_under}
 use Rattle.fm_top.specs.Outcome.{layout_file_limit, script_file_limit}
-use Rattle.fm_top.specs.Queries.{IsRecordLayout, IsLayoutRefused, IsPlanned, IsUnplanned}
+use Rattle.fm_top.specs.Queries.{IsRecordLayout, IsLayoutRefused, IsPlanned, IsUnplanned, records_limit}
 use Rattle.fm_top.specs.Words.{Request, Sum, Layout, Ask, Demo, Run, first_file, last_file}
 use Rattle.fm_top.specs.declared.command.question.Question.{Question}
 
@@ -23,7 +23,7 @@ IsRefused r = (refusal : Refusal) × (r ≡ Err refusal)
 
 -- over records of the layout that was found the text comes to this plan
 abbrev pub IsAsked : Question → Option (List ℕ) → List ℕ → Plan → Type 0
-IsAsked q found text p = IsSomeAnd found (λ bytes. (t : Tree) × IsRecordLayout bytes t × IsPlanned q text t p)
+IsAsked q found text p = IsSomeAnd found (λ bytes. (t : Tree) × IsRecordLayout q bytes t × IsPlanned q text t p)
 
 -- a file is missing
 abbrev pub LacksFile : Request → Option (List ℕ) → Option (List ℕ) → Type 0
@@ -40,7 +40,7 @@ abbrev pub HasLongFile : Request → Option (List ℕ) → Option (List ℕ) →
 HasLongFile (Sum size at kind file) first last = IsLong first record_file_limit
 HasLongFile (Layout text file) first last = IsLong first layout_file_limit
 HasLongFile (Ask q threads layout text file) first last =
-    IsLong first layout_file_limit ⊎ ((p : Plan) × IsAsked q first text p × IsLong last record_file_limit)
+    IsLong first layout_file_limit ⊎ ((p : Plan) × IsAsked q first text p × IsLong last (records_limit q))
 HasLongFile (Demo threads count) first last = ⊥
 HasLongFile (Run file) first last = IsLong first script_file_limit
 
@@ -48,23 +48,23 @@ HasLongFile (Run file) first last = IsLong first script_file_limit
 abbrev pub HasRefusedLayout : Request → Option (List ℕ) → Option (List ℕ) → Type 0
 HasRefusedLayout (Layout text file) first last =
     IsSomeAnd first (λ bytes. (length bytes ≤ layout_file_limit) × IsRefused (layout_of_json bytes))
-HasRefusedLayout (Ask q threads layout text file) first last = IsSomeAnd first (λ bytes. (e : Refusal) × IsLayoutRefused bytes e)
+HasRefusedLayout (Ask q threads layout text file) first last = IsSomeAnd first (λ bytes. (e : Refusal) × IsLayoutRefused q bytes e)
 HasRefusedLayout request first last = ⊥
 
 -- the query or the path is refused
 abbrev pub HasRefusedQuery : Request → Option (List ℕ) → Option (List ℕ) → Type 0
 HasRefusedQuery (Ask q threads layout text file) first last =
-    IsSomeAnd first (λ bytes. (t : Tree) × IsRecordLayout bytes t × (e : Refusal) × IsUnplanned q text t e)
+    IsSomeAnd first (λ bytes. (t : Tree) × IsRecordLayout q bytes t × (e : Refusal) × IsUnplanned q text t e)
 HasRefusedQuery request first last = ⊥
 
--- what was found is within the limit of record files, and its length is no multiple of the size
-abbrev pub IsUneven : Option (List ℕ) → ℕ → Type 0
-IsUneven found size = IsSomeAnd found (λ bytes. (length bytes ≤ record_file_limit) × (length bytes % size ≢ 0))
+-- what was found is within the limit, and its length is no multiple of the size
+abbrev pub IsUneven : Option (List ℕ) → (limit size : ℕ) → Type 0
+IsUneven found limit size = IsSomeAnd found (λ bytes. (length bytes ≤ limit) × (length bytes % size ≢ 0))
 
 -- the record file is no whole number of records
 abbrev pub HasRaggedFile : Request → Option (List ℕ) → Option (List ℕ) → Type 0
-HasRaggedFile (Sum size at kind file) first last = IsUneven first size
-HasRaggedFile (Ask q threads layout text file) first last = (p : Plan) × IsAsked q first text p × IsUneven last p.size
+HasRaggedFile (Sum size at kind file) first last = IsUneven first record_file_limit size
+HasRaggedFile (Ask q threads layout text file) first last = (p : Plan) × IsAsked q first text p × IsUneven last (records_limit q) p.size
 HasRaggedFile request first last = ⊥
 
 -- the script is refused

@@ -83,15 +83,15 @@ answered_by_pool text finished = record { status = Answered; text = text; left =
 abbrev pub reported : ReportView → Outcome
 reported report = record { status = Answered; text = report_text report; left = Report report }
 
--- how a command ends that cuts the file of this name into records of so many bytes, where this is found under the name,
+-- how a command ends that cuts the file of this name, which may have so many bytes, into records of this size, where this is found under the name,
 -- and `Answers` says how for whole records
-pub data RecordsEnd (size : ℕ) (file : List ℕ) (Answers : List ℕ → Outcome → Type 0) : Option (List ℕ) → Outcome → Type 0 where
-  no_file : RecordsEnd size file Answers None (missing file)
-  too_many : (bytes : List ℕ) → record_file_limit < length bytes → RecordsEnd size file Answers (Some bytes) too_long
-  uneven : (bytes : List ℕ) → length bytes ≤ record_file_limit → length bytes % size ≢ 0
-      → RecordsEnd size file Answers (Some bytes) (ragged (length bytes % size))
-  even : (bytes : List ℕ) (o : Outcome) → length bytes ≤ record_file_limit → length bytes % size ≡ 0 → Answers bytes o
-      → RecordsEnd size file Answers (Some bytes) o
+pub data RecordsEnd (limit size : ℕ) (file : List ℕ) (Answers : List ℕ → Outcome → Type 0) : Option (List ℕ) → Outcome → Type 0 where
+  no_file : RecordsEnd limit size file Answers None (missing file)
+  too_many : (bytes : List ℕ) → limit < length bytes → RecordsEnd limit size file Answers (Some bytes) too_long
+  uneven : (bytes : List ℕ) → length bytes ≤ limit → length bytes % size ≢ 0
+      → RecordsEnd limit size file Answers (Some bytes) (ragged (length bytes % size))
+  even : (bytes : List ℕ) (o : Outcome) → length bytes ≤ limit → length bytes % size ≡ 0 → Answers bytes o
+      → RecordsEnd limit size file Answers (Some bytes) o
 
 -- what `sum` prints for a file
 abbrev pub sum_text : ℕ → ℕ → ValueKind → List ℕ → List ℕ
@@ -103,7 +103,7 @@ IsSummed size at kind bytes o = o ≡ answered (sum_text size at kind bytes)
 
 -- how it ends where this is found under its file's name
 abbrev pub SumEnds : ℕ → ℕ → ValueKind → List ℕ → Option (List ℕ) → Outcome → Type 0
-SumEnds size at kind file found o = RecordsEnd size file (IsSummed size at kind) found o
+SumEnds size at kind file found o = RecordsEnd record_file_limit size file (IsSummed size at kind) found o
 
 -- what `layout` prints of a layout, and what `migrate` prints
 abbrev pub printed : LayoutText → Tree → List ℕ

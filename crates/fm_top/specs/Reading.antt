@@ -8,6 +8,7 @@ use Rattle.fm_records_query.specs.Plan.{Plan}
 use Rattle.fm_top.specs.Causes.{IsAsked}
 use Rattle.fm_top.specs.Found.{OfFile}
 use Rattle.fm_top.specs.Outcome.{layout_file_limit, script_file_limit}
+use Rattle.fm_top.specs.Queries.{records_limit}
 use Rattle.fm_top.specs.Words.{Request, Sum, Layout, Ask, Demo, Run, first_file, last_file}
 
 -- A file was read so, if at all; where it was, this holds.
@@ -30,6 +31,11 @@ first_limit (Ask q threads layout text file) = layout_file_limit
 first_limit (Demo threads count) = 0
 first_limit (Run file) = script_file_limit
 
+-- the most bytes of the file that is read behind it
+abbrev pub last_limit : Request → ℕ
+last_limit (Ask q threads layout text file) = records_limit q
+last_limit request = record_file_limit
+
 -- for this that was found first, a second file is read: the layout and the text stand
 abbrev pub NeedsLast : Request → Option (List ℕ) → Type 0
 NeedsLast (Ask q threads layout text file) first = (p : Plan) × IsAsked q first text p
@@ -41,5 +47,5 @@ pub record ReadsFor (request : Request) (told : Option Contents) (old new : Opti
   pub last : List Read
   pub noted : ReadsOn old new (first ++ last)
   pub first_is : AreReadsOf (first_file request) (first_limit request) first
-  pub last_is : AreReadsOf (last_file request) record_file_limit last
+  pub last_is : AreReadsOf (last_file request) (last_limit request) last
   pub in_place : last ≢ [] → (next_after (At 0) first ≡ Ended) × OfFile told (first_file request) (NeedsLast request)

@@ -106,9 +106,10 @@ pub record IsThreaded (words : List (List ℕ)) (command : List ℕ) (threads : 
 -- the command by which it is asked
 abbrev pub question_word : Question → List ℕ
 question_word question.Query = codes "query"
+question_word question.Stream = codes "stream"
 question_word question.Tally = codes "tally"
 
--- `query [--threads N] LAYOUT QUERY FILE` or `tally [--threads N] LAYOUT PATH FILE`
+-- `query [--threads N] LAYOUT QUERY FILE`, `stream` with the same words, or `tally [--threads N] LAYOUT PATH FILE`
 abbrev pub IsAsk : List (List ℕ) → Question → ℕ → List ℕ → List ℕ → List ℕ → Type 0
 IsAsk words q threads layout text file = IsThreaded words (question_word q) threads (three layout text file)
 

@@ -65,6 +65,9 @@ pub fn command_of<'a>(
     if let Some(ask) = ask_words(alloc, words, Question::Query)? {
         return Ok(Some(Subcommand::Ask(ask)));
     }
+    if let Some(ask) = ask_words(alloc, words, Question::Stream)? {
+        return Ok(Some(Command::Ask(ask)));
+    }
     if let Some(ask) = ask_words(alloc, words, Question::Tally)? {
         return Ok(Some(Subcommand::Ask(ask)));
     }

@@ -20,6 +20,7 @@ mod plan;
 mod query;
 mod script;
 mod status;
+mod stream;
 mod sum;
 mod sum_values;
 mod tally;

@@ -28,7 +28,7 @@ whole_file : (file : Option (List ℕ)) (bytes : List ℕ) → MatchOption file 
 whole_file None bytes from ends = absurd ends
 whole_file (Some f) bytes from ends = ap Some (sym (from ∙ take_all (length bytes) f ends))
 
-first_to_last : (told : Option Contents) (name bytes : List ℕ) → AreBytesFrom told name 0 bytes → EndsBefore told name (length bytes) → IsWhole told name bytes
+pub first_to_last : (told : Option Contents) (name bytes : List ℕ) → AreBytesFrom told name 0 bytes → EndsBefore told name (length bytes) → IsWhole told name bytes
 first_to_last None name bytes from ends = tt
 first_to_last (Some contents) name bytes from ends = whole_file (file_of contents name) bytes from ends
 

@@ -7,7 +7,7 @@ use Rattle.fm_base.specs.declared.arena_id.ArenaId.{ArenaId}
 use Rattle.fm_base.specs.declared.kind.Kind.{Kind}
 use Rattle.fm_base.specs.declared.refusal.Refusal.{Refusal}
 use Rattle.fm_base.specs.declared.refusal.Refusal.TheVariants as refusal
-use Rattle.fm_base.specs.Arenas.{State, Arena, MayUse, changed, arena_of, has_arena}
+use Rattle.fm_base.specs.Arenas.{State, Arena, MayUse, changed, arena_of, has_arena, same_id}
 use Rattle.fm_base.specs.Calls.{Call, Open, Enter, Read, Write, SwapIf, Add, Allocate, Leave, Hold, Unhold, Shut, End, Lend, Back, Reply, Fine, Closed, Given, NoRoom, Entry, entry_of}
 use Rattle.fm_base.specs.Does.{DidAllocate, DidOpen}
 use Rattle.fm_base.specs.Histories.{IsLegal, state_after}
@@ -22,7 +22,7 @@ use Rattle.fm_base_bytes.proofs.Words.{length-bytes_in}
 use Rattle.fm_segment_access.specs.Alone.{ChangesBytes, bytes_of_arena, with_words}
 use Rattle.fm_segment_access.proofs.Splicing.{keeps_count}
 use Rattle.fm_segment_access.proofs.Visits.{visit_stays}
-use Rattle.fm_top_load.specs.Held.{IsHeld, IsEmpty, HoldsThen, OnlyIn, Wants, words_at}
+use Rattle.fm_top_load.specs.Held.{IsHeld, IsEmpty, HoldsThen, OnlyIn, Wants, names_in, words_at}
 use Rattle.fm_base.specs.Outcomes.{Nature, MayRefuse, FoundNoneFree}
 use Rattle.fm_base.specs.Finds.{is_page}
 use Rattle.std.proofs.lemmas.List.{length-replicate}
@@ -191,7 +191,7 @@ has_room v w a size given h room did =
     cc
 
 -- an allocation that fits and is refused leaves the state
-refusal_stays : (v w : View) (a : ArenaId) (size : ℕ) (r : Refusal) → IsHeld v a → rounded_up (given_in v a) 8 + size ≤ v.limit
+pub refusal_stays : (v w : View) (a : ArenaId) (size : ℕ) (r : Refusal) → IsHeld v a → rounded_up (given_in v a) 8 + size ≤ v.limit
     → DidAllocate v w a size 8 (Err r) → w.state ≡ v.state
 unfolding ones
 refusal_stays v w a size refusal.Memory h room did = (did_only v w did.own [] h.by_itself did.makes did.does.2).state
@@ -233,17 +233,29 @@ put_still v w own a place bytes h makes out ch last =
 
 -- ---- what stays elsewhere
 
-only_changed : (s t : State) (a : ArenaId) (f : Arena → Arena) → KeepsName f → t ≡ changed s a f → OnlyIn a s t
+-- a change of one arena leaves their names
+pub changed_names : (f : Arena → Arena) → KeepsName f → (s : State) (a : ArenaId) → names_in (changed s a f) ≡ names_in s
+changed_names f named [] a = refl
+changed_names f named (x ∷ s) a =
+    let P : Bool → Type 0 = λ b. names_in (if b then f x ∷ s else x ∷ changed s a f) ≡ names_in (x ∷ s) in
+    let go : (b : Bool) → P b = λ b. elim b as P [
+      | true ↦ ap (λ n. n ∷ names_in s) (named x)
+      | false ↦ ap (λ ns. x.id ∷ ns) (changed_names f named s a)
+    ] in
+    go (same_id x.id a)
+
+pub only_changed : (s t : State) (a : ArenaId) (f : Arena → Arena) → KeepsName f → t ≡ changed s a f → OnlyIn a s t
 only_changed s t a f named is =
     let P : Arena → Arena → Type 0 = λ x y. x.id ≢ a → y ≡ x in
     let here : P (arena_of s a) (f (arena_of s a)) = λ n. absurd (n (arena_of-id s a)) in
     record {
+      names = ap names_in is ∙ changed_names f named s a;
       arenas = λ b. ap (λ (u : State). has_arena u b) is ∙ changed_has f named s a b;
       others = λ b n. ap (λ (u : State). arena_of u b) is ∙ changed_lookup P f named (λ x m. refl) s a here b (λ e. n (sym (arena_of-id s b) ∙ e));
     }
 
-only_same : (s t : State) (a : ArenaId) → t ≡ s → OnlyIn a s t
-only_same s t a is = record { arenas = λ b. ap (λ (u : State). has_arena u b) is; others = λ b n. ap (λ (u : State). arena_of u b) is }
+pub only_same : (s t : State) (a : ArenaId) → t ≡ s → OnlyIn a s t
+only_same s t a is = record { names = ap names_in is; arenas = λ b. ap (λ (u : State). has_arena u b) is; others = λ b n. ap (λ (u : State). arena_of u b) is }
 
 pub allocated_only : (v w : View) (a : ArenaId) (size place : ℕ) → IsHeld v a → DidAllocate v w a size 8 (Ok place) → OnlyIn a v.state w.state
 allocated_only v w a size place h did =

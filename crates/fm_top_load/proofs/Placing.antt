@@ -1,23 +1,37 @@
 -- A file that is put into an arena piece by piece.
-use Rattle.std.proofs.Common.{◌≡◌, ℕ, ◌+◌, ◌-◌, ◌≤◌, List, [], ◌∷◌, ◌++◌, length, take, Bool, Option, Ok, refl, ap, sym, subst, ◌∙◌, arith}
+use Rattle.std.proofs.Common.{◌≡◌, ℕ, ◌+◌, ◌-◌, ◌<◌, ◌≤◌, List, [], ◌∷◌, ◌++◌, length, take, Bool, false, Option, Ok, refl, ap, sym, subst, ◌∙◌, arith, length-append}
 use Rattle.std.proofs.lemmas.List.{length-take-le}
 use Rattle.fm_base.specs.declared.arena_id.ArenaId.{ArenaId}
 use Rattle.fm_base.specs.declared.caller.Caller.{Caller}
+use Rattle.fm_base.specs.Arenas.{State}
 use Rattle.fm_base.specs.View.{View, Did}
 use Rattle.fm_base.proofs.Making.{Makes-then, Makes-none}
 use Rattle.fm_base_bytes.specs.Bytes.{AreBytes}
 use Rattle.fm_base_bytes.proofs.Words.{length-bytes_in}
 use Rattle.fm_segment_access.specs.Alone.{bytes_of_arena, with_bytes}
 use Rattle.fm_segment_access.specs.Runs.{DoesPutAll}
-use Rattle.fm_io.specs.Files.{Contents}
+use Rattle.fm_io.specs.Files.{Contents, AreBytesFrom, EndsBefore}
+use Rattle.fm_io.proofs.Filled.{AreBytesFrom-append}
 use Rattle.fm_top_load.specs.Filling.{no_run, run}
-use Rattle.fm_top_load.specs.Held.{IsHeld, PutsHeld, words_at}
-use Rattle.fm_top_load.specs.Reached.{IsNext, PutsWithin}
+use Rattle.fm_top_load.specs.Held.{IsHeld, OnlyIn, PutsHeld, words_at}
+use Rattle.fm_top_load.specs.Reached.{IsNext, IsNextPiece, PutsWithin}
 use Rattle.fm_top_load.specs.Reading.{piece_limit}
 use Rattle.fm_top_load.specs.declared.chunk.Chunk.{Chunk}
-use Rattle.fm_top_load.specs.Whole.{IsChunk, TakesChunk}
+use Rattle.fm_top_load.specs.Whole.{IsChunk, IsCut, TakesChunk}
 use Rattle.fm_top_load.proofs.Chunks.{takes_chunk}
 use Rattle.fm_top_load.proofs.GivenBytes.{put_behind}
+
+-- nothing changed
+pub only_here : {s : State} {a : ArenaId} → OnlyIn a s s
+only_here = record { names = refl; arenas = λ b. refl; others = λ b n. refl }
+
+-- the arena alone changed, and then again
+pub only_then : {s t u : State} {a : ArenaId} → OnlyIn a s t → OnlyIn a t u → OnlyIn a s u
+only_then first next = record {
+  names = next.names ∙ first.names;
+  arenas = λ b. next.arenas b ∙ first.arenas b;
+  others = λ b n. next.others b n ∙ first.others b n;
+}
 
 -- nothing was put
 pub puts_none : {x : View} {a : ArenaId} (room : ℕ) → IsHeld x a → PutsWithin x x a room
@@ -25,7 +39,7 @@ puts_none {x} {a} room held = record {
   did = record { own = []; does = no_run; makes = Makes-none x };
   still = held;
   given = refl;
-  elsewhere = record { arenas = λ b. refl; others = λ b n. refl };
+  elsewhere = only_here;
 }
 
 -- one run behind others
@@ -33,7 +47,6 @@ puts_then : {x y z : View} {a : ArenaId} {room : ℕ} (place : ℕ) (bytes : Lis
     → place + length bytes ≤ room → Did y z (DoesPutAll y.caller a place bytes (Ok tt)) → PutsHeld y z a place bytes → PutsWithin x z a room
 puts_then {x} {y} {z} {a} {room} place bytes first are fits e put =
     let d = first.did in
-    let only = first.elsewhere in
     record {
       did = record {
         own = d.own ++ e.own;
@@ -43,7 +56,7 @@ puts_then {x} {y} {z} {a} {room} place bytes first are fits e put =
       };
       still = put.held;
       given = put.given ∙ first.given;
-      elsewhere = record { arenas = λ b. put.elsewhere.arenas b ∙ only.arenas b; others = λ b n. put.elsewhere.others b n ∙ only.others b n };
+      elsewhere = only_then first.elsewhere put.elsewhere;
     }
 
 -- an arena that is held has bytes for all that is within the limit
@@ -89,3 +102,74 @@ puts_chunk {x} {y} {z} {a} {room} {limit} {at} {told} {name} {buffer} {chunk} ol
 pub none_taken : (bytes : List ℕ) → take 0 bytes ≡ []
 none_taken [] = refl
 none_taken (b ∷ bs) = refl
+
+-- ---- a chunk of a file, piece by piece
+
+-- the pieces of a chunk that were put so far are the file's bytes from the place on
+pub record PutsPieces (old new : View) (a : ArenaId) (room : ℕ) (told : Option Contents) (name : List ℕ) (place size : ℕ) : Type 0 where
+  pub puts : PutsWithin old new a room
+  pub first : AreBytesFrom told name place (take size (bytes_of_arena new.state a))
+  pub count : length (take size (bytes_of_arena new.state a)) ≡ size
+
+pub puts_pieces : {x y z : View} {a : ArenaId} {room limit most place size : ℕ} {told : Option Contents} {name buffer : List ℕ} {piece : Chunk}
+    → PutsWithin x y a room → room ≤ x.limit → size + piece.count ≤ room → length buffer ≡ piece_limit
+    → IsNextPiece limit most told name (place + size) buffer piece → AreBytes (take piece.count buffer)
+    → AreBytesFrom told name place (take size (bytes_of_arena y.state a)) → Did y z (DoesPutAll y.caller a size (take piece.count buffer) (Ok tt))
+    → PutsHeld y z a size (take piece.count buffer) → PutsPieces x z a room told name place (size + piece.count)
+puts_pieces {x} {y} {z} {a} {room} {limit} {most} {place} {size} {told} {name} {buffer} {piece} old all fits sized next are first did put =
+    let bytes = take piece.count buffer in
+    let small = next.small in
+    let long : length bytes ≡ piece.count = length-take-le piece.count buffer (omega (arith, small, sized)) in
+    let limits = old.did.makes.same_limit in
+    let before = bytes_of_arena y.state a in
+    let there : size ≤ length before = has_bytes size old.still (omega (arith, fits, all, limits)) in
+    let start : length (take size before) ≡ size = length-take-le size before there in
+    let is : take (size + piece.count) (bytes_of_arena z.state a) ≡ take size before ++ bytes =
+    ap (λ n. take (size + n) (bytes_of_arena z.state a)) (sym long) ∙ ap (take (size + length bytes)) put.stand ∙ put_behind before bytes size there in
+    record {
+      puts = puts_then size bytes old are (omega (arith, fits, long)) did put;
+      first = subst (AreBytesFrom told name place) (sym is)
+          (AreBytesFrom-append told name (take size before) bytes place first
+          (subst (λ n. AreBytesFrom told name (place + n) bytes) (sym start) next.bytes.bytes));
+      count = ap length is ∙ length-append (take size before) bytes ∙ omega (arith, start, long);
+    }
+
+-- A piece that is the first of a chunk is read behind none.
+pub next_first : {limit most place : ℕ} {told : Option Contents} {name buffer : List ℕ} {piece : Chunk} → IsNextPiece limit most told name place buffer piece
+    → IsNextPiece limit (most - 0) told name (place + 0) buffer piece
+next_first {limit} {most} {place} {told} {name} {buffer} {piece} next =
+    let left : most ≡ most - 0 = omega arith in
+    let at : place ≡ place + 0 = omega arith in
+    subst (λ (n : ℕ × ℕ). IsNextPiece limit n.0 told name n.1 buffer piece) (λ i. (left i, at i)) next
+
+module _ {limit most size : ℕ} (place : ℕ) {told : Option Contents} {name buffer : List ℕ} {piece : Chunk} (sized : length buffer ≡ piece_limit)
+    (below : size < most) (next : IsNextPiece limit (most - size) told name (place + size) buffer piece) where
+  long : length (take piece.count buffer) ≡ piece.count
+  long = let small = next.small in length-take-le piece.count buffer (omega (arith, small, sized))
+
+  -- It has room in the chunk, and in the file.
+  pub piece_fits : size + piece.count ≤ most
+  piece_fits = let within = next.bytes.within in omega (arith, within, long, below)
+
+  pub piece_short : place + (size + piece.count) ≤ limit
+  piece_short = let short = next.bytes.short in omega (arith, short, long)
+
+  -- A piece that the file goes on behind has bytes.
+  pub piece_grows : piece.ended ≡ false → 0 < piece.count
+  piece_grows goes = let full = next.bytes.full goes in omega (arith, full, long, below)
+
+  -- The chunk's last piece.
+  pub is_cut : {x z : View} {a : ArenaId} {room : ℕ} → PutsPieces x z a room told name place (size + piece.count)
+      → (piece.ended ≡ false → size + piece.count ≡ most)
+      → IsCut limit most told name place (take (size + piece.count) (bytes_of_arena z.state a)) piece.ended
+  is_cut {x} {z} {a} {room} put full =
+      let count = put.count in
+      record {
+        bytes_are = put.first;
+        short = (let short = piece_short in omega (arith, count, short));
+        within = (let fits = piece_fits in omega (arith, count, fits));
+        full = λ goes. let all = full goes in omega (arith, count, all);
+        ends = λ last.
+            let at : place + size + length (take piece.count buffer) ≡ place + length (take (size + piece.count) (bytes_of_arena z.state a)) = omega (arith, count, long) in
+            subst (EndsBefore told name) at (next.bytes.ends last);
+      }

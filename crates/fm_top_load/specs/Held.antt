@@ -1,9 +1,9 @@
 -- An arena that a caller by itself holds, and the bytes that were loaded into it.
-use Rattle.std.specs.Prelude.{◌≡◌, ◌≢◌, ℕ, ◌+◌, ◌≤◌, ◌^◌, true, List, ◌++◌, None, Result, IfOk, OnOk, OnErr, length, IsTrue}
+use Rattle.std.specs.Prelude.{◌≡◌, ◌≢◌, ℕ, ◌+◌, ◌≤◌, ◌^◌, true, List, ◌++◌, None, Result, IfOk, OnOk, OnErr, length, map, IsTrue}
 use Rattle.fm_base.specs.declared.arena_id.ArenaId.{ArenaId}
 use Rattle.fm_base.specs.declared.refusal.Refusal.{Refusal}
 use Rattle.fm_base.specs.declared.refusal.Refusal.TheVariants.{Memory, PoolFull}
-use Rattle.fm_base.specs.Arenas.{State, Alive, arena_of, has_arena, MayUse}
+use Rattle.fm_base.specs.Arenas.{Arena, State, Alive, arena_of, has_arena, MayUse}
 use Rattle.fm_base.specs.Machine.{rounded_up, words_within}
 use Rattle.fm_base.specs.Finds.{is_page}
 use Rattle.fm_base.specs.Outcomes.{Nature, FoundNoneFree}
@@ -32,8 +32,13 @@ pub record HoldsThen (v : View) (a : ArenaId) (given : ℕ) (words : List ℕ) :
   pub given_is : given_in v a ≡ given
   pub words_are : words_at v a ≡ words
 
+-- the arenas, in the order in which they were opened
+abbrev pub names_in : State → List ArenaId
+names_in s = map (λ (a : Arena). a.id) s
+
 -- from one state to the next only this arena changed
 pub record OnlyIn (a : ArenaId) (s t : State) : Type 0 where
+  pub names : names_in t ≡ names_in s
   pub arenas : (b : ArenaId) → has_arena t b ≡ has_arena s b
   pub others : (b : ArenaId) → b ≢ a → arena_of t b ≡ arena_of s b
 

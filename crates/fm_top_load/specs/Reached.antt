@@ -11,12 +11,17 @@ use Rattle.fm_top_load.specs.Filling.{Puts}
 use Rattle.fm_top_load.specs.Held.{IsHeld, OnlyIn}
 use Rattle.fm_top_load.specs.Limits.{record_file_limit}
 use Rattle.fm_top_load.specs.Reading.{GoesBy, piece_limit}
-use Rattle.fm_top_load.specs.Whole.{IsChunk, IsWhole}
+use Rattle.fm_top_load.specs.Whole.{IsChunk, IsPiece, IsWhole}
 
 -- the next chunk of a file, which may have so many bytes, from the place on lies at the start of the buffer
 pub record IsNext (limit : ℕ) (told : Option Contents) (name : List ℕ) (place : ℕ) (buffer : List ℕ) (chunk : Chunk) : Type 0 where
   pub small : chunk.count ≤ piece_limit
   pub bytes : IsChunk limit told name place (take chunk.count buffer) chunk.ended
+
+-- the next piece of a file, which may have so many bytes, from the place on lies at the start of the buffer
+pub record IsNextPiece (limit most : ℕ) (told : Option Contents) (name : List ℕ) (place : ℕ) (buffer : List ℕ) (chunk : Chunk) : Type 0 where
+  pub small : chunk.count ≤ piece_limit
+  pub bytes : IsPiece limit most told name place (take chunk.count buffer) chunk.ended
 
 -- what was read of a record file so far: its first bytes, and in the buffer the next chunk of it
 pub record CanReadBehind (told : Option Contents) (name bytes buffer : List ℕ) (chunk : Chunk) : Type 0 where

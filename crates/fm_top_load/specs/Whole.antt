@@ -1,5 +1,5 @@
 -- What files tell of a file that was read whole, or was too long.
-use Rattle.std.specs.Prelude.{◌≡◌, ℕ, ◌+◌, ◌%◌, ◌<◌, ◌≤◌, List, ◌++◌, ◌^◌, length, Bool, true, false, Option, Some, IfSome, IsSomeAnd}
+use Rattle.std.specs.Prelude.{◌≡◌, ℕ, ◌+◌, ◌%◌, ◌<◌, ◌≤◌, List, ◌++◌, ◌^◌, length, min, Bool, true, false, Option, Some, IfSome, IsSomeAnd}
 use Rattle.fm_io.specs.Files.{Contents, file_of, AreBytesFrom, EndsBefore, IsAbsent}
 use Rattle.fm_io.specs.View.{FilesView, Leaves}
 use Rattle.fm_top_load.specs.Reading.{piece_limit}
@@ -31,6 +31,24 @@ pub record IsChunk (limit : ℕ) (told : Option Contents) (name : List ℕ) (pla
   pub grows : ended ≡ false → 0 < length piece
   pub ends : ended ≡ true → EndsBefore told name (place + length piece)
 
+-- These are the next bytes of the file of that name, which may have so many, from the place on; `ended` says that it ends with them. They are
+-- as many as one read may bring, and at most `most`; fewer only where it ends.
+pub record IsPiece (limit most : ℕ) (told : Option Contents) (name : List ℕ) (place : ℕ) (piece : List ℕ) (ended : Bool) : Type 0 where
+  pub bytes : AreBytesFrom told name place piece
+  pub short : place + length piece ≤ limit
+  pub within : length piece ≤ min piece_limit most
+  pub full : ended ≡ false → length piece ≡ min piece_limit most
+  pub ends : ended ≡ true → EndsBefore told name (place + length piece)
+
+-- These are the bytes of a file that may have so many from the place on, at most `most` of them; `ended` says that it ends with them. Fewer are
+-- they only where it ends.
+pub record IsCut (limit most : ℕ) (told : Option Contents) (name : List ℕ) (place : ℕ) (bytes : List ℕ) (ended : Bool) : Type 0 where
+  pub bytes_are : AreBytesFrom told name place bytes
+  pub short : place + length bytes ≤ limit
+  pub within : length bytes ≤ most
+  pub full : ended ≡ false → length bytes ≡ most
+  pub ends : ended ≡ true → EndsBefore told name (place + length bytes)
+
 -- Such bytes were put behind those of old.
 pub record TakesChunk (limit : ℕ) (told : Option Contents) (name old new : List ℕ) (ended : Bool) : Type 0 where
   pub piece : List ℕ
@@ -44,5 +62,5 @@ pub record TakesChunk (limit : ℕ) (told : Option Contents) (name old new : Lis
 -- a file may have so many bytes, and is read from this place on into a buffer with room for a piece
 pub record CanRead (limit at : ℕ) (buffer : List ℕ) : Type 0 where
   pub room : length buffer ≡ piece_limit
-  pub small : limit < 2 ^ 40
+  pub small : limit ≤ 2 ^ 40
   pub short : at ≤ limit

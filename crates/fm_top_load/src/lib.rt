@@ -3,6 +3,7 @@
 
 mod buffers;
 mod chunk;
+mod chunk_loading;
 mod held;
 mod load_fault;
 mod loaded;
@@ -11,7 +12,8 @@ mod reaching;
 mod whole_file;
 
 pub use buffers::zero_bytes;
-pub use chunk::{CHUNK, Chunk};
+pub use chunk::{CHUNK, Chunk, read_piece};
+pub use chunk_loading::load_chunk;
 pub use held::{RECORD_FILE_LIMIT, allocate_held, open_held, put_held};
 pub use load_fault::LoadFault;
 pub use loaded::{Loaded, load};

@@ -1,16 +1,14 @@
 -- A pool's first pass that has a new arena give its first bytes.
-use Rattle.std.proofs.Common.{◌≡◌, ℕ, ◌+◌, ◌<◌, ◌≤◌, true, false, List, ◌++◌, Ok, Err, refl, ap, ◌∙◌, sym, subst, arith}
+use Rattle.std.proofs.Common.{◌≡◌, ℕ, ◌+◌, ◌<◌, ◌≤◌, true, false, List, Ok, Err, refl, ap, ◌∙◌, sym, subst, arith}
 use Rattle.fm_base.specs.declared.arena_id.ArenaId.{ArenaId}
 use Rattle.fm_base.specs.declared.refusal.Refusal.{Refusal}
 use Rattle.fm_base.specs.declared.refusal.Refusal.TheVariants.{Memory, NoSlot, PoolFull}
-use Rattle.fm_base.specs.Calls.{Entry}
 use Rattle.fm_base.specs.Does.{DidAllocate, DoesAllocate}
-use Rattle.fm_base.specs.Finds.{Rest}
+use Rattle.fm_base.specs.Finds.{Gathered}
 use Rattle.fm_base.specs.Machine.{rounded_up}
 use Rattle.fm_base.specs.Outcomes.{MayRefuse, Nature}
 use Rattle.fm_base.specs.View.{but_loans, given_in}
 use Rattle.fm_rule_calls.specs.Told.{view_of_pass}
-use Rattle.fm_rule_calls.proofs.Sweeps.{no_sweeps}
 use Rattle.fm_rule_calls.proofs.Telling.{did_of}
 use Rattle.fm_gate.specs.Learnt.{AfterAllocate}
 use Rattle.fm_gate.proofs.Scarce.{one_empty}
@@ -21,8 +19,9 @@ use Rattle.fm_rule_facts.specs.Scarcity.{IsScarce, lacking, parts_before}
 use Rattle.fm_rule_facts.specs.Views.{View, given_of, limit_of, state_in, unlent}
 use Rattle.fm_rule_facts.proofs.Scarcity.{lacking_most}
 use Rattle.fm_rule.specs.declared.pool.Pool.{Pool}
-use Rattle.fm_top_pooled.specs.Stocked.{HasPagesFor, IsLone}
-use Rattle.fm_top_pooled.proofs.Tidying.{AllChangeNone, loans_too, tidy_none, tidy_on}
+use Rattle.fm_top_pooled.specs.Stocked.{HasPagesFor, IsAlone}
+use Rattle.fm_top_pooled.proofs.Opening.{kept_alone}
+use Rattle.fm_top_pooled.proofs.Tidying.{AllChangeNone}
 
 -- ---- nothing is wanting
 
@@ -30,7 +29,7 @@ use Rattle.fm_top_pooled.proofs.Tidying.{AllChangeNone, loans_too, tidy_none, ti
 nothing_given : (p : View) (a : ArenaId) → IsEmpty (view_of_pass p) a → rounded_up (given_in (view_of_pass p) a) 8 ≡ 0
 nothing_given p a empty = ap (λ n. rounded_up n 8) empty.none
 
-first_room : (pool : Pool) (p : View) (a : ArenaId) (size : ℕ) → IsLone pool p → IsEmpty (view_of_pass p) a → size ≤ limit_of pool.shape
+first_room : {gs : List Gathered} (pool : Pool) (p : View) (a : ArenaId) (size : ℕ) → IsAlone gs pool p → IsEmpty (view_of_pass p) a → size ≤ limit_of pool.shape
     → rounded_up (given_in (view_of_pass p) a) 8 + size ≤ limit_of p.shape
 first_room pool p a size lone empty room =
     let shape : limit_of p.shape ≡ limit_of pool.shape = ap limit_of lone.outside.of.1 in
@@ -59,7 +58,7 @@ may_any NoSlot = refl
 may_any PoolFull = refl
 may_any r = tt
 
-module _ {pool : Pool} {p q : View} (a : ArenaId) (size : ℕ) (lone : IsLone pool p) (empty : IsEmpty (view_of_pass p) a) where
+module _ {gs : List Gathered} {pool : Pool} {p q : View} (a : ArenaId) (size : ℕ) (lone : IsAlone gs pool p) (empty : IsEmpty (view_of_pass p) a) where
   neither : (r : Refusal) → HasPagesFor p size → AfterAllocate pool p q a size 8 (Err r) → Wants any (view_of_pass p) (view_of_pass q) r → ⊥
   neither Memory pages after w = after.never refl
   neither PoolFull pages after w = not_scarce p a size empty pages (after.exact lone.whole lone.none_to_end lone.none_to_sweep)
@@ -81,22 +80,8 @@ module _ {pool : Pool} {p q : View} (a : ArenaId) (size : ℕ) (lone : IsLone po
     did = did_of p q (λ own. DoesAllocate p.caller a size 8 (Ok place) (but_loans own)) after.did
 
     -- The pass is by itself still.
-    pub allocated_lone : IsLone pool q
-    allocated_lone =
-        let goes = after.did.goes in
-        let own : List Entry = after.did.own in
-        let none : AllChangeNone own = loans_too own (subst AllChangeNone (sym after.did.does.2) (tt, (tt, (tt, tt)))) in
-        record {
-          outside = after.outside;
-          sound = goes.sound;
-          whole = goes.same_whole ∙ lone.whole;
-          tidy = tidy_on p q own lone.tidy goes.same_shape (goes.seen ∙ ap (λ (es : List Entry). p.seen ++ es) (goes.alone lone.whole))
-              (tidy_none (limit_of p.shape) (state_in p) own none);
-          none_gathered = goes.same_gathered ∙ lone.none_gathered;
-          none_to_end = ap (λ (x : Rest). x.closes) after.did.rest ∙ lone.none_to_end;
-          none_to_sweep = no_sweeps p q after.did.rest lone.none_to_sweep;
-          no_page = ap (λ (x : Rest). x.pages) after.did.rest ∙ lone.no_page;
-        }
+    pub allocated_lone : IsAlone gs pool q
+    allocated_lone = kept_alone lone after.did after.outside (subst AllChangeNone (sym after.did.does.2) (tt, (tt, (tt, tt))))
 
     -- The bytes are the arena's first ones.
     pub first_held : HoldsThen (view_of_pass q) a size (words_at (view_of_pass p) a)

@@ -30,7 +30,7 @@ use Rattle.fm_segment.specs.Region.{Region}
 use Rattle.fm_workers_crew.specs.Crew.{CrewGathered}
 use Rattle.fm_workers.specs.Query.{OnlyReads, reads, stops}
 use Rattle.fm_workers.proofs.Sparing.{by_either}
-use Rattle.fm_top_pooled.specs.Stocked.{IsStocked, bytes_in_pool}
+use Rattle.fm_top_pooled.specs.Stocked.{IsStockedOf, bytes_in_pool}
 use Rattle.fm_top_pooled.proofs.Tidying.{tidy_on}
 
 -- a visit's call that reads, or adds to a word that may be added to
@@ -101,7 +101,7 @@ module _ (MayAdd : ArenaId → ℕ → Type 0) where
 
   -- ---- a pool whose records were read by a crew
 
-  module _ {pool : Pool} {p q : View} {s : Region} (h : IsStocked pool p s) (crew : CrewGathered p q) (sound : IsSound q) (touch : AllTouch crew.more) where
+  module _ {n : ℕ} {pool : Pool} {p q : View} {s : Region} (h : IsStockedOf n pool p s) (crew : CrewGathered p q) (sound : IsSound q) (touch : AllTouch crew.more) where
     same_shape : q.shape ≡ p.shape
     same_shape = ap (λ (v : View). v.shape) crew.is
 
@@ -142,7 +142,7 @@ module _ (MayAdd : ArenaId → ℕ → Type 0) where
 
     -- and all is as before, where what is added to was given
     pub stocked_still : IsOutside pool q → IsKnown (view_of_pass q) s → (b : ArenaId) (end : ℕ) → end ≤ (arena_of (state_in p) b).given
-        → ((a : ArenaId) (word : ℕ) → MayAdd a word → (a ≡ b) × (8 * word + 8 ≤ end)) → IsStocked pool q s
+        → ((a : ArenaId) (word : ℕ) → MayAdd a word → (a ≡ b) × (8 * word + 8 ≤ end)) → IsStockedOf n pool q s
     stocked_still outside known b end given within = record {
       outside = outside;
       sound = sound;

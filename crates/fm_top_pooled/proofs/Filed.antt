@@ -42,7 +42,7 @@ use Rattle.fm_top_pooled.proofs.Opening.{knows_none}
 -- ---- runs of bytes
 
 -- Runs that are put within some room stay below it.
-puts_stay : (c : Caller) (a : ArenaId) (room : ℕ) (own : List Entry) → Puts c a room own → StayBelow a room own
+pub puts_stay : (c : Caller) (a : ArenaId) (room : ℕ) (own : List Entry) → Puts c a room own → StayBelow a room own
 puts_stay c a room own no_run = tt
 puts_stay c a room own (run place bytes before now puts are fits does) =
     stay_append a room before now (puts_stay c a room before puts) (put_all_stays c a room place bytes (Ok tt) now are fits does)

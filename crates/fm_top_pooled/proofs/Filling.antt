@@ -6,7 +6,7 @@ use Rattle.fm_base.specs.declared.arena_id.ArenaId.{ArenaId}
 use Rattle.fm_base.specs.declared.kind.Kind.TheVariants.{Shared}
 use Rattle.fm_base.specs.Arenas.{State}
 use Rattle.fm_base.specs.Calls.{Entry}
-use Rattle.fm_base.specs.Finds.{Rest}
+use Rattle.fm_base.specs.Finds.{Gathered, Rest}
 use Rattle.fm_base.specs.Histories.{IsLegal, IsTidy}
 use Rattle.fm_base.specs.View.{Did, Makes, given_in}
 use Rattle.fm_base_bytes.specs.Bytes.{AreBytes}
@@ -27,7 +27,7 @@ use Rattle.fm_rule.specs.declared.pool.Pool.{Pool}
 use Rattle.fm_rule.specs.Passes.{IsOf}
 use Rattle.fm_segment.specs.Region.{Region, region_of}
 use Rattle.fm_words.specs.declared.shape.Shape.{Shape}
-use Rattle.fm_top_pooled.specs.Stocked.{IsLone, IsOpened, IsStocked, KeepsArenas, bytes_in_pool, pool_passes}
+use Rattle.fm_top_pooled.specs.Stocked.{HasOpened, IsAlone, IsStockedOf, KeepsArenas, bytes_in_pool}
 use Rattle.fm_segment_laws.proofs.Putting.{put_all_stays}
 use Rattle.fm_top_pooled.proofs.Tidying.{tidy_on}
 
@@ -38,31 +38,31 @@ pub still_of : (pool : Pool) (p q : View) (own : List Entry) → Makes (view_of_
 still_of pool p q own makes of = pool_keeps.of pool p q (pool_keeps.stays p q own makes) of
 
 -- and by itself, where its entries were tidy
-lone_on : (pool : Pool) (p q : View) (own : List Entry) → IsLone pool p → Makes (view_of_pass p) (view_of_pass q) own
-    → IsTidy (limit_of p.shape) (state_in p) own → IsOutside pool q → IsSound q → IsLone pool q
+lone_on : {gs : List Gathered} (pool : Pool) (p q : View) (own : List Entry) → IsAlone gs pool p → Makes (view_of_pass p) (view_of_pass q) own
+    → IsTidy (limit_of p.shape) (state_in p) own → IsOutside pool q → IsSound q → IsAlone gs pool q
 lone_on pool p q own lone makes tidy outside sound = record {
   outside = outside;
   sound = sound;
   whole = ap (λ (x : Rest). x.whole) makes.told.rest ∙ lone.whole;
   tidy = tidy_on p q own lone.tidy (outside.of.1 ∙ sym lone.outside.of.1)
       (makes.told.seen ∙ ap (λ (es : List Entry). p.seen ++ es) (makes.alone (inr lone.whole))) tidy;
-  none_gathered = ap (λ (x : Rest). x.gathered) makes.told.rest ∙ lone.none_gathered;
+  gathered = ap (λ (x : Rest). x.gathered) makes.told.rest ∙ lone.gathered;
   none_to_end = ap (λ (x : Rest). x.closes) makes.told.rest ∙ lone.none_to_end;
   none_to_sweep = no_sweeps p q makes.told.rest lone.none_to_sweep;
   no_page = ap (λ (x : Rest). x.pages) makes.told.rest ∙ lone.no_page;
 }
 
-own_legal : (pool : Pool) (p q : View) (own : List Entry) → IsLone pool p → (makes : Makes (view_of_pass p) (view_of_pass q) own)
+own_legal : {gs : List Gathered} (pool : Pool) (p q : View) (own : List Entry) → IsAlone gs pool p → (makes : Makes (view_of_pass p) (view_of_pass q) own)
     → IsLegal (limit_of p.shape) (state_in p) own
 own_legal pool p q own lone makes =
     subst (λ (es : List Entry). IsLegal (limit_of p.shape) (state_in p) es) (makes.alone (inr lone.whole)) makes.legal
 
 -- after entries that stay below what was given
-pub stay_lone : (pool : Pool) (p m q r : View) (a : ArenaId) (end : ℕ) (own : List Entry) → IsLone pool p → m ≡ p
+pub stay_lone : {gs : List Gathered} (pool : Pool) (p m q r : View) (a : ArenaId) (end : ℕ) (own : List Entry) → IsAlone gs pool p → m ≡ p
     → (makes : Makes (view_of_pass m) (view_of_pass q) own) → StayBelow a end own → end ≤ given_in (view_of_pass p) a
-    → r ≡ q → (IsOf pool q → IsOutside pool r) → IsSound r → IsLone pool r
-stay_lone pool p m q r a end own lone at made stays given is outside sound =
-    let lone_m : IsLone pool m = subst (λ (v : View). IsLone pool v) (sym at) lone in
+    → r ≡ q → (IsOf pool q → IsOutside pool r) → IsSound r → IsAlone gs pool r
+stay_lone {gs = gs} pool p m q r a end own lone at made stays given is outside sound =
+    let lone_m : IsAlone gs pool m = subst (λ (v : View). IsAlone gs pool v) (sym at) lone in
     let makes : Makes (view_of_pass m) (view_of_pass r) own = subst (λ (v : View). Makes (view_of_pass m) (view_of_pass v) own) (sym is) made in
     let room : end ≤ given_in (view_of_pass m) a = subst (λ (v : View). end ≤ given_in (view_of_pass v) a) (sym at) given in
     lone_on pool m r own lone_m makes
@@ -70,9 +70,9 @@ stay_lone pool p m q r a end own lone at made stays given is outside sound =
     (outside (still_of pool m q own made lone_m.outside.of)) sound
 
 -- after bytes were put that were given
-pub put_lone : (pool : Pool) (p m q r : View) (a : ArenaId) (bytes : List ℕ) → IsLone pool p → m ≡ p
+pub put_lone : {gs : List Gathered} (pool : Pool) (p m q r : View) (a : ArenaId) (bytes : List ℕ) → IsAlone gs pool p → m ≡ p
     → Did (view_of_pass m) (view_of_pass q) (DoesPutAll m.caller a 0 bytes (Ok tt)) → AreBytes bytes → length bytes ≤ given_in (view_of_pass p) a
-    → r ≡ q → (IsOf pool q → IsOutside pool r) → IsSound r → IsLone pool r
+    → r ≡ q → (IsOf pool q → IsOutside pool r) → IsSound r → IsAlone gs pool r
 put_lone pool p m q r a bytes lone at did are given is outside sound =
     stay_lone pool p m q r a (length bytes) did.own lone at did.makes
     (put_all_stays m.caller a (length bytes) 0 bytes (Ok tt) did.own are (omega arith) did.does) given is outside sound
@@ -94,10 +94,10 @@ only_keeps p q r a unknown keeps only = record {
   same = λ b k. only.others b (λ is. unknown (subst (λ (x : ArenaId). IsKnown p x) is k)) ∙ keeps.same b k;
 }
 
-pub stocked : (pool : Pool) (p q : View) (a : ArenaId) (s : Region) (bytes : List ℕ) → IsLone pool q → IsHeld (view_of_pass q) a
-    → given_in (view_of_pass q) a ≡ length bytes → a.kind ≡ Shared → pool.shape.passes ≡ pool_passes → s ≡ region_of a 0 (length bytes) → IsStocked pool q s
-stocked pool p q a s bytes lone held given shared passes is =
-    subst (λ (r : Region). IsStocked pool q r) (sym is) (record {
+pub stocked : {gs : List Gathered} {n : ℕ} (pool : Pool) (p q : View) (a : ArenaId) (s : Region) (bytes : List ℕ) → IsAlone gs pool q → IsHeld (view_of_pass q) a
+    → given_in (view_of_pass q) a ≡ length bytes → a.kind ≡ Shared → pool.shape.passes ≡ n → s ≡ region_of a 0 (length bytes) → IsStockedOf n pool q s
+stocked {n = n} pool p q a s bytes lone held given shared passes is =
+    subst (λ (r : Region). IsStockedOf n pool q r) (sym is) (record {
       outside = lone.outside;
       sound = lone.sound;
       whole = lone.whole;
@@ -129,7 +129,7 @@ only_on p m q r a at only is =
 -- ---- which arenas it knows
 
 -- it knows the one that it opened, and what it knew
-pub only_known : {pool : Pool} {p o : View} {a : ArenaId} (q r : View) (s : Region) → IsOpened pool p o a → OnlyIn a (state_in o) (state_in q)
+pub only_known : {gs : List Gathered} {pool : Pool} {p o : View} {a : ArenaId} (q r : View) (s : Region) → HasOpened gs pool p o a → OnlyIn a (state_in o) (state_in q)
     → OnlyIn a (state_in q) (state_in r) → s.arena ≡ a → (b : ArenaId) → IsKnown r b → (b ≡ s.arena) ⊎ IsKnown p b
 only_known {p = p} q r s opened first second is b known =
     subst (λ (x : ArenaId). (b ≡ x) ⊎ IsKnown p b) (sym is) (opened.only b (sym (first.arenas b) ∙ (sym (second.arenas b) ∙ known)))

@@ -7,13 +7,17 @@ use Rattle.fm_base.specs.declared.refusal.Refusal.{Refusal}
 use Rattle.fm_base.specs.Arenas.{Arena, State, arena_of, has_arena, same_id}
 use Rattle.fm_base.specs.Calls.{Entry, Open, Fine, entry_of}
 use Rattle.fm_base.specs.Does.{DoesOpen}
-use Rattle.fm_base.specs.Finds.{Rest}
+use Rattle.fm_base.specs.Finds.{Gathered, Rest}
 use Rattle.fm_base.specs.Histories.{IsTidy, state_after}
 use Rattle.fm_base.specs.Machine.{opened}
 use Rattle.fm_base.specs.View.{but_loans}
 use Rattle.fm_base.proofs.Lookup.{arena_of-append}
 use Rattle.fm_base.proofs.Names.{same_id-true}
+use Rattle.std.proofs.lemmas.List.{map-append}
+use Rattle.fm_gate.specs.Needs.{IsOutside}
+use Rattle.fm_rule_calls.specs.Kept.{Kept}
 use Rattle.fm_rule_calls.specs.Told.{view_of_pass}
+use Rattle.fm_top_load.specs.Held.{names_in}
 use Rattle.fm_rule_calls.proofs.Sweeps.{no_sweeps}
 use Rattle.fm_rule_calls.proofs.Telling.{did_of}
 use Rattle.fm_gate.specs.Learnt.{AfterOpen, AllBusy}
@@ -24,7 +28,7 @@ use Rattle.fm_rule_facts.specs.Views.{View, IsKnown, IsSound, limit_of, state_in
 use Rattle.fm_rule.specs.declared.pool.Pool.{Pool}
 use Rattle.fm_rule.specs.Views.{first_pass, numbers_of}
 use Rattle.fm_words.specs.declared.shape.Shape.{Shape}
-use Rattle.fm_top_pooled.specs.Stocked.{CanStock, HasPagesFor, IsLone, IsOpened}
+use Rattle.fm_top_pooled.specs.Stocked.{CanStock, HasOpened, HasPagesFor, IsAlone, IsLone}
 use Rattle.fm_top_pooled.proofs.Lent.{none_lent, parts_within}
 use Rattle.fm_top_pooled.proofs.Tidying.{AllChangeNone, loans_too, tidy_none, tidy_on}
 
@@ -43,7 +47,7 @@ begun pool z p shape is sound = record {
   sound = sound;
   whole = ap (λ (v : View). v.whole) is;
   tidy = subst (λ (es : List Entry). IsTidy (limit_of p.shape) [] es) (sym (ap (λ (v : View). v.seen) is)) tt;
-  none_gathered = ap (λ (v : View). v.gathered) is;
+  gathered = ap (λ (v : View). v.gathered) is;
   none_to_end = ap (λ (v : View). v.closes) is;
   none_to_sweep = ap (λ (v : View). v.sweeps) is;
   no_page = ap (λ (v : View). v.pages) is;
@@ -76,9 +80,26 @@ can_stock pool p size lone none room = record {
   pages = all_left p size lone.sound none (subst (λ (z : Shape). size ≤ limit_of z) (sym lone.outside.of.1) room);
 }
 
+-- ---- a call that changes no word
+
+-- The pass is known to be whole still, behind its own entries and loans.
+pub kept_alone : {gs : List Gathered} {pool : Pool} {p q : View} {P : List Entry → Type 0} → IsAlone gs pool p → (k : Kept p q P)
+    → IsOutside pool q → AllChangeNone (but_loans k.own) → IsAlone gs pool q
+kept_alone {p = p} {q = q} lone k outside none = record {
+  outside = outside;
+  sound = k.goes.sound;
+  whole = k.goes.same_whole ∙ lone.whole;
+  tidy = tidy_on p q k.own lone.tidy k.goes.same_shape (k.goes.seen ∙ ap (λ (es : List Entry). p.seen ++ es) (k.goes.alone lone.whole))
+      (tidy_none (limit_of p.shape) (state_in p) k.own (loans_too k.own none));
+  gathered = k.goes.same_gathered ∙ lone.gathered;
+  none_to_end = ap (λ (x : Rest). x.closes) k.rest ∙ lone.none_to_end;
+  none_to_sweep = no_sweeps p q k.rest lone.none_to_sweep;
+  no_page = ap (λ (x : Rest). x.pages) k.rest ∙ lone.no_page;
+}
+
 -- ---- an arena is opened
 
-pub has_slot : (pool : Pool) (p q : View) (r : Refusal) → IsLone pool p → ¬ (AllBusy p) → AfterOpen pool p q Shared (Err r) → ⊥
+pub has_slot : {gs : List Gathered} (pool : Pool) (p q : View) (r : Refusal) → IsAlone gs pool p → ¬ (AllBusy p) → AfterOpen pool p q Shared (Err r) → ⊥
 has_slot pool p q r lone free after = free (after.no_slot.1.busy lone.whole lone.none_to_sweep)
 
 -- which arenas are there behind the last one
@@ -92,27 +113,14 @@ opened_has (a ∷ s) o b h =
     let go : (x : Bool) → P x = λ x. elim x as P [ true ↦ (λ k. inr refl) | false ↦ (λ k. opened_has s o b k) ] in
     go (same_id a.id b) h
 
-pub opens : (pool : Pool) (p q : View) (a : ArenaId) → IsLone pool p → AfterOpen pool p q Shared (Ok a) → IsOpened pool p q a
+pub opens : {gs : List Gathered} (pool : Pool) (p q : View) (a : ArenaId) → IsAlone gs pool p → AfterOpen pool p q Shared (Ok a) → HasOpened gs pool p q a
 opens pool p q a lone after =
-    let goes = after.did.goes in
     let did = did_of p q (λ own. DoesOpen p.caller Shared (Ok a) (but_loans own)) after.did in
     let one : List Entry = entry_of p.caller (Open a) Fine ∷ [] in
     let only = did_only (view_of_pass p) (view_of_pass q) did.own one (inr lone.whole) did.makes did.does.2 in
     let state : state_in q ≡ state_in p ++ opened (limit_of p.shape) a ∷ [] = only.state in
-    let none : AllChangeNone did.own = loans_too did.own (subst AllChangeNone (sym did.does.2) (tt, tt)) in
     record {
-      lone = record {
-        outside = after.outside;
-        sound = goes.sound;
-        whole = goes.same_whole ∙ lone.whole;
-        tidy = tidy_on p q did.own lone.tidy goes.same_shape
-            (did.makes.told.seen ∙ ap (λ (es : List Entry). p.seen ++ es) (did.makes.alone (inr lone.whole)))
-            (tidy_none (limit_of p.shape) (state_in p) did.own none);
-        none_gathered = goes.same_gathered ∙ lone.none_gathered;
-        none_to_end = ap (λ (x : Rest). x.closes) after.did.rest ∙ lone.none_to_end;
-        none_to_sweep = no_sweeps p q after.did.rest lone.none_to_sweep;
-        no_page = ap (λ (x : Rest). x.pages) after.did.rest ∙ lone.no_page;
-      };
+      lone = kept_alone lone after.did after.outside (subst AllChangeNone (sym after.did.does.2) (tt, tt));
       empty = opened_held (view_of_pass p) (view_of_pass q) a Shared (inr lone.whole) lone.sound.limit after.outside.outside did;
       shared = did.does.0;
       unknown = after.is_new.unknown;
@@ -121,11 +129,12 @@ opens pool p q a lone after =
         known = after.lasts.known;
         same = λ b k. ap (λ (s : State). arena_of s b) state ∙ arena_of-append (state_in p) (opened (limit_of p.shape) a ∷ []) b k;
       };
+      names = ap names_in state ∙ map-append (λ (x : Arena). x.id) (state_in p) (opened (limit_of p.shape) a ∷ []);
       loans = after.lends lone.whole;
     }
 
 -- What was left of pages is left.
-pub pages_left : {pool : Pool} {p q : View} {a : ArenaId} (size : ℕ) → IsLone pool p → IsOpened pool p q a → HasPagesFor p size → HasPagesFor q size
+pub pages_left : {gs : List Gathered} {pool : Pool} {p q : View} {a : ArenaId} (size : ℕ) → IsAlone gs pool p → HasOpened gs pool p q a → HasPagesFor p size → HasPagesFor q size
 pages_left {p = p} {q = q} size lone opened pages =
     let shape : p.shape ≡ q.shape = lone.outside.of.1 ∙ sym opened.lone.outside.of.1 in
     subst (λ (x : Shape × List Loan). parts_before x.0 size ≤ unlent x.0.pages x.1) (λ j. (shape j, sym opened.loans j)) pages

@@ -1,5 +1,5 @@
 -- What a crew answers of records in a pool, that nothing but memory is wanting, and what the pool's history shows then.
-use Rattle.std.proofs.Common.{◌≡◌, ℕ, ◌%◌, ◌<◌, ◌≤◌, List, [], ◌++◌, append_assoc, length, Result, Ok, Err, IfErr, refl, ap, sym, ◌∙◌, subst, inl, inr, arith, length-append}
+use Rattle.std.proofs.Common.{◌≡◌, ℕ, ◌%◌, ◌<◌, ◌≤◌, List, [], ◌++◌, append_assoc, length, Result, Ok, Err, IfErr, refl, ap, sym, ◌∙◌, subst, inl, inr, ⊎_elim, arith, length-append}
 use Rattle.std.specs.Prelude.{◌⊎◌}
 use Rattle.std.proofs.Math.Nat.{zero-mod}
 use Rattle.fm_base.specs.declared.arena_id.ArenaId.{ArenaId}
@@ -33,9 +33,9 @@ use Rattle.fm_words.specs.declared.shape.Shape.{Shape}
 use Rattle.fm_workers_crew.specs.Crew.{AreTooMany, CrewGathered, IsFresh, IsWhole, callers}
 use Rattle.fm_workers.specs.Query.{CanQueryWith, IsReadByCrew, NobodyElseWrites, OnlyReads, QueriedWith}
 use Rattle.fm_workers_crew.proofs.Wanting.{few_last}
-use Rattle.fm_top_pooled.specs.Asking.{Asked, HasPasses, KeepsHistory}
+use Rattle.fm_top_pooled.specs.Asking.{Asked, AskedOf, HasPasses, KeepsHistory}
 use Rattle.fm_top_pooled.specs.Shown.{AreRead, AsksWord, IsReadByOther, ShowsBoth, ShowsQuery, ShowsRecords, state_before}
-use Rattle.fm_top_pooled.specs.Stocked.{IsStocked, bytes_in_pool}
+use Rattle.fm_top_pooled.specs.Stocked.{IsStocked, IsStockedOf, IsTidyPass, bytes_in_pool}
 use Rattle.fm_top_pooled.proofs.Crews.{AllTouch, bytes_stay, crew_touches, not_stopped, only_reads_touch, records_spared, stays_alive, stocked_still}
 
 pub pooled_is : (p : View) (s : Region) → bytes_in_pool p s ≡ bytes_at_places (state_in p) s
@@ -45,10 +45,10 @@ pooled_is p s = refl
 pub length-pooled : (p : View) (s : Region) → length (bytes_in_pool p s) ≡ s.size
 length-pooled p s = ap length (pooled_is p s) ∙ length-places (state_in p) s
 
-pub is_whole : {pool : Pool} {p : View} {s : Region} → IsStocked pool p s → IsWhole p
+pub is_whole : {n : ℕ} {pool : Pool} {p : View} {s : Region} → IsStockedOf n pool p s → IsWhole p
 is_whole h = record { sound = h.sound; whole = h.whole }
 
-pub can_ask : {pool : Pool} {p : View} {s : Region} (plan : Plan) (threads : ℕ) → IsStocked pool p s → 0 < threads → threads ≤ 16
+pub can_ask : {n : ℕ} {pool : Pool} {p : View} {s : Region} (plan : Plan) (threads : ℕ) → IsStockedOf n pool p s → 0 < threads → threads ≤ 16
     → CanQueryWith pool p plan s threads
 can_ask {s = s} plan threads h some few = record {
   outside = h.outside;
@@ -61,7 +61,7 @@ can_ask {s = s} plan threads h some few = record {
 -- ---- which words were read
 
 -- where the records stand, as the words that are asked for name it
-region_is : {pool : Pool} {p : View} {s : Region} → IsStocked pool p s → region_of s.arena 0 (length (bytes_in_pool p s)) ≡ s
+pub region_is : {n : ℕ} {pool : Pool} {p : View} {s : Region} → IsStockedOf n pool p s → region_of s.arena 0 (length (bytes_in_pool p s)) ≡ s
 region_is {p = p} {s = s} h = ap (λ n. region_of s.arena 0 n) (length-pooled p s) ∙ sym h.start
 
 -- what one of the crew has read, others than the first pass have
@@ -84,7 +84,7 @@ AreReadByCrew p plan s crew more =
     (index : ℕ) (r : Resolution) (is : List ℕ) (word : ℕ) → IsAsked plan (bytes_at_places (state_in p) s) index r is
     → IsWordOf (value_in plan s index r is) word → IsReadByCrew s crew more word
 
-are_read : {pool : Pool} {p q : View} {s : Region} (plan : Plan) → IsStocked pool p s → (crew : CrewGathered p q)
+pub are_read : {n : ℕ} {pool : Pool} {p q : View} {s : Region} (plan : Plan) → IsStockedOf n pool p s → (crew : CrewGathered p q)
     → AreReadByCrew p plan s (callers crew.crew) crew.more → AreRead crew.more (AsksWord plan (bytes_in_pool p s)) s.arena
 are_read {p = p} {s = s} plan h crew read word asks =
     by_other crew word
@@ -93,9 +93,9 @@ are_read {p = p} {s = s} plan h crew read word asks =
     (subst (λ (r : Region). IsWordOf (value_in plan r asks.index asks.path asks.indices) word) (region_is h) asks.has))
 
 -- what stands of records once a crew has read them
-pub asked : {pool : Pool} {p q : View} {s : Region} (threads : ℕ) (plan : Plan) → IsStocked pool p s → (crew : CrewGathered p q) → length crew.crew ≤ threads
-    → AreReadByCrew p plan s (callers crew.crew) crew.more → IsStocked pool q s → bytes_in_pool q s ≡ bytes_in_pool p s → AreSpared s crew.more
-    → Asked threads pool p q plan s
+pub asked : {n : ℕ} {pool : Pool} {p q : View} {s : Region} (threads : ℕ) (plan : Plan) → IsStockedOf n pool p s → (crew : CrewGathered p q) → length crew.crew ≤ threads
+    → AreReadByCrew p plan s (callers crew.crew) crew.more → IsStockedOf n pool q s → bytes_in_pool q s ≡ bytes_in_pool p s → AreSpared s crew.more
+    → AskedOf n threads pool p q plan s
 asked {p = p} {q = q} threads plan h crew few read stocked same spared = record {
   before = h;
   stocked = stocked;
@@ -115,36 +115,35 @@ never_wanting threads h passes (inr most) = let all = h.passes in omega (arith, 
 -- ---- a query
 
 -- a query adds to no word
-abbrev NoneMayAdd : ArenaId → ℕ → Type 0
+abbrev pub NoneMayAdd : ArenaId → ℕ → Type 0
 NoneMayAdd a word = ⊥
 
-module _ {pool : Pool} {p q : View} {s : Region} {plan : Plan} {threads : ℕ} (h : IsStocked pool p s) (sound : IsSound q) where
-  touch : {r : Result (List Found) Refusal} (w : QueriedWith threads p q plan s r) → AllTouch NoneMayAdd w.crew.more
+module _ {n : ℕ} {pool : Pool} {p q : View} {s : Region} {plan : Plan} {threads : ℕ} (h : IsStockedOf n pool p s) (sound : IsSound q) where
+  pub touch : {r : Result (List Found) Refusal} (w : QueriedWith threads p q plan s r) → AllTouch NoneMayAdd w.crew.more
   touch w =
       let cs = callers w.crew.crew in
       crew_touches NoneMayAdd cs w.crew.more (w.crew.alone (is_whole h))
       (all_weaker (λ (c : Caller). OnlyReads s c (made_by c w.crew.more)) (λ (c : Caller). AllTouch NoneMayAdd (made_by c w.crew.more))
       (λ c r. only_reads_touch NoneMayAdd s c (made_by c w.crew.more) r) cs w.visits)
 
-  -- only memory can be wanting
-  pub only_wants : (r : Result (List Found) Refusal) → QueriedWith threads p q plan s r → s.size % plan.size ≡ 0 → HasPasses p threads
-      → IfErr r (λ e. e ≡ Memory)
-  only_wants (Ok a) w even passes = tt
-  only_wants (Err (Ragged rest)) w even passes =
+  -- memory can be wanting, or a pass where the workers are too many
+  pub wants : (r : Result (List Found) Refusal) → QueriedWith threads p q plan s r → s.size % plan.size ≡ 0
+      → IfErr r (λ e. (e ≡ Memory) ⊎ ((e ≡ NoPass) × AreTooMany p threads))
+  wants (Ok a) w even = tt
+  wants (Err (Ragged rest)) w even =
       let some = w.ends.1 in
       let is = w.ends.0 in
       absurd (omega (arith, some, is, even))
-  only_wants (Err WrongThread) w even passes =
+  wants (Err WrongThread) w even =
       let kind : Confined ≡ Shared = sym w.ends.1 ∙ h.shared in
       absurd (cc)
-  only_wants (Err Closed) w even passes =
+  wants (Err Closed) w even =
       let found = w.ends.1 in
       absurd (not_stopped s.arena found.caller w.crew.more found.stops.before
       (stays_alive NoneMayAdd h w.crew sound (touch w) s.arena h.known.arena h.alive).1 found.stops.stops)
-  only_wants (Err NoPass) w even passes =
-      absurd (never_wanting threads h passes (w.wanting (is_whole h) refl))
-  only_wants (Err Memory) w even passes = refl
-  only_wants (Err r) w even passes = absurd w.ends
+  wants (Err NoPass) w even = inr (refl, w.wanting (is_whole h) refl)
+  wants (Err Memory) w even = inl refl
+  wants (Err r) w even = absurd w.ends
 
   -- all entries are the crew's
   nobody_else : {r : Result (List Found) Refusal} (w : QueriedWith threads p q plan s r) → NobodyElseWrites s (callers w.crew.crew) w.crew.more
@@ -156,30 +155,37 @@ module _ {pool : Pool} {p q : View} {s : Region} {plan : Plan} {threads : ℕ} (
   pub answers : (a : List Found) → QueriedWith threads p q plan s (Ok a) → a ≡ answer plan (bytes_in_pool p s)
   answers a w = (w.value (nobody_else w)).value ∙ ap (answer plan) (sym (pooled_is p s))
 
-  pub was_asked : (a : List Found) → QueriedWith threads p q plan s (Ok a) → IsOutside pool q → Asked threads pool p q plan s
+  pub was_asked : (a : List Found) → QueriedWith threads p q plan s (Ok a) → IsOutside pool q → AskedOf n threads pool p q plan s
   was_asked a w outside =
       asked threads plan h w.crew w.one_each (w.value (nobody_else w)).read
       (stocked_still NoneMayAdd h w.crew sound (touch w) outside w.known s.arena 0 (omega arith) (λ b word none. absurd none))
       (bytes_stay NoneMayAdd h w.crew sound (touch w) (λ b word none. absurd none))
       (records_spared NoneMayAdd h w.crew sound (touch w) (λ b word none. absurd none))
 
+-- Where there are passes enough only memory can be wanting.
+pub only_wants : {pool : Pool} {p q : View} {s : Region} {plan : Plan} {threads : ℕ} (h : IsStocked pool p s) → IsSound q
+    → (r : Result (List Found) Refusal) → QueriedWith threads p q plan s r → s.size % plan.size ≡ 0 → HasPasses p threads → IfErr r (λ e. e ≡ Memory)
+only_wants h sound (Ok a) w even passes = tt
+only_wants {p = p} {threads = threads} h sound (Err r) w even passes =
+    ⊎_elim (λ (m : r ≡ Memory). m) (λ (t : (r ≡ NoPass) × AreTooMany p threads). absurd (never_wanting threads h passes t.1)) (wants h sound (Err r) w even)
+
 -- ---- the finished pool
 
-pub keeps_history : {pool : Pool} {p : View} {s : Region} {f : FinishedView} → IsStocked pool p s → Finishes pool p f → KeepsHistory p f
-keeps_history {p = p} {f = f} h finishes =
-    let shape : f.shape ≡ p.shape = finishes.shape ∙ sym h.outside.of.1 in
+pub keeps_history : {pool : Pool} {p : View} {f : FinishedView} → p.shape ≡ pool.shape → IsTidyPass p → Finishes pool p f → KeepsHistory p f
+keeps_history {p = p} {f = f} of tidy finishes =
+    let shape : f.shape ≡ p.shape = finishes.shape ∙ sym of in
     record {
       is_history = record {
         legal = finishes.finished.legal;
         tidy = subst (λ (z : Shape). IsTidy (limit_of z) [] f.history) (sym shape)
-            (subst (λ (es : List Entry). IsTidy (limit_of p.shape) [] es) (sym finishes.history) h.tidy);
+            (subst (λ (es : List Entry). IsTidy (limit_of p.shape) [] es) (sym finishes.history) tidy);
         lent = finishes.finished.lent;
       };
       shape = shape;
       history = finishes.history;
     }
 
-state_kept : {p : View} {f : FinishedView} → KeepsHistory p f → state_of f ≡ state_in p
+pub state_kept : {p : View} {f : FinishedView} → KeepsHistory p f → state_of f ≡ state_in p
 state_kept {p} {f} kept =
     ap (λ (z : Shape). state_after (limit_of z) [] f.history) kept.shape ∙ ap (λ (es : List Entry). state_after (limit_of p.shape) [] es) kept.history
 
@@ -210,7 +216,7 @@ shows {p = p} {q = q} {s = s} {f = f} bytes Asks more h k kept seen were are spa
 
 -- ---- two queries
 
-read_in : (es fs : List Entry) (id : ArenaId) (word : ℕ) → ((e : Entry) → IsAmong e es → IsAmong e fs) → IsReadByOther es id word
+pub read_in : (es fs : List Entry) (id : ArenaId) (word : ℕ) → ((e : Entry) → IsAmong e es → IsAmong e fs) → IsReadByOther es id word
     → IsReadByOther fs id word
 read_in es fs id word into r = record {
   caller = r.caller;

@@ -8,7 +8,7 @@ use Rattle.fm_rule.specs.declared.pool.Pool.{Pool}
 use Rattle.fm_rule.specs.Finishing.{FinishedView}
 use Rattle.fm_segment.specs.Region.{Region}
 use Rattle.fm_top_pooled.specs.Shown.{AreRead, AsksWord, IsHistory}
-use Rattle.fm_top_pooled.specs.Stocked.{IsStocked, bytes_in_pool}
+use Rattle.fm_top_pooled.specs.Stocked.{IsStockedOf, bytes_in_pool, pool_passes}
 
 -- so many passes are a crew
 pub record IsCrew (threads : ℕ) : Type 0 where
@@ -21,15 +21,18 @@ pub record HasPasses (p : View) (threads : ℕ) : Type 0 where
   pub crew : IsCrew threads
 
 -- At most so many passes were drawn; the records stood, nobody changed them, and then others have read each word that is asked for
-pub record Asked (threads : ℕ) (pool : Pool) (old new : View) (p : Plan) (s : Region) : Type 0 where
-  pub before : IsStocked pool old s
-  pub stocked : IsStocked pool new s
+pub record AskedOf (passes threads : ℕ) (pool : Pool) (old new : View) (p : Plan) (s : Region) : Type 0 where
+  pub before : IsStockedOf passes pool old s
+  pub stocked : IsStockedOf passes pool new s
   pub same : bytes_in_pool new s ≡ bytes_in_pool old s
   pub more : List Entry
   pub seen : new.seen ≡ old.seen ++ more
   pub spared : AreSpared s more
   pub read : AreRead more (AsksWord p (bytes_in_pool old s)) s.arena
   pub drawn : length new.gathered ≤ length old.gathered + threads
+
+abbrev pub Asked : (threads : ℕ) → Pool → View → View → Plan → Region → Type 0
+Asked threads pool old new p s = AskedOf pool_passes threads pool old new p s
 
 -- the pool is of this shape, and its history all that the pass has seen
 pub record KeepsHistory (p : View) (f : FinishedView) : Type 0 where

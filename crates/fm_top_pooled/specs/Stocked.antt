@@ -1,8 +1,9 @@
 -- Where the first pass of a pool stands, before bytes are put into an arena of it, and then.
-use Rattle.std.specs.Prelude.{◌≡◌, ◌⊎◌, ℕ, ◌+◌, ◌<◌, ◌≤◌, true, List, [], Option, length}
+use Rattle.std.specs.Prelude.{◌≡◌, ◌⊎◌, ℕ, ◌+◌, ◌<◌, ◌≤◌, true, List, [], ◌∷◌, ◌++◌, Option, length}
 use Rattle.fm_base.specs.declared.arena_id.ArenaId.{ArenaId}
 use Rattle.fm_base.specs.declared.kind.Kind.TheVariants.{Shared}
 use Rattle.fm_base.specs.Arenas.{Alive, arena_of}
+use Rattle.fm_base.specs.Finds.{Gathered}
 use Rattle.fm_base.specs.Histories.{IsTidy}
 use Rattle.fm_rule_calls.specs.Told.{view_of_pass}
 use Rattle.fm_gate.specs.Learnt.{AllBusy}
@@ -11,7 +12,7 @@ use Rattle.fm_base.specs.View.{given_in}
 use Rattle.fm_io.specs.Files.{Contents}
 use Rattle.fm_segment_access.specs.Alone.{bytes_of_arena}
 use Rattle.fm_top_load.specs.declared.reaching.Reached.{Reached}
-use Rattle.fm_top_load.specs.Held.{HoldsThen, IsEmpty, IsHeld, OnlyIn, words_at}
+use Rattle.fm_top_load.specs.Held.{HoldsThen, IsEmpty, IsHeld, OnlyIn, names_in, words_at}
 use Rattle.fm_top_load.specs.Limits.{record_file_limit}
 use Rattle.fm_top_load.specs.Reached.{Reaches}
 use Rattle.fm_top_load.specs.Whole.{IsWhole}
@@ -32,17 +33,21 @@ pool_passes = 136
 abbrev pub IsTidyPass : View → Type 0
 IsTidyPass p = IsTidy (limit_of p.shape) [] p.seen
 
--- The first pass of the pool, before another was drawn: it is known to be whole, has no page in its hand and none of its arenas to end or
--- to sweep, and its entries are tidy
-pub record IsLone (pool : Pool) (p : View) : Type 0 where
+-- A pass of the pool that has gathered these, and is known to be whole: it has no page in its hand and none of its arenas to end or to
+-- sweep, and its entries are tidy
+pub record IsAlone (gs : List Gathered) (pool : Pool) (p : View) : Type 0 where
   pub outside : IsOutside pool p
   pub sound : IsSound p
   pub whole : p.whole ≡ true
   pub tidy : IsTidyPass p
-  pub none_gathered : p.gathered ≡ []
+  pub gathered : p.gathered ≡ gs
   pub none_to_end : p.closes ≡ []
   pub none_to_sweep : p.sweeps ≡ []
   pub no_page : p.pages ≡ []
+
+-- the first pass, before another was drawn
+abbrev pub IsLone : Pool → View → Type 0
+IsLone pool p = IsAlone [] pool p
 
 -- an arena has no more parts for so many bytes than there are pages that aren't lent
 abbrev pub HasPagesFor : View → (size : ℕ) → Type 0
@@ -61,14 +66,18 @@ pub record KeepsArenas (p q : View) : Type 0 where
   pub same : (b : ArenaId) → IsKnown p b → arena_of (state_in q) b ≡ arena_of (state_in p) b
 
 -- it opened a shared arena, and no other; nothing was lent
-pub record IsOpened (pool : Pool) (p q : View) (a : ArenaId) : Type 0 where
-  pub lone : IsLone pool q
+pub record HasOpened (gs : List Gathered) (pool : Pool) (p q : View) (a : ArenaId) : Type 0 where
+  pub lone : IsAlone gs pool q
   pub empty : IsEmpty (view_of_pass q) a
   pub shared : a.kind ≡ Shared
   pub unknown : ¬ (IsKnown p a)
   pub only : (b : ArenaId) → IsKnown q b → (b ≡ a) ⊎ IsKnown p b
   pub keeps : KeepsArenas p q
+  pub names : names_in (state_in q) ≡ names_in (state_in p) ++ a ∷ []
   pub loans : loans_of q.seen ≡ loans_of p.seen
+
+abbrev pub IsOpened : Pool → View → View → ArenaId → Type 0
+IsOpened pool p q a = HasOpened [] pool p q a
 
 -- the arena, of which nothing was given, gave so many bytes, and no other has changed
 pub record HasGiven (pool : Pool) (p q : View) (a : ArenaId) (size : ℕ) : Type 0 where
@@ -80,8 +89,9 @@ pub record HasGiven (pool : Pool) (p q : View) (a : ArenaId) (size : ℕ) : Type
 unfoldable pub bytes_in_pool : View → Region → List ℕ
 bytes_in_pool p s = bytes_at_places (state_in p) s
 
--- A pass that is known to be whole, and a segment that is the start of a shared arena, which is alive; all entries are tidy
-pub record IsStocked (pool : Pool) (p : View) (s : Region) : Type 0 where
+-- A pass that is known to be whole, of a pool of so many, and a segment that is the start of a shared arena, which is alive; all entries
+-- are tidy
+pub record IsStockedOf (many : ℕ) (pool : Pool) (p : View) (s : Region) : Type 0 where
   pub outside : IsOutside pool p
   pub sound : IsSound p
   pub whole : p.whole ≡ true
@@ -90,7 +100,10 @@ pub record IsStocked (pool : Pool) (p : View) (s : Region) : Type 0 where
   pub known : IsKnownTo (view_of_pass p) s
   pub alive : (arena_of (state_in p) s.arena).life ≡ Alive
   pub shared : s.arena.kind ≡ Shared
-  pub passes : p.shape.passes ≡ pool_passes
+  pub passes : p.shape.passes ≡ many
+
+abbrev pub IsStocked : Pool → View → Region → Type 0
+IsStocked pool p s = IsStockedOf pool_passes pool p s
 
 -- a pool is made for so many arenas
 pub record AreArenas (arenas : ℕ) : Type 0 where

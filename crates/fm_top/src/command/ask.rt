@@ -6,8 +6,8 @@ use crate::command::question::Question;
 use crate::command::threaded::{Threaded, threaded_words};
 use std::alloc::{AllocError, Global};
 
-/// `query [--threads N] LAYOUT QUERY FILE` or `tally [--threads N] LAYOUT PATH FILE`: what this text asks of the records
-/// of the file, by the layout that its file has.
+/// `query [--threads N] LAYOUT QUERY FILE`, `stream` with the same words, or `tally [--threads N] LAYOUT PATH FILE`: what
+/// this text asks of the records of the file, by the layout that its file has.
 #[derive(Clone, Copy, Debug)]
 pub struct AskCommand<'a> {
     pub question: Question,

@@ -3,6 +3,8 @@
 pub enum Question {
     /// What a query answers over them.
     Query,
+    /// The same, of a file of any length, through a pool of fixed size.
+    Stream,
     /// How often each number comes among the values of a path, which are bytes or booleans.
     Tally,
 }
@@ -17,6 +19,7 @@ impl Question {
     {
         match self {
             Question::Query => "query",
+            Question::Stream => "stream",
             Question::Tally => "tally",
         }
     }

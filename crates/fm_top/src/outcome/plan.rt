@@ -25,7 +25,7 @@ pub fn plan_for(
         e ≢ Refusal.Memory → IsUnplanned question text.now layout.now e) }
 {
     match question {
-        Question::Query => parse_query(alloc, text, layout),
+        Question::Query | Question::Stream => parse_query(alloc, text, layout),
         Question::Tally => parse_tally(alloc, text, layout),
     }
 }

@@ -28,7 +28,7 @@ pub fn queried_ending<'a, R: Threads + Wait + Sync, G: Gate>(
     requires short { length pooled ≤ RECORD_FILE_LIMIT }
     requires threads { AreThreads threads }
     ensures { IfOk result (λ ending. (file : List ℕ) →
-        PlanEnds question.Query q file (Some pooled) (shown ending)) }
+        PlanEnds question.Query threads q file (Some pooled) (shown ending)) }
 {
     let rest = rest_of(pooled.len(), &q);
     if rest != 0 {
@@ -48,7 +48,7 @@ fn query_answer<'a, R: Threads + Wait + Sync, G: Gate>(
 ) -> Result<Ending<'a>, AllocError>
     requires even { length pooled % q.size ≡ 0 }
     requires threads { AreThreads threads }
-    ensures { IfOk result (λ ending. IsAnswered question.Query q pooled (shown ending)) }
+    ensures { IfOk result (λ ending. IsAnswered question.Query threads q pooled (shown ending)) }
 {
     let (answer, finished) = pooled.answer(rt, alloc, &q, threads, gate)?;
     Ok(Ending::answered_by_pool(Output::Answer(Answered { query: q, answer }), finished))

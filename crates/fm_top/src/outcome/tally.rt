@@ -30,7 +30,7 @@ pub fn tallied_ending<'a, R: Threads + Wait + Sync, G: Gate>(
     requires threads { AreThreads threads }
     requires tally { IsTally q.now }
     ensures { IfOk result (λ ending. (file : List ℕ) →
-        PlanEnds question.Tally q.now file (Some pooled) (shown ending)) }
+        PlanEnds question.Tally threads q.now file (Some pooled) (shown ending)) }
 {
     let rest = rest_of(pooled.len(), q);
     if rest != 0 {
@@ -51,7 +51,7 @@ fn tally_answer<'a, R: Threads + Wait + Sync, G: Gate>(
     requires even { length pooled % q.now.size ≡ 0 }
     requires threads { AreThreads threads }
     requires tally { IsTally q.now }
-    ensures { IfOk result (λ ending. IsAnswered question.Tally q.now pooled (shown ending)) }
+    ensures { IfOk result (λ ending. IsAnswered question.Tally threads q.now pooled (shown ending)) }
 {
     let (counts, finished) = pooled.tally(rt, alloc, q, threads, gate)?;
     match print_counts(alloc, &counts) {

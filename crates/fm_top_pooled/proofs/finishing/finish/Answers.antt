@@ -11,5 +11,5 @@ finish-requires c = record { of = c.requires.outside.of; whole = c.requires.whol
 pub returns : goal.returns
 returns c =
     IfOk-weaker c.unless_wanting.result _ _
-    (λ f is. keeps_history c.requires (subst (λ r. IfOk r (λ x. Finishes c.args.pool c.args.pass x)) is c.finish.ensures.finishes))
+    (λ f is. keeps_history c.requires.outside.of.1 c.requires.tidy (subst (λ r. IfOk r (λ x. Finishes c.args.pool c.args.pass x)) is c.finish.ensures.finishes))
     c.unless_wanting.ensures

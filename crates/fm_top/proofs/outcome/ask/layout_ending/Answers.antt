@@ -17,6 +17,6 @@ returns-in_ok-layout_refused-in-Err g c =
     let ask = c.args.ask.now in
     let end = c.in_ok-layout_refused-in-Err in
     let denied = of_err _ c.in_ok-layout.ensures.same c.in-Err.is c.record_layout.ensures.refused in
-    unread_ends (λ found. refused-layout ask.question ask.text.now ask.file.now found (shown end.field-0) ask.layout.now c.args.bytes.now c.in-Err.refusal
+    unread_ends (λ found. refused-layout ask.question ask.threads ask.text.now ask.file.now found (shown end.field-0) ask.layout.now c.args.bytes.now c.in-Err.refusal
     denied (λ is. c.in_ok-layout.ensures.other (c.in-Err.is ∙ ap Err is)) end.ensures)
     (other_end end.ensures (λ e. absurd (cc)))

@@ -12,15 +12,15 @@ returns-in-Ok g c =
     let file = c.args.ask.now.file.now in
     let ends = c.in_ok-queried_ending-in-Ok.ensures file in
     rw c.in-Query.is (found_ends load.reads load.tells c.in-Ok.pooled load.whole ends
-    (plan_found Query c.args.plan file c.in-Ok.pooled (Some c.in-Ok.pooled) (shown c.in_ok-queried_ending-in-Ok.field-0) refl ends))
+    (plan_found Query c.args.ask.now.threads c.args.plan file c.in-Ok.pooled (Some c.in-Ok.pooled) (shown c.in_ok-queried_ending-in-Ok.field-0) refl ends))
 
 pub returns-in_err-queried_ending-in-Ok : goal.returns-in_err-queried_ending-in-Ok
-returns-in_err-queried_ending-in-Ok g c = let load = c.in-Ok.ensures in wanting_ends load.reads load.tells (search rules)
+returns-in_err-queried_ending-in-Ok g c = let load = c.in-Ok.ensures in rw c.in-Query.is (wanting_ends load.reads load.tells (search rules))
 
 pub returns-in-Query : goal.returns-in-Query
 returns-in-Query g c =
     let load = c.in-Err.ensures in let end = c.unloaded_ending.ensures in
-    unloaded_ends load.reads load.tells end.ending end.told end.failed no_file (λ bytes over. too_many bytes over)
+    rw c.in-Query.is (unloaded_ends load.reads load.tells end.ending end.told end.failed no_file (λ bytes over. too_many bytes over))
 
 pub returns-in-Ok-load : goal.returns-in-Ok-load
 returns-in-Ok-load g c =
@@ -28,12 +28,15 @@ returns-in-Ok-load g c =
     let file = c.args.ask.now.file.now in
     let ends = c.in_ok-tallied_ending-in-Ok-load.ensures file in
     rw c.in-Tally.is (found_ends load.reads load.tells c.in-Ok-load.pooled load.whole ends
-    (plan_found Tally c.args.plan file c.in-Ok-load.pooled (Some c.in-Ok-load.pooled) (shown c.in_ok-tallied_ending-in-Ok-load.field-0) refl ends))
+    (plan_found Tally c.args.ask.now.threads c.args.plan file c.in-Ok-load.pooled (Some c.in-Ok-load.pooled) (shown c.in_ok-tallied_ending-in-Ok-load.field-0) refl ends))
 
 pub returns-in_err-tallied_ending-in-Ok-load : goal.returns-in_err-tallied_ending-in-Ok-load
-returns-in_err-tallied_ending-in-Ok-load g c = let load = c.in-Ok-load.ensures in wanting_ends load.reads load.tells (search rules)
+returns-in_err-tallied_ending-in-Ok-load g c = let load = c.in-Ok-load.ensures in rw c.in-Tally.is (wanting_ends load.reads load.tells (search rules))
 
 pub returns : goal.returns
 returns g c =
     let load = c.in-Err-load.ensures in let end = c.unloaded_ending-in-Err-load.ensures in
-    unloaded_ends load.reads load.tells end.ending end.told end.failed no_file (λ bytes over. too_many bytes over)
+    rw c.in-Tally.is (unloaded_ends load.reads load.tells end.ending end.told end.failed no_file (λ bytes over. too_many bytes over))
+
+pub returns-in-Stream : goal.returns-in-Stream
+returns-in-Stream g c = rw c.in-Stream.is c.streamed_ending.ensures

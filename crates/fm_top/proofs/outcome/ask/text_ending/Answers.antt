@@ -3,7 +3,7 @@ use Rattle.fm_top.specs.Ending.{shown}
 use Rattle.fm_top.specs.Queries.{planned}
 use Rattle.fm_top.proofs.Ends.{ends_as, other_end, unread_ends}
 use Rattle.fm_top.proofs.Outcomes.{refused-text}
-use Rattle.fm_top.proofs.Planned.{of_err, of_ok, tally_planned}
+use Rattle.fm_top.proofs.Planned.{of_err, of_ok, stream_planned, tally_planned}
 use Rattle.fm_top.proofs.outcome.ask.text_ending.Goals as goal
 
 pub plan_ending-requires-clause-tally : goal.plan_ending-requires-clause-tally
@@ -11,6 +11,12 @@ plan_ending-requires-clause-tally g c κs within =
     let ask = c.args.ask.now in
     tally_planned ask.question ask.text.now c.args.layout.now c.in-Ok.plan
     (of_ok _ c.in_ok-plan.ensures.same c.in-Ok.is c.plan_for.ensures.planned)
+
+pub plan_ending-requires-clause-stream : goal.plan_ending-requires-clause-stream
+plan_ending-requires-clause-stream g c κs within =
+    let ask = c.args.ask.now in
+    stream_planned ask.question ask.text.now c.args.layout.now c.in-Ok.plan
+    (of_ok _ c.in_ok-plan.ensures.same c.in-Ok.is c.plan_for.ensures.planned) c.requires.small
 
 pub returns-in-Ok : goal.returns-in-Ok
 returns-in-Ok g c =
@@ -22,6 +28,6 @@ returns-in_ok-query_refused-in-Err g c =
     let ask = c.args.ask.now in
     let end = c.in_ok-query_refused-in-Err in
     let denied = of_err _ c.in_ok-plan.ensures.same c.in-Err.is c.plan_for.ensures.refused in
-    unread_ends (λ found. refused-text ask.question ask.text.now ask.file.now found (shown end.field-0) c.args.layout.now c.in-Err.refusal denied
+    unread_ends (λ found. refused-text ask.question ask.threads ask.text.now ask.file.now found (shown end.field-0) c.args.layout.now c.in-Err.refusal denied
     (λ is. c.in_ok-plan.ensures.other (c.in-Err.is ∙ ap Err is)) end.ensures)
     (other_end end.ensures (λ e. absurd (cc)))

@@ -1,4 +1,5 @@
 use Rattle.std.proofs.Common.{◌%◌, ℕ, ap, sym, ◌∙◌}
+use Rattle.fm_top_load.specs.Limits.{record_file_limit}
 use Rattle.fm_top.specs.Queries.{IsAnswered}
 use Rattle.fm_top.specs.declared.command.question.Question.TheVariants.{Query}
 use Rattle.fm_top.proofs.Outcomes.{even_ends, ragged_ends}
@@ -6,7 +7,7 @@ use Rattle.fm_top.proofs.outcome.query.queried_ending.Goals as goal
 
 pub returns-then-rest-ne0 : goal.returns-then-rest-ne0
 returns-then-rest-ne0 g c =
-    ragged_ends c.args.q.size c.args.pooled (IsAnswered Query c.args.q) c.requires.short c.rest_of-rest.ensures c.len.ensures c.ragged.result
+    ragged_ends record_file_limit c.args.q.size c.args.pooled (IsAnswered Query c.args.threads c.args.q) c.requires.short c.rest_of-rest.ensures c.len.ensures c.ragged.result
     c.if-rest-ne0.true c.ragged.ensures
 
 pub query_answer-requires-clause-even : goal.query_answer-requires-clause-even
@@ -15,5 +16,5 @@ query_answer-requires-clause-even g c κs within =
 
 pub returns : goal.returns
 returns g c =
-    even_ends c.args.q.size c.args.pooled (IsAnswered Query c.args.q) c.requires.short c.rest_of-rest.ensures c.len.ensures c.query_answer.result
+    even_ends record_file_limit c.args.q.size c.args.pooled (IsAnswered Query c.args.threads c.args.q) c.requires.short c.rest_of-rest.ensures c.len.ensures c.query_answer.result
     c.if-rest-ne0.false c.query_answer.ensures

@@ -1,7 +1,7 @@
 use Rattle.std.proofs.Common.{ℕ, ◌+◌, arith}
 use Rattle.std.proofs.lemmas.List.{length-take}
 use Rattle.fm_top_load.proofs.Following.{filled_reads, goes_by}
-use Rattle.fm_top_load.proofs.chunk.read_chunk.Goals as goal
+use Rattle.fm_top_load.proofs.chunk.read_piece.Goals as goal
 
 pub returns-in-Err-Missing-clause-reads : goal.returns-in-Err-Missing-clause-reads
 returns-in-Err-Missing-clause-reads g c =

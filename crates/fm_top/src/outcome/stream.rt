@@ -1,0 +1,44 @@
+ghost use Rattle.std.specs.Prelude.{◌≤◌, ⊤};
+ghost use Rattle.fm_top.specs.Ends.{EndsFile};
+ghost use Rattle.fm_top.specs.Queries.{PlanEnds};
+ghost use Rattle.fm_top.specs.Words.{AreThreads};
+ghost use Rattle.fm_top.specs.declared.command.question.Question.TheVariants as question;
+
+use crate::outcome::answered::Answered;
+use crate::outcome::ending::Ending;
+use crate::outcome::text::Text;
+use fm_io::{Fault, Files, Gate};
+use fm_records_query::Query;
+use fm_top_stream::{MOST_CHUNK, STREAM_FILE_LIMIT, StreamFault, stream_with};
+use std::alloc::Global;
+use std::sync::Wait;
+use std::thread::Threads;
+
+/// Takes the record file through a pool, chunk by chunk, and answers how the run ends.
+pub fn streamed_ending<'a, R: Threads + Wait + Sync, F: Files, G: Gate>(
+    rt: &R,
+    alloc: Global,
+    files: &mut F,
+    file: &'a str,
+    q: Query,
+    threads: u32,
+    gate: &G,
+) -> Result<Ending<'a>, Fault>
+    requires threads { AreThreads threads }
+    requires small { q.size ≤ MOST_CHUNK }
+    ensures { EndsFile file.now STREAM_FILE_LIMIT ⊤
+        (PlanEnds question.Stream threads q file.now)
+        (F.view files.old)
+        (F.view files.new) result }
+{
+    match stream_with(rt, alloc, files, file, &q, threads, gate) {
+        Ok((answer, finished)) => {
+            Ok(Ending::answered_by_pool(Text::Answer(Answered { query: q, answer }), finished))
+        }
+        Err(StreamFault::Ragged(rest)) => Ok(Ending::ragged(alloc, rest)?),
+        Err(StreamFault::Missing) => Ok(Ending::missing(file)),
+        Err(StreamFault::TooLong) => Ok(Ending::too_long(alloc)?),
+        Err(StreamFault::Read) => Err(Fault::Failed),
+        Err(StreamFault::Memory) => Err(Fault::Memory),
+    }
+}

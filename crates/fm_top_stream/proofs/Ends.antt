@@ -1,0 +1,71 @@
+-- What a stream's finished pool shows.
+use Rattle.std.proofs.Common.{◌≡◌, ℕ, ◌/◌, ◌%◌, ◌<◌, ◌≤◌, List, length, Option, ap, sym, ◌∙◌, subst, arith}
+use Rattle.std.specs.List.{AllZip}
+use Rattle.std.proofs.Math.Nat.{mul-mod_left}
+use Rattle.fm_base.specs.Arenas.{State}
+use Rattle.fm_base.specs.Calls.{Entry}
+use Rattle.fm_io.specs.Files.{Contents}
+use Rattle.fm_records_query.specs.Plan.{Plan}
+use Rattle.fm_records.specs.declared.found.Found.{Found}
+use Rattle.fm_records.proofs.Few.{few_answer}
+use Rattle.fm_rule_facts.specs.Views.{View, IsSound, limit_of, state_in}
+use Rattle.fm_rule.specs.Finishing.{FinishedView, Finishes}
+use Rattle.fm_rule.specs.GivenBytes.{state_of}
+use Rattle.fm_rule.specs.Views.{first_pass, numbers_of}
+use Rattle.fm_rule.specs.declared.pool.Pool.{Pool}
+use Rattle.fm_top_load.specs.Held.{names_in}
+use Rattle.fm_top_pooled.proofs.Opening.{begun}
+use Rattle.fm_top_pooled.proofs.Shows.{keeps_history, state_kept}
+use Rattle.fm_top_stream.specs.Chunks.{all_bytes, chunk_size, cut_in, most_chunk, stream_file_limit}
+use Rattle.fm_top_stream.specs.Gone.{CanGoThrough, GoneThrough}
+use Rattle.fm_top_stream.specs.Shapes.{CanStream, stream_shape}
+use Rattle.fm_top_stream.specs.Shown.{ShowsChunk, Streams}
+use Rattle.fm_top_stream.proofs.Cutting.{cuts_again}
+use Rattle.fm_top_stream.proofs.Going.{alone_still}
+
+-- A chunk has a byte at least.
+pub some_in_chunk : (size : ℕ) → 0 < size → size ≤ most_chunk → 0 < chunk_size size
+some_in_chunk size some small = grind arith
+
+-- It has room in an arena of the pool.
+chunk_fits : (size : ℕ) → chunk_size size ≤ most_chunk
+chunk_fits size = grind arith
+
+-- A pool of the shape can be gone through.
+pub can_go : {threads : ℕ} {p : Plan} (pool : Pool) (v : View) (most : ℕ) → CanStream p threads → 0 < p.size → pool.shape ≡ stream_shape threads
+    → v ≡ first_pass (numbers_of pool.table.shared.table_id) (stream_shape threads) → IsSound v → most ≡ chunk_size p.size
+    → CanGoThrough most threads p pool v
+can_go {threads} {p} pool v most can sized shape first sound is = record {
+  alone = alone_still (begun pool (stream_shape threads) v shape first sound);
+  begins = ap (λ (x : View). x.seen) first;
+  room = subst (λ n. n ≤ limit_of pool.shape) (sym is) (subst (λ z. chunk_size p.size ≤ limit_of z) (sym shape) (chunk_fits p.size));
+  any = subst (λ n. 0 < n) (sym is) (some_in_chunk p.size sized can.small);
+  sized = sized;
+  even = ap (λ n. n % p.size) is ∙ mul-mod_left (most_chunk / p.size) p.size;
+  some = can.some;
+  few = can.few;
+}
+
+-- The answer, and the pool that gave it.
+pub streamed : {threads : ℕ} {told : Option Contents} {name : List ℕ} {p : Plan} {pool : Pool} {v : View} {a : List Found} {f : FinishedView} (most : ℕ)
+    → most ≡ chunk_size p.size → 0 < most → pool.shape ≡ stream_shape threads → GoneThrough stream_file_limit told name most pool v p a → Finishes pool v f
+    → Streams threads told name p a f
+streamed {threads} {p = p} {pool = pool} {v = v} {a = a} {f = f} most is any shape through finishes =
+    let kept = keeps_history through.gone.alone.outside.of.1 through.gone.alone.tidy finishes in
+    let state : state_of f ≡ state_in v = state_kept kept in
+    let cut = cuts_again most through.runs any through.cut in
+    record {
+      bytes = all_bytes through.runs;
+      is_file = through.is_file;
+      short = through.short;
+      even = through.even;
+      value = through.gone.value;
+      shows = record {
+        is_history = kept.is_history;
+        shape = finishes.shape ∙ shape;
+        chunks = subst (λ n. AllZip (ShowsChunk (state_of f) f.history p) (names_in (state_of f)) (cut_in n (all_bytes through.runs))) is
+            (subst (λ runs. AllZip (ShowsChunk (state_of f) f.history p) (names_in (state_of f)) runs) (sym cut)
+            (subst (λ (x : State × List Entry). AllZip (ShowsChunk x.0 x.1 p) (names_in x.0) through.runs) (λ i. (sym state i, sym finishes.history i)) through.gone.chunks));
+      };
+      printed = few_answer (length (all_bytes through.runs)) p.items a through.gone.few;
+    }

@@ -1,0 +1,6 @@
+pub mod Chunks
+pub mod Shapes
+pub mod Steps
+pub mod Shown
+pub mod Gone
+pub mod Faults

@@ -1,0 +1,79 @@
+-- What each step with a chunk's arena does, by the pool's first pass while it is known to be whole.
+use Rattle.std.specs.Prelude.{◌≡◌, ℕ, ◌<◌, ◌≤◌, List, ◌++◌, take, Option}
+use Rattle.fm_base.specs.declared.arena_id.ArenaId.{ArenaId}
+use Rattle.fm_base.specs.declared.kind.Kind.TheVariants.{Shared}
+use Rattle.fm_base.specs.Arenas.{Alive, Ended, State, arena_of, has_arena}
+use Rattle.fm_base.specs.Calls.{Entry}
+use Rattle.fm_base.specs.View.{given_in}
+use Rattle.fm_io.specs.Files.{Contents}
+use Rattle.fm_segment_access.specs.Alone.{bytes_of_arena}
+use Rattle.fm_rule_calls.specs.Told.{view_of_pass}
+use Rattle.fm_rule_facts.specs.Views.{View, IsKnown, state_in}
+use Rattle.fm_rule.specs.declared.pool.Pool.{Pool}
+use Rattle.fm_segment.specs.Region.{Region}
+use Rattle.fm_records_query.specs.Plan.{Plan}
+use Rattle.fm_records.specs.declared.found.Found.{Found}
+use Rattle.fm_records.specs.Answers.{answer}
+use Rattle.fm_records.specs.Few.{AreFew}
+use Rattle.fm_top_load.specs.declared.chunk.Chunk.{Chunk}
+use Rattle.fm_top_load.specs.Held.{HoldsThen, IsHeld, OnlyIn, names_in, words_at}
+use Rattle.fm_top_load.specs.Whole.{IsCut}
+use Rattle.fm_top_pooled.specs.Shown.{AreRead, AsksWord}
+use Rattle.fm_top_pooled.specs.Stocked.{HasOpened, IsAlone, IsStockedOf, bytes_in_pool}
+
+-- it is known to be whole still, and has seen more
+pub record GoesOn (pool : Pool) (p q : View) : Type 0 where
+  pub alone : IsAlone q.gathered pool q
+  pub more : List Entry
+  pub seen : q.seen ≡ p.seen ++ more
+
+-- a shared arena was opened, and no other
+pub record Opens (pool : Pool) (p q : View) (a : ArenaId) : Type 0 where
+  pub goes : GoesOn pool p q
+  pub opened : HasOpened q.gathered pool p q a
+
+-- the arena gave its first bytes, so many
+pub record Gives (pool : Pool) (p q : View) (a : ArenaId) (size : ℕ) : Type 0 where
+  pub goes : GoesOn pool p q
+  pub held : HoldsThen (view_of_pass q) a size (words_at (view_of_pass p) a)
+  pub elsewhere : OnlyIn a (state_in p) (state_in q)
+
+-- the file's next chunk was put there
+pub record Fills (limit most : ℕ) (told : Option Contents) (name : List ℕ) (at : ℕ) (pool : Pool) (p q : View) (a : ArenaId) (chunk : Chunk) : Type 0 where
+  pub goes : GoesOn pool p q
+  pub held : IsHeld (view_of_pass q) a
+  pub given : given_in (view_of_pass q) a ≡ given_in (view_of_pass p) a
+  pub elsewhere : OnlyIn a (state_in p) (state_in q)
+  pub cut : IsCut limit most told name at (take chunk.count (bytes_of_arena (state_in q) a)) chunk.ended
+  pub some : 0 < chunk.count
+  pub within : chunk.count ≤ most
+
+-- there are the same arenas, and each has the life and the words that it had
+pub record Stand (s t : State) : Type 0 where
+  pub names : names_in t ≡ names_in s
+  pub arenas : (b : ArenaId) → has_arena t b ≡ has_arena s b
+  pub life : (b : ArenaId) → (arena_of t b).life ≡ (arena_of s b).life
+  pub words : (b : ArenaId) → (arena_of t b).words ≡ (arena_of s b).words
+
+-- a crew answered the query over the segment
+pub record Answers (passes : ℕ) (pool : Pool) (p q : View) (s : Region) (plan : Plan) (a : List Found) : Type 0 where
+  pub goes : GoesOn pool p q
+  pub stocked : IsStockedOf passes pool q s
+  pub stand : Stand (state_in p) (state_in q)
+  pub value : a ≡ answer plan (bytes_in_pool p s)
+  pub few : AreFew s.size plan a
+  pub read : AreRead q.seen (AsksWord plan (bytes_in_pool p s)) s.arena
+
+-- the arena, which was alive, has ended, with the words that it had; no other changed
+pub record Closes (pool : Pool) (p q : View) (a : ArenaId) : Type 0 where
+  pub goes : GoesOn pool p q
+  pub ended : (arena_of (state_in q) a).life ≡ Ended
+  pub words : (arena_of (state_in q) a).words ≡ (arena_of (state_in p) a).words
+  pub elsewhere : OnlyIn a (state_in p) (state_in q)
+
+-- a shared arena that is alive
+pub record CanClose (pool : Pool) (p : View) (a : ArenaId) : Type 0 where
+  pub alone : IsAlone p.gathered pool p
+  pub known : IsKnown p a
+  pub alive : (arena_of (state_in p) a).life ≡ Alive
+  pub shared : a.kind ≡ Shared

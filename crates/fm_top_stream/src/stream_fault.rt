@@ -1,0 +1,14 @@
+/// Why a stream gave no answer.
+#[derive(Clone, Copy, Debug, PartialEq, Eq)]
+pub enum StreamFault {
+    /// There is no file of that name.
+    Missing,
+    /// A read failed.
+    Read,
+    /// So many bytes stand behind the last whole record.
+    Ragged(u64),
+    /// The file has more than 1,099,511,627,776 bytes.
+    TooLong,
+    /// Memory ran out.
+    Memory,
+}
