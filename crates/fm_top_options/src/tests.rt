@@ -46,47 +46,15 @@ fn reads_positional_words(rt: HostRuntime) -> Result<(), Fail> {
 
 #[test]
 fn reads_the_option_at_any_place(rt: HostRuntime) -> Result<(), Fail> {
-    let alloc = rt.alloc();
-    assert!(rt;
-        says(
-            alloc,
-            &["--threads", "2", "l", "q", "f"],
-            Some("2"),
-            "l|q|f|"
-        )?
-    );
-    assert!(rt;
-        says(
-            alloc,
-            &["l", "--threads", "2", "q", "f"],
-            Some("2"),
-            "l|q|f|"
-        )?
-    );
-    assert!(rt;
-        says(
-            alloc,
-            &["l", "q", "f", "--threads", "2"],
-            Some("2"),
-            "l|q|f|"
-        )?
-    );
-    assert!(rt;
-        says(
-            alloc,
-            &["--threads=16", "l", "q", "f"],
-            Some("16"),
-            "l|q|f|"
-        )?
-    );
-    assert!(rt;
-        says(
-            alloc,
-            &["l", "q", "f", "--threads=16"],
-            Some("16"),
-            "l|q|f|"
-        )?
-    );
+    for (threads, words) in [
+        ("2", &["--threads", "2", "l", "q", "f"][..]),
+        ("2", &["l", "--threads", "2", "q", "f"][..]),
+        ("2", &["l", "q", "f", "--threads", "2"][..]),
+        ("16", &["--threads=16", "l", "q", "f"][..]),
+        ("16", &["l", "q", "f", "--threads=16"][..]),
+    ] {
+        assert!(rt; says(rt.alloc(), words, Some(threads), "l|q|f|")?);
+    }
     Ok(())
 }
 

@@ -13,3 +13,4 @@ mod scripts;
 mod sizes;
 mod sums;
 mod tallies;
+mod texts;

@@ -1,3 +1,5 @@
+ghost use Rattle.std.specs.Prelude.{◌≡◌, None};
+
 use crate::tests::body::{close_an_arena, use_a_word};
 use crate::tests::exact::use_by_itself;
 use crate::tests::handles::{use_ints, use_longs};
@@ -5,17 +7,28 @@ use crate::tests::segments::{copy_until_closed, use_ranges, use_values};
 use crate::{Double, Others};
 use fm_base::{Kind, Memory, Refusal};
 use fm_mono::Mono;
+use std::alloc::Global;
+use std::process::Abort;
+use std::sync::Wait;
+
+/// What every memory does whose arenas others leave alone.
+pub fn use_alone<R: Abort + Wait, M: Memory>(rt: &R, m: &mut M, alloc: Global)
+    requires { (M.view m.old).inside ≡ None }
+    ensures { (M.view m.new).inside ≡ None }
+{
+    use_a_word(rt, m, 0);
+    close_an_arena(rt, m);
+    use_ranges(rt, m);
+    use_values(rt, m, 7, 7, -1);
+    use_ints(rt, m, alloc, 0, 0);
+    use_longs(rt, m, alloc, 0);
+}
 
 #[test]
 fn one_thread(rt: HostRuntime) {
     let mut m = Mono::make(rt.alloc(), 64);
     use_by_itself(&rt, &mut m);
-    use_a_word(&rt, &mut m, 0);
-    close_an_arena(&rt, &mut m);
-    use_ranges(&rt, &mut m);
-    use_values(&rt, &mut m, 7, 7, -1);
-    use_ints(&rt, &mut m, rt.alloc(), 0, 0);
-    use_longs(&rt, &mut m, rt.alloc(), 0);
+    use_alone(&rt, &mut m, rt.alloc());
 }
 
 #[test]
@@ -37,12 +50,7 @@ fn where_the_others_are_gathered(rt: HostRuntime) {
     let mono = Mono::make(rt.alloc(), 64);
     let mut m = Double::new(&rt, rt.alloc(), mono, Others::Gathered);
     use_by_itself(&rt, &mut m);
-    use_a_word(&rt, &mut m, 0);
-    close_an_arena(&rt, &mut m);
-    use_ranges(&rt, &mut m);
-    use_values(&rt, &mut m, 7, 7, -1);
-    use_ints(&rt, &mut m, rt.alloc(), 0, 0);
-    use_longs(&rt, &mut m, rt.alloc(), 0);
+    use_alone(&rt, &mut m, rt.alloc());
 }
 
 /// The other caller comes between the tries of an update, and changes the bytes above the value, or those below it.

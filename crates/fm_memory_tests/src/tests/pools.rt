@@ -5,11 +5,12 @@ ghost use Rattle.fm_arena.specs.Shares.{CanShare};
 ghost use Rattle.fm_memory_tests.specs.Beside.{AreBeside};
 
 use crate::Interrupted;
-use crate::tests::body::{close_an_arena, stay_out, use_a_word};
+use crate::tests::body::{stay_out, use_a_word};
 use crate::tests::exact::use_by_itself;
-use crate::tests::handles::{use_a_long_of_another, use_ints, use_longs, use_values_of_another};
+use crate::tests::handles::{use_a_long_of_another, use_values_of_another};
+use crate::tests::memories::use_alone;
 use crate::tests::segments::{
-    copy_until_closed, read_of_another, use_no_bytes, use_of_another, use_ranges, use_values,
+    copy_until_closed, read_of_another, use_no_bytes, use_of_another, use_ranges,
 };
 use fm_arena::Shared;
 use fm_base::{Kind, Memory};
@@ -50,12 +51,7 @@ fn both<'a, R: Abort + Wait>(rt: &R, pool: &'a Pool, pass: Pass) -> (Shared<'a>,
 fn over_a_pool(rt: HostRuntime) {
     let (pool, pass) = made(&rt);
     let mut m = Shared::new(&pool, pass);
-    use_a_word(&rt, &mut m, 0);
-    close_an_arena(&rt, &mut m);
-    use_ranges(&rt, &mut m);
-    use_values(&rt, &mut m, 7, 7, -1);
-    use_ints(&rt, &mut m, rt.alloc(), 0, 0);
-    use_longs(&rt, &mut m, rt.alloc(), 0);
+    use_alone(&rt, &mut m, rt.alloc());
 }
 
 /// A pass that was asked, and has every number, is by itself.

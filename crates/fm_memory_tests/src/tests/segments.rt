@@ -8,6 +8,16 @@ use fm_segment::Segment;
 use std::process::Abort;
 use std::sync::Wait;
 
+/// A value of each kind.
+pub const OF_EACH_KIND: [Value; 6] = [
+    Value::Byte(-2),
+    Value::Boolean(true),
+    Value::Char(0xabcd),
+    Value::Short(-300),
+    Value::Int(-70_000),
+    Value::Long(0x0102_0304_0506_0708),
+];
+
 /// A segment of so many bytes of a fresh shared arena.
 pub fn fresh<R: Abort + Wait, M: Memory>(rt: &R, m: &mut M, size: u64) -> Segment
     requires { (M.view m.old).inside ≡ None }

@@ -1,7 +1,8 @@
 use crate::tests::endings::{line_ends, parts_of, rows_end};
 use crate::tests::files::{named, text_file};
-use crate::tests::layouts::{SALE, layout_file};
-use fm_io::{MemFiles, SureFiles};
+use crate::tests::layouts::SALE;
+use crate::tests::texts::{ends_at_limit, one_text, text_ends};
+use fm_io::MemFiles;
 use fm_top::LAYOUT_FILE_LIMIT;
 use std::test::Fail;
 
@@ -31,10 +32,7 @@ fn each_layout_is_migrated_or_refused(rt: HostRuntime) -> Result<(), Fail> {
         let (layout, status, text) = parts_of(alloc, row)?;
         let layout = layout.replace(alloc, "'", "\"")?;
         let text = text.replace(alloc, "'", "\"")?;
-        for most in [1, usize::MAX] {
-            let mut files = layout_file(alloc, &layout, most)?;
-            line_ends(&rt, &mut files, "migrate L", status, &text)?;
-        }
+        text_ends(&rt, ("L", &layout), "migrate L", status, &text)?;
     }
     Ok(())
 }
@@ -47,7 +45,7 @@ fn what_is_migrated_is_the_same_layout(rt: HostRuntime) -> Result<(), Fail> {
     let migrated =
         "{\"layout\":{\"members\":[{\"members\":[{\"name\":\"x\",\"type\":\"int\"},{\"name\":\"y\",\"type\":\"int\"}],\"name\":\"from\",\"type\":\"struct\"},{\"members\":[{\"name\":\"x\",\"type\":\"int\"},{\"name\":\"y\",\"type\":\"int\"}],\"name\":\"to\",\"type\":\"struct\"}],\"type\":\"struct\"},\"types\":[],\"version\":2}";
     for layout in [LINE, migrated] {
-        let mut files = layout_file(alloc, layout, usize::MAX)?;
+        let mut files = one_text(alloc, "L", layout, usize::MAX)?;
         line_ends(&rt, &mut files, "layout L", 0, listing)?;
         let mut again = String::from_str(alloc, migrated)?;
         again.push('\n')?;
@@ -88,7 +86,7 @@ migrate  -> 2 missing |";
 
 #[test]
 fn words_that_ask_for_no_migration_are_usage(rt: HostRuntime) -> Result<(), Fail> {
-    rows_end(&rt, &mut layout_file(rt.alloc(), SALE, 1)?, NO_MIGRATIONS)
+    rows_end(&rt, &mut one_text(rt.alloc(), "L", SALE, 1)?, NO_MIGRATIONS)
 }
 
 #[test]
@@ -97,15 +95,5 @@ fn a_migrated_file_may_be_as_long_as_the_limit(rt: HostRuntime) -> Result<(), Fa
     let int = "{\"layout\":{\"type\":\"int\"},\"types\":[],\"version\":2}";
     let mut line = String::from_str(rt.alloc(), int)?;
     line.push('\n')?;
-    for (length, status, text) in [(limit, 0, line.as_str()), (limit + 1, 7, "too long\n")] {
-        let alloc = rt.alloc();
-        let mut bytes = int.as_bytes().to_vec(alloc)?;
-        for _ in int.len()..length {
-            bytes.push(b' ')?;
-        }
-        let file = named(alloc, "L", bytes)?;
-        let mut files = SureFiles::new(vec![in alloc; file]?);
-        line_ends(&rt, &mut files, "migrate L", status, text)?;
-    }
-    Ok(())
+    ends_at_limit(&rt, ("L", int), b' ', limit, "migrate L", &line)
 }

@@ -1,15 +1,10 @@
-use crate::tests::endings::{line_ends, parts_of, rows_end, run};
-use crate::tests::files::{named, text_file};
+use crate::tests::endings::{parts_of, rows_end, run};
 use crate::tests::keeping::run_at;
-use fm_io::{MemFiles, MemSink, SureFiles};
+use crate::tests::texts::{ends_at_limit, one_text, text_ends};
+use fm_io::MemSink;
 use fm_script_report::print_report;
 use fm_top::{Kept, SCRIPT_FILE_LIMIT};
-use std::alloc::{AllocError, AllocGlobal, Global};
-use std::process::Abort;
-use std::random::RandomSource;
-use std::sync::Wait;
 use std::test::Fail;
-use std::thread::Threads;
 
 /// A slot is used twice, and its bytes are zero again.
 const TWICE: &str =
@@ -22,12 +17,6 @@ const TWICE_REPORT: &str =
     first open b shared -> ok\nfirst alloc b t 8 8 -> ok 0\nfirst get t long 0 -> 0\n\
     first get s long 0 -> refused 1\nbytes b 0000000000000000\n";
 
-/// The files where `S` has this text, and each read gives at most so many bytes.
-fn script_file(alloc: Global, text: &str, most: usize) -> Result<MemFiles, AllocError> {
-    let file = text_file(alloc, "S", text)?;
-    Ok(MemFiles::new(vec![in alloc; file]?, Vec::new(alloc)).with_piece(most.max(1)))
-}
-
 /// Scripts, with a bar for each line's end, and how their runs end.
 const SCRIPTS: &str = "\
 pool 1 1 8 1000 1| -> 0
@@ -38,25 +27,13 @@ first open a shared| -> 10 script refused 1|
 pool 1 1 8 1000 1|first open a| -> 10 script refused 2|
 pool 1 1 8 1000 1|first open a shared|first hold a h|first hold a k|first unhold k| -> 10 script refused 3|";
 
-/// Compares how the run of this script ends with what is wanted, in pieces of every size.
-fn is_run<R>(rt: &R, script: &str, status: u8, text: &str) -> Result<(), Fail>
-where
-    R: Threads + Wait + Sync + RandomSource + AllocGlobal + Abort,
-{
-    for most in [1, 7, usize::MAX] {
-        let mut files = script_file(rt.alloc(), script, most)?;
-        line_ends(rt, &mut files, "run S", status, text)?;
-    }
-    Ok(())
-}
-
 #[test]
 fn each_script_is_run_or_refused(rt: HostRuntime) -> Result<(), Fail> {
-    is_run(&rt, TWICE, 0, TWICE_REPORT)?;
+    text_ends(&rt, ("S", TWICE), "run S", 0, TWICE_REPORT)?;
     for row in SCRIPTS.lines() {
         let (script, status, text) = parts_of(rt.alloc(), row)?;
         let script = script.replace(rt.alloc(), "|", "\n")?;
-        is_run(&rt, &script, status, &text)?;
+        text_ends(&rt, ("S", &script), "run S", status, &text)?;
     }
     Ok(())
 }
@@ -68,7 +45,7 @@ fn each_part_of_whole_lines_is_run(rt: HostRuntime) -> Result<(), Fail> {
     for (k, c) in TWICE.as_bytes().iter().enumerate() {
         if *c == b'\n' {
             let part = std::str::from_utf8(&TWICE.as_bytes()[..=k]).unwrap_or("");
-            let mut files = script_file(alloc, part, usize::MAX)?;
+            let mut files = one_text(alloc, "S", part, usize::MAX)?;
             let code = run(
                 &rt,
                 &words,
@@ -93,7 +70,7 @@ run  -> 2 missing |";
 
 #[test]
 fn words_that_run_no_script_are_usage(rt: HostRuntime) -> Result<(), Fail> {
-    rows_end(&rt, &mut script_file(rt.alloc(), TWICE, 1)?, NO_RUNS)
+    rows_end(&rt, &mut one_text(rt.alloc(), "S", TWICE, 1)?, NO_RUNS)
 }
 
 /// Runs one after another, whose write of this number fails if one does: their statuses, and whether a report is kept.
@@ -107,7 +84,7 @@ run nofile -> 2 none";
 
 #[test]
 fn a_report_is_kept_with_each_run_of_a_script(rt: HostRuntime) -> Result<(), Fail> {
-    let mut files = script_file(rt.alloc(), TWICE, usize::MAX)?;
+    let mut files = one_text(rt.alloc(), "S", TWICE, usize::MAX)?;
     let mut kept = Kept::new();
     for row in KEEPING.lines() {
         let (row, failing) = row.rsplit_once(" at ").unwrap_or((row, ""));
@@ -124,7 +101,7 @@ fn a_report_is_kept_with_each_run_of_a_script(rt: HostRuntime) -> Result<(), Fai
 
 #[test]
 fn what_is_kept_is_what_was_printed(rt: HostRuntime) -> Result<(), Fail> {
-    let mut files = script_file(rt.alloc(), TWICE, usize::MAX)?;
+    let mut files = one_text(rt.alloc(), "S", TWICE, usize::MAX)?;
     let mut kept = Kept::new();
     run_at(&rt, &mut files, "run S", u64::MAX, &mut kept)?;
     let Some(report) = kept.report() else {
@@ -139,15 +116,5 @@ fn what_is_kept_is_what_was_printed(rt: HostRuntime) -> Result<(), Fail> {
 #[test]
 fn a_script_file_may_be_as_long_as_the_limit(rt: HostRuntime) -> Result<(), Fail> {
     let limit = SCRIPT_FILE_LIMIT as usize;
-    for (length, status, text) in [(limit, 0, TWICE_REPORT), (limit + 1, 7, "too long\n")] {
-        let alloc = rt.alloc();
-        let mut bytes = TWICE.as_bytes().to_vec(alloc)?;
-        for _ in TWICE.len()..length {
-            bytes.push(b'#')?;
-        }
-        let file = named(alloc, "S", bytes)?;
-        let mut files = SureFiles::new(vec![in alloc; file]?);
-        line_ends(&rt, &mut files, "run S", status, text)?;
-    }
-    Ok(())
+    ends_at_limit(&rt, ("S", TWICE), b'#', limit, "run S", TWICE_REPORT)
 }

@@ -1,7 +1,7 @@
 use super::calls::Ground;
 use super::layouts::{accounts, anywhere, either, handle, table, value};
 use crate::tests::handles::{holds, takes};
-use crate::tests::segments::fresh;
+use crate::tests::segments::{OF_EACH_KIND, fresh};
 use fm_base::{Memory, Refusal};
 use fm_handle::VarHandle;
 use fm_lanes::{Order, Value, ValueKind};
@@ -13,14 +13,7 @@ use std::test::Fail;
 #[test]
 fn values_stand_where_paths_lead(rt: HostRuntime) {
     let mut g = Ground::new(&rt, rt.alloc(), 48);
-    for v in [
-        Value::Byte(-2),
-        Value::Boolean(true),
-        Value::Char(0xabcd),
-        Value::Short(-300),
-        Value::Int(-70_000),
-        Value::Long(0x0102_0304_0506_0708),
-    ] {
+    for v in OF_EACH_KIND {
         for order in [Order::Little, Order::Big] {
             let layout = table(&rt, rt.alloc(), v, order);
             let item = anywhere(&rt, v, order);

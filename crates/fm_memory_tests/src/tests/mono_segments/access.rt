@@ -2,7 +2,7 @@ ghost use Rattle.std.specs.Prelude.{IfOk};
 ghost use Rattle.fm_lanes.specs.Value.{kind_of};
 ghost use Rattle.fm_segment.specs.Access.{HasKind};
 
-use crate::tests::segments::fresh;
+use crate::tests::segments::{OF_EACH_KIND, fresh};
 use fm_base::{Memory, Refusal};
 use fm_lanes::{Order, Value, ValueKind};
 use fm_layout::Layout;
@@ -20,14 +20,7 @@ fn anywhere(v: Value, order: Order) -> Result<Layout, Refusal>
 fn what_was_set_is_got(rt: HostRuntime) -> Result<(), Fail> {
     let mut m = Mono::make(rt.alloc(), 64);
     let segment = fresh(&rt, &mut m, 16);
-    for v in [
-        Value::Byte(-2),
-        Value::Boolean(true),
-        Value::Char(0xabcd),
-        Value::Short(-300),
-        Value::Int(-70_000),
-        Value::Long(0x0102_0304_0506_0708),
-    ] {
+    for v in OF_EACH_KIND {
         for order in [Order::Little, Order::Big] {
             let layout = anywhere(v, order)?;
             for offset in 0..9 {

@@ -1,4 +1,4 @@
-use Rattle.fm_bench.proofs.recruits.recruit_often.Given as goal
+use Rattle.fm_bench.proofs.crews.recruit_often.Given as goal
 use Rattle.fm_bench.specs.Ready.{CanWork}
 
 abbrev pub invariant-loop : goal.invariant-loop

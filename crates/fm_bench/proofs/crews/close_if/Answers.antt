@@ -1,5 +1,5 @@
 use Rattle.fm_bench.proofs.Working.{idle, idle_on, works}
-use Rattle.fm_bench.proofs.stress.close_once.Goals as goal
+use Rattle.fm_bench.proofs.crews.close_if.Goals as goal
 
 pub returns : goal.returns
 returns g c =
