@@ -218,14 +218,7 @@ pub fn work_all<R: Threads + Wait + Sync>(
 }
 
 /// The worker does the job, as the first one or not.
-fn work<R: Wait>(
-    rt: &R,
-    pool: &Pool,
-    worker: &mut Worker,
-    a: ArenaId,
-    job: Job,
-    is_first: bool,
-)
+fn work<R: Wait>(rt: &R, pool: &Pool, worker: &mut Worker, a: ArenaId, job: Job, is_first: bool)
     requires { CanWork pool.now worker.old.pass a }
     ensures { CanWork pool.now worker.new.pass a }
 {

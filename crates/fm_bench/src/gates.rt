@@ -28,7 +28,10 @@ const SHARE: u64 = 128;
 ///
 /// Each visit enters the arena, loads one word and leaves. Word w holds w times `count`, wrapping.
 pub fn gates<R: Wait>(rt: &R, alloc: Global, count: u64) -> Result<u64, Refusal> {
-    let shape = Shape { page_words: 8_192, ..ONE };
+    let shape = Shape {
+        page_words: 8_192,
+        ..ONE
+    };
     let (pool, pass) = made(alloc, shape)?;
     gates_of(rt, pool, pass, count)
 }

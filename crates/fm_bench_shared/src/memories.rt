@@ -41,13 +41,7 @@ pub fn over_shared<R: Wait>(rt: &R, alloc: Global, asked: &Asked) -> Option<u64>
 }
 
 /// The pool and the pass are moved here, so that the compiler knows that nothing else has a name for them.
-fn over_pool<R: Wait>(
-    rt: &R,
-    alloc: Global,
-    pool: Pool,
-    pass: Pass,
-    asked: &Asked,
-) -> Option<u64>
+fn over_pool<R: Wait>(rt: &R, alloc: Global, pool: Pool, pass: Pass, asked: &Asked) -> Option<u64>
     requires { CanShare pool pass }
 {
     let mut memory = Shared::new(&pool, pass);
