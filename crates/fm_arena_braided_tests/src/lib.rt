@@ -2,16 +2,4 @@
 #![tactic(auto)]
 
 #[cfg(test)]
-mod closer;
-#[cfg(test)]
-mod copies;
-#[cfg(test)]
-mod fills;
-#[cfg(test)]
-mod mismatches;
-#[cfg(test)]
-mod reads;
-#[cfg(test)]
-mod scene;
-#[cfg(test)]
-mod updates;
+mod tests;

@@ -2,16 +2,4 @@
 #![tactic(auto)]
 
 #[cfg(test)]
-mod arenas;
-#[cfg(test)]
-mod closes;
-#[cfg(test)]
-mod gates;
-#[cfg(test)]
-mod numbers;
-#[cfg(test)]
-mod pages;
-#[cfg(test)]
-mod pools;
-#[cfg(test)]
-mod races;
+mod tests;

@@ -5,10 +5,10 @@ use Rattle.fm_base.specs.Calls.{Call, Reply, Entry}
 use Rattle.fm_rule_calls.specs.Kept.{Kept, Lasts}
 use Rattle.fm_gate.specs.Crews.{CrewStands, HasNothing}
 use Rattle.fm_gate.specs.Learnt.{AfterAct}
-use Rattle.fm_gate.specs.Needs.{CanReach, IsInside, IsOutside}
+use Rattle.fm_gate.specs.Needs.{CanReach, IsOutside}
 use Rattle.fm_rule_facts.specs.Views.{View}
 use Rattle.fm_rule.specs.declared.pool.Pool.{Pool}
-use Rattle.fm_bench.specs.Ready.{CanWork, IsOpen}
+use Rattle.fm_bench.specs.Ready.{CanWork, IsIdle, IsOpen}
 
 -- after an act the word can still be reached
 pub still_reached : {pool : Pool} {p q : View} {word : ℕ} {call : ArenaId → Call} {reply : Reply} → CanReach pool p word
@@ -17,18 +17,6 @@ still_reached {word = word} can after =
     let given = can.given in
     let more = after.lasts.given can.id in
     record { id = can.id; inside = after.inside can.id can.inside; given = omega (arith, given, more) }
-
--- inside the arena its first word can be reached
-pub first_reached : {pool : Pool} {p q : View} {a : ArenaId} → CanWork pool p a → Lasts p q → IsInside pool q a → CanReach pool q 0
-first_reached {a = a} can lasts inside =
-    let given = can.opened.given in
-    let more = lasts.given a in
-    record { id = a; inside = inside; given = omega (arith, given, more) }
-
--- the arena is open to the pass, which has nothing
-pub record IsIdle (p : View) (a : ArenaId) : Type 0 where
-  pub opened : IsOpen p 8 a
-  pub nothing : HasNothing p
 
 pub idle : {pool : Pool} {p : View} {a : ArenaId} → CanWork pool p a → IsIdle p a
 idle can = record { opened = can.opened; nothing = can.nothing }

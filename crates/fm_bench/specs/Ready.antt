@@ -41,6 +41,11 @@ pub record AreOpen (pool : Pool) (p : View) (arenas : List ArenaId) (bytes : ℕ
   pub free : IsFree pool p
   pub each : All (IsOpen p bytes) arenas
 
+-- the arena is open to the pass with eight bytes, and it has nothing
+pub record IsIdle (p : View) (a : ArenaId) : Type 0 where
+  pub opened : IsOpen p 8 a
+  pub nothing : HasNothing p
+
 -- the pass is outside, the arena is open to it with eight bytes, and it has nothing, so that it can be gathered
 pub record CanWork (pool : Pool) (p : View) (a : ArenaId) : Type 0 where
   pub outside : IsOutside pool p

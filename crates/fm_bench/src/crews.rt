@@ -1,11 +1,13 @@
 ghost use Rattle.std.specs.Prelude.{◌<◌, ◌≤◌, All, IfOk};
 ghost use Rattle.fm_gate.specs.Crews.{HasNothing, StandsOn};
-ghost use Rattle.fm_gate.specs.Needs.{IsOutside};
-ghost use Rattle.fm_bench.specs.Ready.{CanWork, IsFree, IsOpen};
+ghost use Rattle.fm_gate.specs.Needs.{IsInside, IsOutside};
+ghost use Rattle.fm_words.specs.Shapes.{IsValid};
+ghost use Rattle.fm_bench.specs.Ready.{CanWork, IsIdle, IsOpen};
 
-use crate::gates::given;
+use crate::pools::{ONE, given, made};
 use fm_base::{ArenaId, Refusal};
-use fm_gate::{a_crew_stands, enter, leave, load};
+use fm_close::close;
+use fm_gate::{a_crew_stands, add, enter, leave, load};
 use fm_rule::{Pass, Pool};
 use fm_words::Shape;
 use std::alloc::Global;
@@ -24,26 +26,36 @@ pub struct Worker {
     pub gap: [u64; 16],
 }
 
-/// A pool of so many passes, with two arenas of eight words.
-pub fn made_for(alloc: Global, passes: u32) -> Result<(Pool, Pass), Refusal>
+impl Worker {
+    ghost use Rattle.std.specs.Prelude.{◌≡◌};
+
+    /// It came in once more, and found this word.
+    #[inline(always)]
+    fn note(&mut self, found: u64)
+        ensures { self.new.pass ≡ self.old.pass }
+    {
+        self.last = found;
+        self.visits = self.visits.wrapping_add(1);
+    }
+}
+
+/// So many passes, and two slots.
+pub fn crowded(passes: u32) -> Shape
     requires some { 0 < passes }
     requires few { passes ≤ 4096 }
-    ensures free { IfOk result (λ r. IsFree r.0 r.1) }
+    ensures valid { IsValid result }
 {
-    let shape = Shape {
+    Shape {
         passes,
         slots: 2,
         pages: 2,
-        page_words: 8,
-        reach: 1,
-        generations: 1,
-    };
-    Pool::make(alloc, shape)
+        ..ONE
+    }
 }
 
 /// Draws the other pass of a pool of two so often, and gathers it each time. Answers how often.
 pub fn draws<R: Wait>(rt: &R, alloc: Global, count: u64) -> Result<u64, Refusal> {
-    let (pool, mut pass) = made_for(alloc, 2)?;
+    let (pool, mut pass) = made(alloc, crowded(2))?;
     Ok(draw_often(rt, &pool, &mut pass, count))
 }
 
@@ -154,10 +166,10 @@ pub fn crowd<R: Threads + Wait + Sync>(
     threads: u64,
     between: u64,
 ) -> Result<u64, Refusal> {
-    let (pool, mut pass) = made_for(alloc, 64)?;
+    let (pool, mut pass) = made(alloc, crowded(64))?;
     let a = given(rt, &pool, &mut pass, 8)?;
     let mut crew = crew_of(rt, alloc, &pool, &mut pass, a, threads, between)?;
-    visit_all(rt, &pool, crew.as_mut_slice(), a, count);
+    work_all(rt, &pool, crew.as_mut_slice(), a, Job::Load(count));
     Ok(visits_of(&crew))
 }
 
@@ -170,8 +182,27 @@ pub fn visits_of(crew: &Vec<Worker>) -> u64 {
     visits
 }
 
-/// Each worker visits, in a thread of its own.
-fn visit_all<R: Threads + Sync>(rt: &R, pool: &Pool, crew: &mut [Worker], a: ArenaId, count: u64)
+/// What the workers of a crew do with the word of an arena.
+#[derive(Clone, Copy)]
+pub enum Job {
+    /// Each loads it so often.
+    Load(u64),
+    /// Each adds 1 so often, or until the arena is closed.
+    Add(u64),
+    /// The same, where the first worker closes the arena before it adds.
+    CloseAndAdd(u64),
+    /// Each has recruits add so often, twice; the first worker closes the arena between.
+    Recruit(u64),
+}
+
+/// Each worker does the job, in a thread of its own.
+pub fn work_all<R: Threads + Wait + Sync>(
+    rt: &R,
+    pool: &Pool,
+    crew: &mut [Worker],
+    a: ArenaId,
+    job: Job,
+)
     requires { All (λ w. CanWork pool.now w.pass a) crew.old }
     ensures { All (λ w. CanWork pool.now w.pass a) crew.new }
 {
@@ -179,36 +210,112 @@ fn visit_all<R: Threads + Sync>(rt: &R, pool: &Pool, crew: &mut [Worker], a: Are
         rt,
         crew,
         16,
-        &|_: usize, worker: &mut Worker|
+        &|place: usize, worker: &mut Worker|
             requires { CanWork pool.now worker.now.pass a }
             ensures { CanWork pool.entry.now worker.exit.now.pass a }
-        { visit_often(pool, worker, a, count) },
+        { work(rt, pool, worker, a, job, place == 0) },
     );
 }
 
-/// Loads the arena's word, each time in a visit of its own.
-fn visit_often(pool: &Pool, worker: &mut Worker, a: ArenaId, count: u64)
+/// The worker does the job, as the first one or not.
+fn work<R: Wait>(rt: &R, pool: &Pool, worker: &mut Worker, a: ArenaId, job: Job, is_first: bool)
     requires { CanWork pool.now worker.old.pass a }
     ensures { CanWork pool.now worker.new.pass a }
 {
-    for _ in 0..count {
-        match load_once(pool, &mut worker.pass, a) {
-            Ok(found) => {
-                worker.last = found;
-                worker.visits = worker.visits.wrapping_add(1);
-            }
+    match job {
+        Job::Load(times) => act_often(pool, worker, a, Act::Load, times),
+        Job::Add(times) => act_often(pool, worker, a, Act::Add, times),
+        Job::CloseAndAdd(times) => {
+            close_if(rt, pool, &mut worker.pass, a, is_first);
+            act_often(pool, worker, a, Act::Add, times);
+        }
+        Job::Recruit(times) => {
+            recruit_often(rt, pool, worker, a, times);
+            close_if(rt, pool, &mut worker.pass, a, is_first);
+            recruit_often(rt, pool, worker, a, times);
+        }
+    }
+}
+
+/// Closes the arena, if it is to and nobody else did.
+fn close_if<R: Wait>(rt: &R, pool: &Pool, pass: &mut Pass, a: ArenaId, it_is: bool)
+    requires { CanWork pool.now pass.old a }
+    ensures { CanWork pool.now pass.new a }
+{
+    if it_is {
+        a_crew_stands();
+        let _ = close(rt, pool, pass, a);
+    }
+}
+
+/// An act on the word.
+#[derive(Clone, Copy)]
+enum Act {
+    Load,
+    Add,
+}
+
+/// Acts so often, each time in a visit of its own, or until the arena is closed.
+#[inline(always)]
+fn act_often(pool: &Pool, worker: &mut Worker, a: ArenaId, act: Act, times: u64)
+    requires { CanWork pool.now worker.old.pass a }
+    ensures { CanWork pool.now worker.new.pass a }
+{
+    for _ in 0..times {
+        match act_once(pool, &mut worker.pass, a, act) {
+            Ok(found) => worker.note(found),
             Err(_) => return,
         }
     }
 }
 
-fn load_once(pool: &Pool, pass: &mut Pass, a: ArenaId) -> Result<u64, Refusal>
+/// Recruits add so often. Where the arena is closed they are refused, and are drawn and gathered all the same.
+fn recruit_often<R: Wait>(rt: &R, pool: &Pool, worker: &mut Worker, a: ArenaId, times: u64)
+    requires { CanWork pool.now worker.old.pass a }
+    ensures { CanWork pool.now worker.new.pass a }
+{
+    for _ in 0..times {
+        if let Ok(found) = recruit_once(rt, pool, &mut worker.pass, a) {
+            worker.note(found);
+        }
+    }
+}
+
+/// A pass is drawn, adds 1 to the arena's word in a visit of its own, and is gathered again.
+fn recruit_once<R: Wait>(rt: &R, pool: &Pool, pass: &mut Pass, a: ArenaId) -> Result<u64, Refusal>
+    requires { CanWork pool.now pass.old a }
+    ensures { CanWork pool.now pass.new a }
+{
+    let mut recruit = hire(rt, pool, pass, a)?;
+    let found = act_once(pool, &mut recruit, a, Act::Add);
+    take_in(pool, pass, recruit);
+    found
+}
+
+/// Acts on the arena's word in a visit of its own.
+#[inline(always)]
+fn act_once(pool: &Pool, pass: &mut Pass, a: ArenaId, act: Act) -> Result<u64, Refusal>
     requires { CanWork pool.now pass.old a }
     ensures { CanWork pool.now pass.new a }
 {
     a_crew_stands();
     enter(pool, pass, a)?;
-    let found = load(pool, pass, 0);
+    let found = act_inside(pool, pass, a, act);
     leave(pool, pass);
     Ok(found)
+}
+
+/// Acts on the first word of the arena that the pass is inside.
+#[inline(always)]
+fn act_inside(pool: &Pool, pass: &mut Pass, a: ArenaId, act: Act) -> u64
+    requires inside { IsInside pool.now pass.old a }
+    requires idle { IsIdle pass.old a }
+    ensures inside { IsInside pool.now pass.new a }
+    ensures idle { IsIdle pass.new a }
+{
+    a_crew_stands();
+    match act {
+        Act::Load => load(pool, pass, 0),
+        Act::Add => add(pool, pass, 0, 1),
+    }
 }

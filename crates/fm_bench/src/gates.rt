@@ -2,11 +2,13 @@ ghost use Rattle.std.specs.Prelude.{◌≡◌, ◌*◌, ◌<◌, ◌≤◌, leng
 ghost use Rattle.fm_rule_facts.specs.Views.{given_of};
 ghost use Rattle.fm_rule_calls.specs.Kept.{Lasts};
 ghost use Rattle.fm_gate.specs.Needs.{CanVisit, IsOutside};
+ghost use Rattle.fm_words.specs.Shapes.{IsValid};
 ghost use Rattle.fm_bench.specs.Ready.{AreOpen, IsFree, IsOpen};
 
+use crate::pools::{AGAIN, ONE, given, made};
 use fm_base::{ArenaId, Kind, Refusal};
 use fm_close::close;
-use fm_gate::{allocate, enter, leave, load, open_arena, store};
+use fm_gate::{enter, leave, load, open_arena, store};
 use fm_rule::{Pass, Pool};
 use fm_words::Shape;
 use std::alloc::Global;
@@ -26,19 +28,23 @@ const SHARE: u64 = 128;
 ///
 /// Each visit enters the arena, loads one word and leaves. Word w holds w times `count`, wrapping.
 pub fn gates<R: Wait>(rt: &R, alloc: Global, count: u64) -> Result<u64, Refusal> {
-    let (pool, pass) = made(alloc, 1, 8_192)?;
+    let shape = Shape {
+        page_words: 8_192,
+        ..ONE
+    };
+    let (pool, pass) = made(alloc, shape)?;
     gates_of(rt, pool, pass, count)
 }
 
 /// The same of an arena whose words lie in 64 pages.
 pub fn spreads<R: Wait>(rt: &R, alloc: Global, count: u64) -> Result<u64, Refusal> {
-    let (pool, pass) = spread(alloc, 128)?;
+    let (pool, pass) = made(alloc, spread(128))?;
     gates_of(rt, pool, pass, count)
 }
 
 /// The same, each word after the one before it.
 pub fn nexts<R: Wait>(rt: &R, alloc: Global, count: u64) -> Result<u64, Refusal> {
-    let (pool, mut pass) = spread(alloc, 128)?;
+    let (pool, mut pass) = made(alloc, spread(128))?;
     let arena = filled(rt, &pool, &mut pass, count)?;
     rounds(pool, pass, arena, count / WORDS)
 }
@@ -93,7 +99,7 @@ fn rounds(pool: Pool, mut pass: Pass, arena: ArenaId, count: u64) -> Result<u64,
 
 /// The same of 64 arenas, whose words follow one another: what was found says which arena is next, too.
 pub fn hops<R: Wait>(rt: &R, alloc: Global, count: u64) -> Result<u64, Refusal> {
-    let (pool, mut pass) = made(alloc, SLOTS, 128)?;
+    let (pool, mut pass) = made(alloc, slotted(128))?;
     let arenas = opened(rt, alloc, &pool, &mut pass, count)?;
     leaps(pool, pass, &arenas, count)
 }
@@ -114,7 +120,7 @@ fn leaps(pool: Pool, mut pass: Pass, arenas: &[ArenaId], count: u64) -> Result<u
 pub fn closes<R: Wait>(rt: &R, alloc: Global, pools: u64) -> Result<u64, Refusal> {
     let mut closed: u64 = 0;
     for _ in 0..pools {
-        let (pool, mut pass) = made(alloc, SLOTS, 1)?;
+        let (pool, mut pass) = made(alloc, slotted(1))?;
         for _ in 0..SLOTS {
             let arena = open_arena(rt, &pool, &mut pass, Kind::Shared)?;
             close(rt, &pool, &mut pass, arena)?;
@@ -124,52 +130,32 @@ pub fn closes<R: Wait>(rt: &R, alloc: Global, pools: u64) -> Result<u64, Refusal
     Ok(closed)
 }
 
-/// A pool of 16 passes, whose arenas have so many words.
-pub fn made(alloc: Global, slots: u32, words: u32) -> Result<(Pool, Pass), Refusal>
-    requires some { 0 < slots }
-    requires slots { slots ≤ 64 }
-    requires word { 0 < words }
-    requires words { words ≤ 8192 }
-    ensures free { IfOk result (λ r. IsFree r.0 r.1) }
+/// 64 slots, each for one arena of so many words.
+fn slotted(page_words: u32) -> Shape
+    requires word { 0 < page_words }
+    requires words { page_words ≤ 8192 }
+    ensures valid { IsValid result }
 {
-    let shape = Shape {
-        passes: 16,
-        slots,
-        pages: slots,
-        page_words: words,
-        reach: 1,
-        generations: 1,
-    };
-    Pool::make(alloc, shape)
+    Shape {
+        slots: SLOTS,
+        pages: SLOTS,
+        page_words,
+        ..ONE
+    }
 }
 
-/// A pool of 16 passes and one slot, whose arena has up to 64 pages of so many words.
-pub fn spread(alloc: Global, page_words: u32) -> Result<(Pool, Pass), Refusal>
+/// One slot, whose arenas have up to 64 pages of so many words.
+pub fn spread(page_words: u32) -> Shape
     requires word { 0 < page_words }
     requires words { page_words ≤ 65536 }
-    ensures free { IfOk result (λ r. IsFree r.0 r.1) }
+    ensures valid { IsValid result }
 {
-    let shape = Shape {
-        passes: 16,
-        slots: 1,
+    Shape {
         pages: 64,
         page_words,
         reach: 64,
-        generations: 4_294_967_295,
-    };
-    Pool::make(alloc, shape)
-}
-
-/// Opens an arena that gives so many bytes.
-pub fn given<R: Wait>(rt: &R, pool: &Pool, pass: &mut Pass, bytes: u64) -> Result<ArenaId, Refusal>
-    requires { IsFree pool.now pass.old }
-    ensures free { IsFree pool.now pass.new }
-    ensures open { IfOk result (λ a. IsOpen pass.new bytes a) }
-    ensures lasts { Lasts pass.old pass.new }
-{
-    let arena = open_arena(rt, pool, pass, Kind::Shared)?;
-    allocate(rt, pool, pass, arena, bytes, 8)?;
-    Ok(arena)
+        ..AGAIN
+    }
 }
 
 /// Arenas in all slots. Word w of all of them holds w times a number, wrapping.

@@ -1,8 +1,7 @@
-ghost use Rattle.std.specs.Prelude.{IfOk};
 ghost use Rattle.fm_bench.specs.Ready.{IsFree, IsOpen};
 
-use crate::gates::{given, spread};
-use crate::reuse::made_again;
+use crate::gates::spread;
+use crate::pools::{AGAIN, given, made};
 use fm_base::{ArenaId, Refusal};
 use fm_close::close;
 use fm_gate::allocate;
@@ -14,58 +13,55 @@ use std::sync::Wait;
 /// The words of an arena that is filled word by word.
 const WORDS: u32 = 8_192;
 
+/// 64 slots and 4,096 pages of 64 bytes, of which an arena has 65 at most: 63 arenas leave one page.
+const MANY_PAGED: Shape = Shape {
+    slots: 64,
+    pages: 4_096,
+    reach: 65,
+    ..AGAIN
+};
+
 /// Opens an arena of a pool of 16 passes, allocates all its 64 bytes and closes it, so often. Answers how often.
 pub fn opens<R: Wait>(rt: &R, alloc: Global, count: u64) -> Result<u64, Refusal> {
-    let (pool, pass) = made_again(alloc, 16, 1, 8)?;
+    let (pool, pass) = made(alloc, AGAIN)?;
     turns(rt, pool, pass, 64, count)
 }
 
 /// The same of an arena of 1,048,576 words, which are wiped at each close.
 pub fn wipes<R: Wait>(rt: &R, alloc: Global, count: u64) -> Result<u64, Refusal> {
-    let (pool, pass) = made_again(alloc, 16, 1, 1_048_576)?;
+    let shape = Shape {
+        page_words: 1_048_576,
+        ..AGAIN
+    };
+    let (pool, pass) = made(alloc, shape)?;
     turns(rt, pool, pass, 8_388_608, count)
 }
 
 /// The same of an arena of 1 MiB in 64 pages, each of which is taken, wiped and given back.
 pub fn grows<R: Wait>(rt: &R, alloc: Global, count: u64) -> Result<u64, Refusal> {
-    let (pool, pass) = spread(alloc, 2_048)?;
+    let (pool, pass) = made(alloc, spread(2_048))?;
     turns(rt, pool, pass, 1_048_576, count)
 }
 
 /// The same of an arena that may have 32 MiB, and gives nothing.
 pub fn empties<R: Wait>(rt: &R, alloc: Global, count: u64) -> Result<u64, Refusal> {
-    let (pool, pass) = spread(alloc, 65_536)?;
+    let (pool, pass) = made(alloc, spread(65_536))?;
     turns(rt, pool, pass, 0, count)
 }
 
 /// The same of an arena of 64 bytes in a pool of 4,096 pages, which takes the first one.
 pub fn firsts<R: Wait>(rt: &R, alloc: Global, count: u64) -> Result<u64, Refusal> {
-    let (pool, pass) = many_paged(alloc)?;
+    let (pool, pass) = made(alloc, MANY_PAGED)?;
     turns(rt, pool, pass, 64, count)
 }
 
 /// The same where other arenas have all other pages, so that it takes the last one.
 pub fn lasts<R: Wait>(rt: &R, alloc: Global, count: u64) -> Result<u64, Refusal> {
-    let (pool, mut pass) = many_paged(alloc)?;
+    let (pool, mut pass) = made(alloc, MANY_PAGED)?;
     for _ in 1..64 {
         given(rt, &pool, &mut pass, 65 * 64)?;
     }
     turns(rt, pool, pass, 64, count)
-}
-
-/// A pool of 64 slots and 4,096 pages of 64 bytes, of which an arena has 65 at most: 63 arenas leave one page.
-fn many_paged(alloc: Global) -> Result<(Pool, Pass), Refusal>
-    ensures free { IfOk result (λ r. IsFree r.0 r.1) }
-{
-    let shape = Shape {
-        passes: 16,
-        slots: 64,
-        pages: 4_096,
-        page_words: 8,
-        reach: 65,
-        generations: 4_294_967_295,
-    };
-    Pool::make(alloc, shape)
 }
 
 /// The calls alone. The pool and the pass are moved here, so that the compiler knows that nothing else has a name for
@@ -88,7 +84,11 @@ fn turns<R: Wait>(
 
 /// Allocates 8 bytes again and again, 8,192 times in each arena before it is closed. Answers how often.
 pub fn gives<R: Wait>(rt: &R, alloc: Global, count: u64) -> Result<u64, Refusal> {
-    let (pool, mut pass) = made_again(alloc, 16, 1, WORDS)?;
+    let shape = Shape {
+        page_words: WORDS,
+        ..AGAIN
+    };
+    let (pool, mut pass) = made(alloc, shape)?;
     for _ in 0..count / u64::from(WORDS) {
         let arena = given(rt, &pool, &mut pass, 8)?;
         fill_up(rt, &pool, &mut pass, arena)?;

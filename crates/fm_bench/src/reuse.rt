@@ -5,7 +5,8 @@ ghost use Rattle.fm_gate.specs.Needs.{IsInside};
 ghost use Rattle.fm_rule_facts.specs.Views.{given_of};
 ghost use Rattle.fm_bench.specs.Ready.{CanRead, IsFree, IsOpen};
 
-use crate::gates::{given, visit};
+use crate::gates::visit;
+use crate::pools::{AGAIN, given, made};
 use fm_base::{ArenaId, Refusal};
 use fm_close::close;
 use fm_gate::{a_crew_stands, enter, is_alive, leave, swap_if};
@@ -38,6 +39,14 @@ pub struct Count {
     pub wrong: u64,
 }
 
+/// No call yet.
+const NOTHING: Count = Count {
+    reuses: 0,
+    reads: 0,
+    refusals: 0,
+    wrong: 0,
+};
+
 /// A thread's pass, and what came of its calls.
 #[derive(Drop)]
 pub struct Player {
@@ -56,7 +65,13 @@ pub fn reuse<R: Threads + Wait + Sync>(
     requires two { 2 ≤ threads }
     requires few { threads ≤ 16 }
 {
-    let (pool, mut pass) = made_again(alloc, threads + 1, 2, 8)?;
+    let shape = Shape {
+        passes: threads + 1,
+        slots: 2,
+        pages: 2,
+        ..AGAIN
+    };
+    let (pool, mut pass) = made(alloc, shape)?;
     let mut crew = hired(rt, alloc, &pool, &mut pass, threads)?;
     for _ in 0..rounds {
         let a = filled(rt, &pool, &mut pass)?;
@@ -65,32 +80,6 @@ pub fn reuse<R: Threads + Wait + Sync>(
         crew = ready;
     }
     Ok(counted(&crew))
-}
-
-/// A pool whose slots have so many words, and arenas one after another for a long time.
-pub fn made_again(
-    alloc: Global,
-    passes: u32,
-    slots: u32,
-    words: u32,
-) -> Result<(Pool, Pass), Refusal>
-    requires one { 0 < passes }
-    requires passes { passes ≤ 4096 }
-    requires some { 0 < slots }
-    requires slots { slots ≤ 2 }
-    requires word { 0 < words }
-    requires words { words ≤ 1048576 }
-    ensures free { IfOk result (λ r. IsFree r.0 r.1) }
-{
-    let shape = Shape {
-        passes,
-        slots,
-        pages: slots,
-        page_words: words,
-        reach: 1,
-        generations: 4_294_967_295,
-    };
-    Pool::make(alloc, shape)
 }
 
 /// So many players.
@@ -109,12 +98,7 @@ fn hired<R: Wait>(
     for _ in 0..count {
         let player = Player {
             pass: drawn(rt, pool, pass)?,
-            count: Count {
-                reuses: 0,
-                reads: 0,
-                refusals: 0,
-                wrong: 0,
-            },
+            count: NOTHING,
         };
         if crew.push(player).is_err() {
             return Err(Refusal::Memory);
@@ -344,12 +328,7 @@ fn is_used<R: Wait>(rt: &R, pool: &Pool, pass: &mut Pass) -> Result<bool, Refusa
 
 /// What came of all calls of all players.
 fn counted(crew: &Vec<Player>) -> Count {
-    let mut all = Count {
-        reuses: 0,
-        reads: 0,
-        refusals: 0,
-        wrong: 0,
-    };
+    let mut all = NOTHING;
     for player in crew.iter() {
         all.reuses = all.reuses.wrapping_add(player.count.reuses);
         all.reads = all.reads.wrapping_add(player.count.reads);

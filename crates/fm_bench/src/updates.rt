@@ -1,18 +1,26 @@
-ghost use Rattle.std.specs.Prelude.{◌≡◌, bit_and};
+ghost use Rattle.std.specs.Prelude.{◌≡◌, bit_and, IfOk};
 ghost use Rattle.fm_gate.specs.Needs.{CanReach};
 
-use crate::gates::{given, made};
+use crate::pools::{ONE, given, made};
 use fm_base::Refusal;
 use fm_gate::{add, enter, leave, patch, swap_if};
 use fm_rule::{Pass, Pool};
 use std::alloc::Global;
 use std::sync::Wait;
 
-/// Adds to a word of an arena that the pass is inside, so often, and answers the words found, joined by exclusive or.
-pub fn adds<R: Wait>(rt: &R, alloc: Global, count: u64) -> Result<u64, Refusal> {
-    let (pool, mut pass) = made(alloc, 1, 8)?;
+/// A pool, and its first pass inside an arena that has given a word.
+fn entered<R: Wait>(rt: &R, alloc: Global) -> Result<(Pool, Pass), Refusal>
+    ensures { IfOk result (λ r. CanReach r.0 r.1 0) }
+{
+    let (pool, mut pass) = made(alloc, ONE)?;
     let arena = given(rt, &pool, &mut pass, 8)?;
     enter(&pool, &mut pass, arena)?;
+    Ok((pool, pass))
+}
+
+/// Adds to a word of an arena that the pass is inside, so often, and answers the words found, joined by exclusive or.
+pub fn adds<R: Wait>(rt: &R, alloc: Global, count: u64) -> Result<u64, Refusal> {
+    let (pool, pass) = entered(rt, alloc)?;
     Ok(adding(pool, pass, count))
 }
 
@@ -30,9 +38,7 @@ fn adding(pool: Pool, mut pass: Pass, count: u64) -> u64
 
 /// Swaps a word of an arena for the next one, so often, and answers the last word.
 pub fn swaps<R: Wait>(rt: &R, alloc: Global, count: u64) -> Result<u64, Refusal> {
-    let (pool, mut pass) = made(alloc, 1, 8)?;
-    let arena = given(rt, &pool, &mut pass, 8)?;
-    enter(&pool, &mut pass, arena)?;
+    let (pool, pass) = entered(rt, alloc)?;
     Ok(swapping(pool, pass, count))
 }
 
@@ -51,9 +57,7 @@ fn swapping(pool: Pool, mut pass: Pass, count: u64) -> u64
 
 /// Patches a byte of a word of an arena, so often, and answers the words found, joined by exclusive or.
 pub fn patches<R: Wait>(rt: &R, alloc: Global, count: u64) -> Result<u64, Refusal> {
-    let (pool, mut pass) = made(alloc, 1, 8)?;
-    let arena = given(rt, &pool, &mut pass, 8)?;
-    enter(&pool, &mut pass, arena)?;
+    let (pool, pass) = entered(rt, alloc)?;
     Ok(patching(rt, pool, pass, count))
 }
 

@@ -1,5 +1,6 @@
 ghost use Rattle.std.specs.Prelude.{◌≡◌, None};
 
+use crate::memories::Asked;
 use crate::table::{COLUMNS, ROWS, table, value_of};
 use fm_base::{Memory, Refusal};
 use fm_handle::VarHandle;
@@ -29,16 +30,15 @@ pub fn gets<R: Wait, M: Memory>(
     rt: &R,
     alloc: Global,
     m: &mut M,
-    count: u64,
-    text: &str,
+    asked: &Asked,
 ) -> Result<u64, Refusal>
     requires { (M.view m.old).inside ≡ None }
 {
-    let cells = table(rt, m, count)?;
-    let value = value_of(alloc, text)?;
+    let cells = table(rt, m, asked.count)?;
+    let value = value_of(alloc, &asked.text)?;
     let size = value.size();
     let mut joined: u64 = 0;
-    for turn in 0..count {
+    for turn in 0..asked.count {
         let cell = joined.wrapping_add(turn) % (ROWS * COLUMNS);
         joined ^= encode(cells.get(m, &value, size * cell)?);
     }
@@ -50,13 +50,12 @@ pub fn handles<R: Wait, M: Memory>(
     rt: &R,
     alloc: Global,
     m: &mut M,
-    count: u64,
-    text: &str,
+    asked: &Asked,
 ) -> Result<u64, Refusal>
     requires { (M.view m.old).inside ≡ None }
 {
-    let cells = table(rt, m, count)?;
-    let row = Layout::sequence(alloc, COLUMNS, value_of(alloc, text)?)?;
+    let cells = table(rt, m, asked.count)?;
+    let row = Layout::sequence(alloc, COLUMNS, value_of(alloc, &asked.text)?)?;
     let rows = Layout::sequence(alloc, ROWS, row)?;
     let path = parse_path(alloc, "[][]")?;
     let handle = VarHandle::of(resolve(alloc, &rows, &path)?);
@@ -64,7 +63,7 @@ pub fn handles<R: Wait, M: Memory>(
         return Err(Refusal::NotValue);
     }
     let mut joined: u64 = 0;
-    for turn in 0..count {
+    for turn in 0..asked.count {
         let cell = joined.wrapping_add(turn) % (ROWS * COLUMNS);
         let indices = [cell / COLUMNS, cell % COLUMNS];
         joined ^= encode(handle.get(m, &cells, 0, &indices)?);

@@ -11,56 +11,40 @@ mod queries;
 mod ranges;
 mod table;
 
-use crate::memories::{over_mono, over_shared};
+use crate::memories::{Asked, over_mono, over_shared};
 use std::alloc::Global;
 use std::env;
 use std::process::ExitCode;
 use std::sync::Wait;
 
 fn main(rt: HostRuntime) -> ExitCode {
-    let printed = match words(&rt) {
-        Some((memory, what, count, text)) => match run(
-            &rt,
-            rt.alloc(),
-            &memory,
-            &what,
-            count,
-            &text,
-        ) {
-            Some(joined) => println!(rt; "{joined}").is_ok(),
-            None => false,
-        },
-        None => false,
+    let joined = match words(&rt) {
+        Some((memory, asked)) => run(&rt, rt.alloc(), &memory, &asked),
+        None => None,
     };
-    if printed {
-        ExitCode::SUCCESS
-    } else {
-        ExitCode::FAILURE
+    match joined {
+        Some(joined) if println!(rt; "{joined}").is_ok() => ExitCode::SUCCESS,
+        _ => ExitCode::FAILURE,
     }
 }
 
-/// The words behind the program's name, where they are of the form; the fourth may be left out.
-fn words(rt: &HostRuntime) -> Option<(String, String, u64, String)> {
+/// The memory and the loop that the program's words name, where they are of the form; the fourth may be left out.
+fn words(rt: &HostRuntime) -> Option<(String, Asked)> {
     let mut words = env::args(rt).ok()?.skip(1);
     let memory = words.next()?;
-    let what = words.next()?;
-    let count = words.next()?.as_str().parse::<u64>().ok()?;
-    let text = words.next().unwrap_or(String::new(rt.alloc()));
-    Some((memory, what, count, text))
+    let asked = Asked {
+        what: words.next()?,
+        count: words.next()?.as_str().parse::<u64>().ok()?,
+        text: words.next().unwrap_or(String::new(rt.alloc())),
+    };
+    Some((memory, asked))
 }
 
-/// Runs the loop of this name over the memory of this name; none where there is none, or memory ran out.
-fn run<R: Wait>(
-    rt: &R,
-    alloc: Global,
-    memory: &str,
-    what: &str,
-    count: u64,
-    text: &str,
-) -> Option<u64> {
+/// Runs the loop over the memory of this name; none where there is none, or memory ran out.
+fn run<R: Wait>(rt: &R, alloc: Global, memory: &str, asked: &Asked) -> Option<u64> {
     match memory {
-        "mono" => over_mono(rt, alloc, what, count, text),
-        "shared" => over_shared(rt, alloc, what, count, text),
+        "mono" => over_mono(rt, alloc, asked),
+        "shared" => over_shared(rt, alloc, asked),
         _ => None,
     }
 }

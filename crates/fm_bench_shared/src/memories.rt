@@ -12,26 +12,22 @@ use fm_words::Shape;
 use std::alloc::Global;
 use std::sync::Wait;
 
+/// The loop that is asked for: its name, how often it goes round, and the layout or the query that it takes.
+#[derive(Drop)]
+pub struct Asked {
+    pub what: String,
+    pub count: u64,
+    pub text: String,
+}
+
 /// Runs the loop over a `Mono`.
-pub fn over_mono<R: Wait>(
-    rt: &R,
-    alloc: Global,
-    what: &str,
-    count: u64,
-    text: &str,
-) -> Option<u64> {
+pub fn over_mono<R: Wait>(rt: &R, alloc: Global, asked: &Asked) -> Option<u64> {
     let mut memory = Mono::make(alloc, 2 * SIZE);
-    looped(rt, alloc, &mut memory, what, count, text)
+    looped(rt, alloc, &mut memory, asked)
 }
 
 /// Runs the loop over a pool of one pass, whose one arena gives as many bytes as that of the `Mono`.
-pub fn over_shared<R: Wait>(
-    rt: &R,
-    alloc: Global,
-    what: &str,
-    count: u64,
-    text: &str,
-) -> Option<u64> {
+pub fn over_shared<R: Wait>(rt: &R, alloc: Global, asked: &Asked) -> Option<u64> {
     let shape = Shape {
         passes: 16,
         slots: 1,
@@ -41,44 +37,29 @@ pub fn over_shared<R: Wait>(
         generations: 1,
     };
     let (pool, pass) = Pool::make(alloc, shape).ok()?;
-    over_pool(rt, alloc, pool, pass, what, count, text)
+    over_pool(rt, alloc, pool, pass, asked)
 }
 
 /// The pool and the pass are moved here, so that the compiler knows that nothing else has a name for them.
-fn over_pool<R: Wait>(
-    rt: &R,
-    alloc: Global,
-    pool: Pool,
-    pass: Pass,
-    what: &str,
-    count: u64,
-    text: &str,
-) -> Option<u64>
+fn over_pool<R: Wait>(rt: &R, alloc: Global, pool: Pool, pass: Pass, asked: &Asked) -> Option<u64>
     requires { CanShare pool pass }
 {
     let mut memory = Shared::new(&pool, pass);
-    looped(rt, alloc, &mut memory, what, count, text)
+    looped(rt, alloc, &mut memory, asked)
 }
 
 /// Runs the loop of this name; none where there is no such loop, or it was refused.
-fn looped<R: Wait, M: Memory>(
-    rt: &R,
-    alloc: Global,
-    m: &mut M,
-    what: &str,
-    count: u64,
-    text: &str,
-) -> Option<u64>
+fn looped<R: Wait, M: Memory>(rt: &R, alloc: Global, m: &mut M, asked: &Asked) -> Option<u64>
     requires { (M.view m.old).inside ≡ None }
 {
-    match what {
-        "known" => known(rt, m, count).ok(),
-        "gets" => gets(rt, alloc, m, count, text).ok(),
-        "handles" => handles(rt, alloc, m, count, text).ok(),
-        "queries" => queries(rt, alloc, m, count, text).ok(),
-        "fills" => fills(rt, m, count).ok(),
-        "copies" => copies(rt, m, count).ok(),
-        "mismatches" => mismatches(rt, m, count).ok(),
+    match asked.what.as_str() {
+        "known" => known(rt, m, asked.count).ok(),
+        "gets" => gets(rt, alloc, m, asked).ok(),
+        "handles" => handles(rt, alloc, m, asked).ok(),
+        "queries" => queries(rt, alloc, m, asked).ok(),
+        "fills" => fills(rt, m, asked.count).ok(),
+        "copies" => copies(rt, m, asked.count).ok(),
+        "mismatches" => mismatches(rt, m, asked.count).ok(),
         _ => None,
     }
 }

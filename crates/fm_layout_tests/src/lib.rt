@@ -2,20 +2,4 @@
 #![tactic(auto)]
 
 #[cfg(test)]
-mod demos;
-#[cfg(test)]
-mod layouts;
-#[cfg(test)]
-mod layouts_named;
-#[cfg(test)]
-mod layouts_read;
-#[cfg(test)]
-mod layouts_written;
-#[cfg(test)]
-mod path_texts;
-#[cfg(test)]
-mod paths;
-#[cfg(test)]
-mod queries;
-#[cfg(test)]
-mod record;
+mod tests;

@@ -13,22 +13,4 @@ pub use interrupted::Interrupted;
 pub use others::Others;
 
 #[cfg(test)]
-mod accesses;
-#[cfg(test)]
-mod body;
-#[cfg(test)]
-mod copies;
-#[cfg(test)]
-mod exact;
-#[cfg(test)]
-mod handles;
-#[cfg(test)]
-mod mono_handles;
-#[cfg(test)]
-mod mono_segments;
-#[cfg(test)]
-mod pools;
-#[cfg(test)]
-mod segments;
-#[cfg(test)]
 mod tests;

@@ -2,12 +2,4 @@
 #![tactic(auto)]
 
 #[cfg(test)]
-mod lines;
-#[cfg(test)]
-mod parsing;
-#[cfg(test)]
-mod plays;
-#[cfg(test)]
-mod reports;
-#[cfg(test)]
-mod written;
+mod tests;

@@ -3,32 +3,4 @@
 #![tactic(auto)]
 
 #[cfg(test)]
-mod demos;
-#[cfg(test)]
-mod endings;
-#[cfg(test)]
-mod faults;
-#[cfg(test)]
-mod files;
-#[cfg(test)]
-mod gates;
-#[cfg(test)]
-mod guesses;
-#[cfg(test)]
-mod keeping;
-#[cfg(test)]
-mod kinds;
-#[cfg(test)]
-mod layouts;
-#[cfg(test)]
-mod migrations;
-#[cfg(test)]
-mod queries;
-#[cfg(test)]
-mod scripts;
-#[cfg(test)]
-mod sizes;
-#[cfg(test)]
-mod sums;
-#[cfg(test)]
-mod tallies;
+mod tests;

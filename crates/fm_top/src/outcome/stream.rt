@@ -6,7 +6,7 @@ ghost use Rattle.fm_top.specs.declared.command.question.Question.TheVariants as 
 
 use crate::outcome::answered::Answered;
 use crate::outcome::ending::Ending;
-use crate::outcome::text::Text;
+use crate::outcome::output::Output;
 use fm_io::{Fault, Files, Gate};
 use fm_records_query::Query;
 use fm_top_stream::{MOST_CHUNK, STREAM_FILE_LIMIT, StreamFault, stream_with};
@@ -33,7 +33,7 @@ pub fn streamed_ending<'a, R: Threads + Wait + Sync, F: Files, G: Gate>(
 {
     match stream_with(rt, alloc, files, file, &q, threads, gate) {
         Ok((answer, finished)) => {
-            Ok(Ending::answered_by_pool(Text::Answer(Answered { query: q, answer }), finished))
+            Ok(Ending::answered_by_pool(Output::Answer(Answered { query: q, answer }), finished))
         }
         Err(StreamFault::Ragged(rest)) => Ok(Ending::ragged(alloc, rest)?),
         Err(StreamFault::Missing) => Ok(Ending::missing(file)),

@@ -1,0 +1,7 @@
+mod closer;
+mod copies;
+mod fills;
+mod mismatches;
+mod reads;
+mod scene;
+mod updates;

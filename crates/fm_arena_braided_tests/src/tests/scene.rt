@@ -1,0 +1,177 @@
+//! Two arenas of a pool, of which one is closed by another pass at a call of this one.
+ghost use Rattle.std.specs.Prelude.{◌≡◌, ◌≤◌, ◌+◌, None};
+ghost use Rattle.fm_rule_facts.specs.Views.{given_of};
+ghost use Rattle.fm_rule.specs.Passes.{IsOf};
+ghost use Rattle.fm_rule_calls.specs.Told.{view_of_pass};
+ghost use Rattle.fm_gate.specs.Needs.{CanVisit, IsOutside};
+ghost use Rattle.fm_segment.specs.Access.{IsKnown};
+ghost use Rattle.fm_arena.specs.Lasting.{SamePool};
+ghost use Rattle.fm_arena.specs.Shares.{CanShare};
+
+use crate::tests::closer::{Closer, Walk};
+use fm_arena::{Arena, Shared, keeps_its_pool};
+use fm_arena_braided::Braided;
+use fm_base::Kind;
+use fm_gate::a_crew_stands;
+use fm_lanes::{Value, ValueKind};
+use fm_layout::Layout;
+use fm_rule::{Pass, Pool};
+use fm_segment::Segment;
+use fm_words::Shape;
+use std::alloc::AllocGlobal;
+use std::process::Abort;
+use std::sync::Wait;
+
+/// Two passes, and two slots of one page of three longs, for two arenas each.
+pub(crate) fn made<R: Abort + AllocGlobal>(rt: &R) -> (Pool, Pass)
+    ensures { CanShare result.0 result.1 }
+{
+    let shape = Shape {
+        passes: 2,
+        slots: 2,
+        pages: 2,
+        page_words: 3,
+        reach: 1,
+        generations: 2,
+    };
+    Pool::make(rt.alloc(), shape).expect(rt, "words")
+}
+
+/// A shared arena's three longs.
+fn longs_of<R: Abort + Wait>(rt: &R, m: &mut Shared) -> Segment
+    requires { m.old.inside ≡ None }
+    ensures outside { m.new.inside ≡ None }
+    ensures known { IsKnown (view_of_pass m.new) result }
+    ensures size { result.size ≡ 24 }
+    ensures same { SamePool m.old m.new }
+{
+    keeps_its_pool();
+    let arena = Arena::start(rt, m, Kind::Shared).expect(rt, "a slot");
+    arena.allocate(rt, m, 24, 8).expect(rt, "bytes")
+}
+
+/// Those of another arena, beside a segment that is known.
+fn longs_beside<R: Abort + Wait>(rt: &R, m: &mut Shared, other: &Segment) -> Segment
+    requires outside { m.old.inside ≡ None }
+    requires other { IsKnown (view_of_pass m.old) other.now }
+    ensures outside { m.new.inside ≡ None }
+    ensures other { IsKnown (view_of_pass m.new) other.now }
+    ensures known { IsKnown (view_of_pass m.new) result }
+    ensures same { SamePool m.old m.new }
+{
+    keeps_its_pool();
+    let arena = Arena::start(rt, m, Kind::Shared).expect(rt, "a slot");
+    arena.allocate(rt, m, 24, 8).expect(rt, "bytes")
+}
+
+/// Puts a long of the segment.
+fn put<R: Abort + Wait>(rt: &R, m: &mut Shared, s: &Segment, offset: u64, number: i64)
+    requires outside { m.old.inside ≡ None }
+    requires known { IsKnown (view_of_pass m.old) s.now }
+    ensures outside { m.new.inside ≡ None }
+    ensures known { IsKnown (view_of_pass m.new) s.now }
+    ensures same { SamePool m.old m.new }
+{
+    keeps_its_pool();
+    let long = Layout::value(ValueKind::Long);
+    let put = s.set(rt, m, &long, offset, Value::Long(number));
+    assert_eq!(rt; put, Ok(()));
+}
+
+/// Whether the segment has this long.
+fn has<R: Abort>(rt: &R, m: &mut Shared, s: &Segment, offset: u64, number: i64)
+    requires outside { m.old.inside ≡ None }
+    requires known { IsKnown (view_of_pass m.old) s.now }
+    ensures outside { m.new.inside ≡ None }
+    ensures known { IsKnown (view_of_pass m.new) s.now }
+{
+    let long = Layout::value(ValueKind::Long);
+    let found = s.get(m, &long, offset);
+    assert_eq!(rt; found, Ok(Value::Long(number)));
+}
+
+/// Whether it has these longs.
+pub(crate) fn has_numbers<R: Abort>(rt: &R, m: &mut Shared, s: &Segment, numbers: [i64; 3])
+    requires outside { m.old.inside ≡ None }
+    requires known { IsKnown (view_of_pass m.old) s.now }
+    ensures outside { m.new.inside ≡ None }
+{
+    let [first, second, third] = numbers;
+    has(rt, m, s, 0, first);
+    has(rt, m, s, 8, second);
+    has(rt, m, s, 16, third);
+}
+
+/// The pass learns what the other one has seen.
+fn told(pool: &Pool, pass: Pass, ours: &mut Shared, s: &Segment) -> Pass
+    requires outside { IsOutside pool.now pass }
+    requires ours { IsOf pool.now ours.old }
+    requires known { IsKnown (view_of_pass ours.old) s.now }
+    ensures ours { ours.new ≡ ours.old }
+    ensures can { CanVisit pool.now result s.now.arena }
+    ensures given { s.now.first + s.now.size ≤ given_of result s.now.arena }
+{
+    a_crew_stands();
+    let mut pass = pass;
+    let note = ours.note();
+    pool.meet(&mut pass, note);
+    pass
+}
+
+/// A memory whose other pass closes the first segment's arena at the turn `at`; that segment, with the longs 1, 2 and 3,
+/// and one of another arena, with zeros.
+pub(crate) fn scene<'a, R: Abort + Wait>(
+    rt: &R,
+    pool: &'a Pool,
+    first: Pass,
+    at: u64,
+) -> (Braided<Shared<'a>, Closer<'a>>, Segment, Segment)
+    requires { CanShare pool.now first }
+    ensures outside { result.0.memory.inside ≡ None }
+    ensures first { IsKnown (view_of_pass result.0.memory) result.1 }
+    ensures second { IsKnown (view_of_pass result.0.memory) result.2 }
+{
+    let mut first = first;
+    let second = pool.draw(rt, &mut first).expect(rt, "a pass");
+    let mut ours = Shared::new(pool, second);
+    let source = longs_of(rt, &mut ours);
+    put(rt, &mut ours, &source, 0, 1);
+    put(rt, &mut ours, &source, 8, 2);
+    put(rt, &mut ours, &source, 16, 3);
+    let target = longs_beside(rt, &mut ours, &source);
+    let theirs = told(pool, first, &mut ours, &source);
+    let closer = Closer::new(pool, theirs, source.arena(), at);
+    (Braided::new(ours, closer), source, target)
+}
+
+/// The memory again, once the arena is closed, and what was found of it; the next arena in its slot begins with zeros.
+pub(crate) fn ended<'a, R: Abort + Wait>(
+    rt: &R,
+    braided: Braided<Shared<'a>, Closer<'a>>,
+    target: &Segment,
+) -> (Shared<'a>, Walk)
+    requires outside { braided.memory.inside ≡ None }
+    requires target { IsKnown (view_of_pass braided.memory) target.now }
+    ensures outside { result.0.inside ≡ None }
+    ensures target { IsKnown (view_of_pass result.0) target.now }
+{
+    let (mut ours, closer) = braided.into_parts();
+    let walk = closer.finish(rt);
+    let next = longs_beside(rt, &mut ours, target);
+    zeros_beside(rt, &mut ours, &next, target);
+    (ours, walk)
+}
+
+/// Whether it has zeros, beside a segment that is known.
+fn zeros_beside<R: Abort>(rt: &R, m: &mut Shared, s: &Segment, other: &Segment)
+    requires outside { m.old.inside ≡ None }
+    requires known { IsKnown (view_of_pass m.old) s.now }
+    requires other { IsKnown (view_of_pass m.old) other.now }
+    ensures outside { m.new.inside ≡ None }
+    ensures other { IsKnown (view_of_pass m.new) other.now }
+{
+    let long = Layout::value(ValueKind::Long);
+    assert_eq!(rt; s.get(m, &long, 0), Ok(Value::Long(0)));
+    assert_eq!(rt; s.get(m, &long, 8), Ok(Value::Long(0)));
+    assert_eq!(rt; s.get(m, &long, 16), Ok(Value::Long(0)));
+}

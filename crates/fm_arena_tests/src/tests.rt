@@ -1,0 +1,7 @@
+mod arenas;
+mod closes;
+mod gates;
+mod numbers;
+mod pages;
+mod pools;
+mod races;

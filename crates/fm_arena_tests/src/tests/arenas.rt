@@ -1,0 +1,198 @@
+ghost use Rattle.std.specs.Prelude.{◌≡◌, None};
+ghost use Rattle.fm_base.specs.Learnt.{CanVisit};
+ghost use Rattle.fm_rule_calls.specs.Kept.{Lasts};
+ghost use Rattle.fm_rule_calls.specs.Told.{view_of_pass};
+ghost use Rattle.fm_segment.specs.Access.{IsKnown};
+ghost use Rattle.fm_arena.specs.Handles.{CanGiveBack};
+ghost use Rattle.fm_arena.specs.Lasting.{SamePool};
+ghost use Rattle.fm_arena.specs.Shares.{CanShare};
+
+use crate::tests::pools::pool_of;
+use fm_arena::{Arena, AutoHandle, Shared, a_handle_lasts, a_hold_lasts, keeps_its_pool};
+use fm_base::{Kind, Memory, Refusal};
+use fm_close::GaveBack;
+use fm_lanes::{Value, ValueKind};
+use fm_layout::Layout;
+use fm_rule::{Pass, Pool};
+use fm_segment::Segment;
+use std::alloc::AllocGlobal;
+use std::process::Abort;
+use std::sync::Wait;
+use std::test::Fail;
+use std::thread::join_mut;
+
+/// A pool of two passes, whose two slots have eight words each.
+fn made<R: Abort + AllocGlobal>(rt: &R) -> (Pool, Pass)
+    ensures { CanShare result.0 result.1 }
+{
+    pool_of(rt, 2, 2, 8, 1)
+}
+
+/// Both passes of the pool.
+fn both<'a, R: Abort + Wait>(rt: &R, pool: &'a Pool, pass: Pass) -> (Shared<'a>, Shared<'a>)
+    requires { CanShare pool.now pass }
+    ensures first { result.0.inside ≡ None }
+    ensures second { result.1.inside ≡ None }
+    ensures same { SamePool result.0 result.1 }
+{
+    let mut first = pass;
+    let second = pool.draw(rt, &mut first).expect(rt, "a pass");
+    (Shared::new(pool, first), Shared::new(pool, second))
+}
+
+/// The long of a segment.
+fn long_of(m: &mut Shared, s: &Segment) -> Result<Value, Refusal>
+    requires outside { m.old.inside ≡ None }
+    requires known { IsKnown (view_of_pass m.old) s.now }
+    ensures outside { m.new.inside ≡ None }
+    ensures known { IsKnown (view_of_pass m.new) s.now }
+{
+    s.get(m, &Layout::value(ValueKind::Long), 0)
+}
+
+/// Another pass of the pool meets what this one has seen, and so knows the segment.
+fn tell(ours: &mut Shared, theirs: &mut Shared, s: &Segment)
+    requires same { SamePool ours.old theirs.old }
+    requires outside { theirs.old.inside ≡ None }
+    requires known { IsKnown (view_of_pass ours.old) s.now }
+    ensures ours { ours.new ≡ ours.old }
+    ensures outside { theirs.new.inside ≡ None }
+    ensures known { IsKnown (view_of_pass theirs.new) s.now }
+{
+    theirs.meet(ours.note());
+}
+
+/// A confined arena, and eight bytes of it.
+fn confined<R: Abort + Wait>(rt: &R, m: &mut Shared) -> (Arena, Segment)
+    requires { m.old.inside ≡ None }
+    ensures outside { m.new.inside ≡ None }
+    ensures known { IsKnown (view_of_pass m.new) result.1 }
+    ensures arena { result.1.arena ≡ result.0.id }
+    ensures same { SamePool m.old m.new }
+{
+    keeps_its_pool();
+    let arena = Arena::start(rt, m, Kind::Confined).expect(rt, "a slot");
+    let s = arena.allocate(rt, m, 8, 8).expect(rt, "bytes");
+    (arena, s)
+}
+
+/// What another pass is answered of a confined arena, whether it is closed or not.
+fn is_kept_out<R: Abort + Wait>(rt: &R, theirs: &mut Shared, arena: &Arena, s: &Segment)
+    requires outside { theirs.old.inside ≡ None }
+    requires known { IsKnown (view_of_pass theirs.old) s.now }
+    requires arena { s.now.arena ≡ arena.now.id }
+    ensures outside { theirs.new.inside ≡ None }
+    ensures known { IsKnown (view_of_pass theirs.new) s.now }
+{
+    assert_eq!(rt; long_of(theirs, s), Err(Refusal::WrongThread));
+    assert_eq!(rt; theirs.is_alive(arena.id()), Err(Refusal::WrongThread));
+    assert_eq!(rt; arena.close(rt, theirs), Err(Refusal::WrongThread));
+}
+
+#[test]
+fn a_confined_arena_is_used_by_its_own_pass_alone(rt: HostRuntime) {
+    let (pool, pass) = made(&rt);
+    let (mut ours, mut theirs) = both(&rt, &pool, pass);
+    let (arena, s) = confined(&rt, &mut ours);
+    tell(&mut ours, &mut theirs, &s);
+    is_kept_out(&rt, &mut theirs, &arena, &s);
+    assert_eq!(rt; long_of(&mut ours, &s), Ok(Value::Long(0)));
+    assert_eq!(rt; arena.close(&rt, &mut ours), Ok(()));
+    is_kept_out(&rt, &mut theirs, &arena, &s);
+}
+
+/// An automatic arena, and eight bytes of it.
+fn automatic<R: Abort + Wait>(rt: &R, m: &mut Shared) -> (AutoHandle, Segment)
+    requires { m.old.inside ≡ None }
+    ensures handle { CanGiveBack m.new result.0 }
+    ensures known { IsKnown (view_of_pass m.new) result.1 }
+{
+    let handle = AutoHandle::start(rt, m).expect(rt, "a slot");
+    a_handle_lasts();
+    let first = m.allocate(rt, handle.arena(), 8, 8).expect(rt, "bytes");
+    let s = Segment::of(handle.arena(), first, 8);
+    (handle, s)
+}
+
+/// Another handle, once the first is given back.
+#[tactic(auto, using(crate::proofs::Handling::other_left))]
+fn renewed<R: Abort + Wait>(rt: &R, m: &mut Shared, handle: AutoHandle) -> (AutoHandle, GaveBack)
+    requires { CanGiveBack m.old handle }
+    ensures handle { CanGiveBack m.new result.0 }
+    ensures lasts { Lasts m.old m.new }
+{
+    let other = handle.again(rt, m).expect(rt, "a hold");
+    a_handle_lasts();
+    let gave = handle.give_back(rt, m);
+    (other, gave)
+}
+
+/// The long of a segment, with a handle of an arena that stays.
+fn long_beside(m: &mut Shared, s: &Segment, handle: &AutoHandle) -> Result<Value, Refusal>
+    requires handle { CanGiveBack m.old handle.now }
+    requires known { IsKnown (view_of_pass m.old) s.now }
+    ensures handle { CanGiveBack m.new handle.now }
+    ensures known { IsKnown (view_of_pass m.new) s.now }
+{
+    a_handle_lasts();
+    s.get(m, &Layout::value(ValueKind::Long), 0)
+}
+
+#[test]
+fn an_automatic_arena_ends_with_its_last_handle(rt: HostRuntime) {
+    let (pool, pass) = made(&rt);
+    let mut m = Shared::new(&pool, pass);
+    let (handle, s) = automatic(&rt, &mut m);
+    let (last, gave) = renewed(&rt, &mut m, handle);
+    assert_eq!(rt; gave, GaveBack::Kept);
+    assert_eq!(rt; long_beside(&mut m, &s, &last), Ok(Value::Long(0)));
+    assert_eq!(rt; last.give_back(&rt, &mut m), GaveBack::Ended);
+    assert_eq!(rt; long_of(&mut m, &s), Err(Refusal::Closed));
+}
+
+/// A read beside a close is answered whole or refused, and afterwards refused.
+#[test]
+fn an_arena_is_closed_while_another_thread_reads(rt: HostRuntime) -> Result<(), Fail> {
+    let (pool, mut first) = made(&rt);
+    let second = pool.draw(&rt, &mut first)?;
+    let mut ours = Shared::new(&pool, first);
+    let mut theirs = Shared::new(&pool, second);
+    keeps_its_pool();
+    let arena = Arena::start(&rt, &mut ours, Kind::Shared)?;
+    let price = arena.allocate(&rt, &mut ours, 8, 8)?;
+    let long = Layout::value(ValueKind::Long);
+    price.set(&rt, &mut ours, &long, 0, Value::Long(250))?;
+    tell(&mut ours, &mut theirs, &price);
+    let (read, closed) = join_mut(
+        &rt,
+        &mut || price.get(&mut theirs, &long, 0),
+        &mut || arena.close(&rt, &mut ours),
+    );
+    assert!(rt; read == Ok(Value::Long(250)) || read == Err(Refusal::Closed));
+    assert_eq!(rt; closed, Ok(()));
+    assert_eq!(rt; price.get(&mut theirs, &long, 0), Err(Refusal::Closed));
+    Ok(())
+}
+
+/// A hold of an arena, which can't be closed meanwhile.
+fn close_held<R: Abort + Wait>(rt: &R, m: &mut Shared, arena: &Arena) -> Result<(), Refusal>
+    requires { CanVisit (view_of_pass m.old) arena.now.id }
+    ensures { CanVisit (view_of_pass m.new) arena.now.id }
+{
+    let hold = m.hold(rt, arena.id()).expect(rt, "a hold");
+    a_hold_lasts();
+    let answer = arena.close(rt, m);
+    m.unhold(hold);
+    answer
+}
+
+#[test]
+fn a_held_arena_is_closed_once_the_hold_is_spent(rt: HostRuntime) {
+    let (pool, pass) = made(&rt);
+    let mut m = Shared::new(&pool, pass);
+    let arena = Arena::start(&rt, &mut m, Kind::Shared).expect(&rt, "a slot");
+    assert_eq!(rt; m.is_alive(arena.id()), Ok(true));
+    assert_eq!(rt; close_held(&rt, &mut m, &arena), Err(Refusal::Held(1)));
+    assert_eq!(rt; arena.close(&rt, &mut m), Ok(()));
+    assert_eq!(rt; m.is_alive(arena.id()), Ok(false));
+}

@@ -1,0 +1,96 @@
+ghost use Rattle.std.specs.Prelude.{IfOk};
+ghost use Rattle.fm_rule_facts.specs.Views.{IsKnown};
+ghost use Rattle.fm_rule_calls.specs.Kept.{Lasts};
+ghost use Rattle.fm_gate.specs.Needs.{IsOutside};
+
+use super::{made, made_for, put};
+use crate::tests::pools::{drawn, given};
+use fm_base::{ArenaId, Kind, Refusal};
+use fm_close::close;
+use fm_gate::open_arena;
+use fm_rule::{Pass, Pool};
+use std::sync::Wait;
+use std::thread::join_mut;
+
+/// Tries to open an arena.
+fn open<R: Wait>(rt: &R, pool: &Pool, pass: &mut Pass) -> Result<ArenaId, Refusal>
+    requires { IsOutside pool.now pass.old }
+    ensures outside { IsOutside pool.now pass.new }
+    ensures known { IfOk result (λ a. IsKnown pass.new a) }
+    ensures lasts { Lasts pass.old pass.new }
+{
+    open_arena(rt, pool, pass, Kind::Shared)
+}
+
+#[test]
+fn a_slot_has_all_its_generations_and_no_more(rt: HostRuntime) {
+    let (pool, mut pass) = made_for(&rt, 1, 2);
+    let a = open(&rt, &pool, &mut pass).expect(&rt, "a slot");
+    assert_eq!(rt; (a.slot, a.generation), (0, 0));
+    assert_eq!(rt; close(&rt, &pool, &mut pass, a), Ok(()));
+    let b = open(&rt, &pool, &mut pass).expect(&rt, "a slot");
+    assert_eq!(rt; (b.slot, b.generation), (0, 1));
+    assert_eq!(rt; close(&rt, &pool, &mut pass, b), Ok(()));
+    assert_eq!(rt; open(&rt, &pool, &mut pass), Err(Refusal::NoSlot));
+}
+
+#[test]
+fn a_slot_is_lent_again_once_its_arena_is_closed(rt: HostRuntime) {
+    let (pool, mut pass) = made_for(&rt, 2, 3);
+    let a = open(&rt, &pool, &mut pass).expect(&rt, "a slot");
+    let _ = open(&rt, &pool, &mut pass).expect(&rt, "a slot");
+    assert_eq!(rt; open(&rt, &pool, &mut pass), Err(Refusal::NoSlot));
+    assert_eq!(rt; close(&rt, &pool, &mut pass, a), Ok(()));
+    let b = open(&rt, &pool, &mut pass).expect(&rt, "a slot");
+    assert_eq!(rt; (b.slot, b.generation), (a.slot, 1));
+}
+
+/// Opens arenas until no slot is left, but no more than so many, and answers how many it opened.
+fn open_often<R: Wait>(rt: &R, pool: &Pool, pass: &mut Pass, times: u64) -> u64
+    requires { IsOutside pool.now pass.old }
+    ensures { IsOutside pool.now pass.new }
+{
+    for opened in 0..times {
+        if open(rt, pool, pass).is_err() {
+            return opened;
+        }
+    }
+    times
+}
+
+#[test]
+fn a_pool_has_as_many_slots_as_a_word_has_bits(rt: HostRuntime) {
+    let (pool, mut pass) = made(&rt, 64);
+    assert_eq!(rt; open_often(&rt, &pool, &mut pass, 64), 64);
+    assert_eq!(rt; open(&rt, &pool, &mut pass), Err(Refusal::NoSlot));
+}
+
+#[test]
+fn one_opens_while_another_closes(rt: HostRuntime) {
+    let (pool, mut pass) = made_for(&rt, 1, 2);
+    let a = open(&rt, &pool, &mut pass).expect(&rt, "a slot");
+    let mut other = drawn(&rt, &pool, &mut pass);
+    let (closed, opened) = join_mut(
+        &rt,
+        &mut || close(&rt, &pool, &mut pass, a),
+        &mut || open(&rt, &pool, &mut other),
+    );
+    assert_eq!(rt; closed, Ok(()));
+    // The other found the slot as the close had left it, or as it was before.
+    match opened {
+        Ok(b) => assert_eq!(rt; (b.slot, b.generation), (a.slot, 1)),
+        Err(refusal) => assert_eq!(rt; refusal, Refusal::NoSlot),
+    }
+}
+
+#[test]
+fn words_are_zeros_for_the_next_arena(rt: HostRuntime) {
+    let (pool, mut pass) = made_for(&rt, 1, 2);
+    let a = given(&rt, &pool, &mut pass, Kind::Shared, 8);
+    assert_eq!(rt; put(&pool, &mut pass, a, 9), Ok(0));
+    assert_eq!(rt; put(&pool, &mut pass, a, 8), Ok(9));
+    assert_eq!(rt; close(&rt, &pool, &mut pass, a), Ok(()));
+    let b = given(&rt, &pool, &mut pass, Kind::Shared, 8);
+    assert_eq!(rt; put(&pool, &mut pass, b, 7), Ok(0));
+    assert_eq!(rt; put(&pool, &mut pass, a, 7), Err(Refusal::Closed));
+}

@@ -1,0 +1,253 @@
+ghost use Rattle.std.specs.Prelude.{◌≡◌, ◌<◌, ◌≤◌, ◌*◌, bit_and};
+ghost use Rattle.fm_rule_facts.specs.Views.{IsKnown, given_of, span};
+ghost use Rattle.fm_rule_calls.specs.Kept.{Lasts};
+ghost use Rattle.fm_gate.specs.Needs.{CanAllocate, CanVisit, IsInside, IsOutside};
+ghost use Rattle.fm_arena.specs.Shares.{CanShare};
+
+mod crews;
+mod finishing;
+mod holds;
+mod kinds;
+
+use crate::tests::pools::{given, pool_of, word_of};
+use fm_base::{ArenaId, Kind, Refusal};
+use fm_gate::{
+    add, allocate, enter, hold, is_alive, leave, load, open_arena, patch, store, swap_if, unhold,
+};
+use fm_rule::{Pass, Pool};
+use std::alloc::AllocGlobal;
+use std::process::Abort;
+use std::sync::Wait;
+
+/// A pool of three passes, whose slots have eight words each.
+fn made<R: Abort + AllocGlobal>(rt: &R, slots: u32) -> (Pool, Pass)
+    requires few { slots < 65 }
+    requires some { 0 < slots }
+    ensures ready { CanShare result.0 result.1 }
+    ensures wide { span result.0.shape ≡ 8 }
+{
+    pool_of(rt, 3, slots, 8, 1)
+}
+
+/// Reads a word of an arena that has given 64 bytes, and can still act in it. So do the next four.
+fn read(pool: &Pool, pass: &mut Pass, a: ArenaId, word: u64) -> u64
+    requires low { word < 8 }
+    requires inside { IsInside pool.now pass.old a }
+    requires given { 64 ≤ given_of pass.old a }
+    requires known { IsKnown pass.old a }
+    ensures inside { IsInside pool.now pass.new a }
+    ensures given { 64 ≤ given_of pass.new a }
+    ensures known { IsKnown pass.new a }
+{
+    load(pool, pass, word)
+}
+
+fn write(pool: &Pool, pass: &mut Pass, a: ArenaId, word: u64, v: u64)
+    requires low { word < 8 }
+    requires inside { IsInside pool.now pass.old a }
+    requires given { 64 ≤ given_of pass.old a }
+    requires known { IsKnown pass.old a }
+    ensures inside { IsInside pool.now pass.new a }
+    ensures given { 64 ≤ given_of pass.new a }
+    ensures known { IsKnown pass.new a }
+{
+    store(pool, pass, word, v);
+}
+
+fn swap(pool: &Pool, pass: &mut Pass, a: ArenaId, word: u64, old: u64, new: u64) -> u64
+    requires low { word < 8 }
+    requires inside { IsInside pool.now pass.old a }
+    requires given { 64 ≤ given_of pass.old a }
+    requires known { IsKnown pass.old a }
+    ensures inside { IsInside pool.now pass.new a }
+    ensures given { 64 ≤ given_of pass.new a }
+    ensures known { IsKnown pass.new a }
+{
+    swap_if(pool, pass, word, old, new)
+}
+
+fn sum(pool: &Pool, pass: &mut Pass, a: ArenaId, word: u64, n: u64) -> u64
+    requires low { word < 8 }
+    requires inside { IsInside pool.now pass.old a }
+    requires given { 64 ≤ given_of pass.old a }
+    requires known { IsKnown pass.old a }
+    ensures inside { IsInside pool.now pass.new a }
+    ensures given { 64 ≤ given_of pass.new a }
+    ensures known { IsKnown pass.new a }
+{
+    add(pool, pass, word, n)
+}
+
+#[test]
+fn a_pass_enters_acts_and_leaves(rt: HostRuntime) {
+    let (pool, mut pass) = made(&rt, 1);
+    let a = given(&rt, &pool, &mut pass, Kind::Shared, 64);
+    assert_eq!(rt; enter(&pool, &mut pass, a), Ok(()));
+    write(&pool, &mut pass, a, 0, 9);
+    write(&pool, &mut pass, a, 7, u64::MAX);
+    assert_eq!(rt; read(&pool, &mut pass, a, 0), 9);
+    assert_eq!(rt; read(&pool, &mut pass, a, 1), 0);
+    assert_eq!(rt; read(&pool, &mut pass, a, 7), u64::MAX);
+    leave(&pool, &mut pass);
+    assert_eq!(rt; is_alive(&pool, &mut pass, a), Ok(true));
+    assert_eq!(rt;
+        open_arena(&rt, &pool, &mut pass, Kind::Shared),
+        Err(Refusal::NoSlot)
+    );
+}
+
+#[test]
+fn words_are_changed_by_what_is_found(rt: HostRuntime) {
+    let (pool, mut pass) = made(&rt, 1);
+    let a = given(&rt, &pool, &mut pass, Kind::Confined, 64);
+    assert_eq!(rt; enter(&pool, &mut pass, a), Ok(()));
+    write(&pool, &mut pass, a, 1, 7);
+    assert_eq!(rt; swap(&pool, &mut pass, a, 1, 6, 5), 7);
+    assert_eq!(rt; swap(&pool, &mut pass, a, 1, 7, u64::MAX), 7);
+    assert_eq!(rt; sum(&pool, &mut pass, a, 1, 3), u64::MAX);
+    assert_eq!(rt; read(&pool, &mut pass, a, 1), 2);
+    leave(&pool, &mut pass);
+}
+
+/// Patches a word so.
+fn put_bits<R: Wait>(
+    rt: &R,
+    pool: &Pool,
+    pass: &mut Pass,
+    a: ArenaId,
+    word: u64,
+    mask: u64,
+    bits: u64,
+) -> u64
+    requires under { bit_and bits mask ≡ bits }
+    requires low { word < 8 }
+    requires inside { IsInside pool.now pass.old a }
+    requires given { 64 ≤ given_of pass.old a }
+    requires known { IsKnown pass.old a }
+    ensures inside { IsInside pool.now pass.new a }
+    ensures given { 64 ≤ given_of pass.new a }
+    ensures known { IsKnown pass.new a }
+{
+    patch(rt, pool, pass, word, mask, bits)
+}
+
+#[test]
+fn bits_are_put_beside_others(rt: HostRuntime) {
+    let (pool, mut pass) = made(&rt, 1);
+    let a = given(&rt, &pool, &mut pass, Kind::Shared, 64);
+    assert_eq!(rt; enter(&pool, &mut pass, a), Ok(()));
+    write(&pool, &mut pass, a, 7, 2);
+    assert_eq!(rt; put_bits(&rt, &pool, &mut pass, a, 7, 0xff00, 0x4200), 2);
+    assert_eq!(rt; read(&pool, &mut pass, a, 7), 0x4202);
+    leave(&pool, &mut pass);
+}
+
+/// Allocates, and says what became of it.
+fn give<R: Wait>(
+    rt: &R,
+    pool: &Pool,
+    pass: &mut Pass,
+    a: ArenaId,
+    size: u64,
+    align: u64,
+) -> Result<u64, Refusal>
+    requires { CanAllocate pool.now pass.old a }
+    ensures { CanAllocate pool.now pass.new a }
+{
+    allocate(rt, pool, pass, a, size, align)
+}
+
+#[test]
+fn bytes_are_given_up_to_the_limit(rt: HostRuntime) {
+    let (pool, mut pass) = made(&rt, 1);
+    let a = open_arena(&rt, &pool, &mut pass, Kind::Shared).expect(&rt, "a slot");
+    assert_eq!(rt; give(&rt, &pool, &mut pass, a, 60, 4), Ok(0));
+    assert_eq!(rt;
+        give(&rt, &pool, &mut pass, a, 8, 8),
+        Err(Refusal::NoRoom(60))
+    );
+    assert_eq!(rt; give(&rt, &pool, &mut pass, a, 3, 4), Ok(60));
+    assert_eq!(rt;
+        give(&rt, &pool, &mut pass, a, 4, 3),
+        Err(Refusal::BadAlignment)
+    );
+    assert_eq!(rt;
+        give(&rt, &pool, &mut pass, a, 0, 1 << 40),
+        Err(Refusal::NoRoom(63))
+    );
+    assert_eq!(rt;
+        give(&rt, &pool, &mut pass, a, u64::MAX, 1),
+        Err(Refusal::NoRoom(63))
+    );
+    assert_eq!(rt; give(&rt, &pool, &mut pass, a, 0, 8), Ok(64));
+}
+
+#[test]
+fn a_hold_is_taken_again_once_it_is_spent(rt: HostRuntime) {
+    let (pool, mut pass) = made(&rt, 1);
+    let a = open_arena(&rt, &pool, &mut pass, Kind::Shared).expect(&rt, "a slot");
+    let once = hold(&rt, &pool, &mut pass, a).expect(&rt, "a hold");
+    assert_eq!(rt; once.arena(), a);
+    unhold(&pool, &mut pass, once);
+    let again = hold(&rt, &pool, &mut pass, a).expect(&rt, "a hold");
+    unhold(&pool, &mut pass, again);
+}
+
+/// Stores a word in a visit of its own.
+fn put(pool: &Pool, pass: &mut Pass, arena: ArenaId, word: u64, v: u64) -> Result<(), Refusal>
+    requires ready { CanVisit pool.now pass.old arena }
+    requires within { 8 * word < given_of pass.old arena }
+    ensures outside { IsOutside pool.now pass.new }
+    ensures lasts { Lasts pass.old pass.new }
+{
+    enter(pool, pass, arena)?;
+    store(pool, pass, word, v);
+    leave(pool, pass);
+    Ok(())
+}
+
+/// Stores into the last word of one arena and the first of the other, and answers these and two that nobody stored to.
+fn words_of_both(pool: &Pool, pass: &mut Pass, a: ArenaId, b: ArenaId) -> Result<[u64; 4], Refusal>
+    requires first { CanVisit pool.now pass.old a }
+    requires second { CanVisit pool.now pass.old b }
+    requires first_given { 64 ≤ given_of pass.old a }
+    requires second_given { 64 ≤ given_of pass.old b }
+    ensures outside { IsOutside pool.now pass.new }
+    ensures lasts { Lasts pass.old pass.new }
+{
+    put(pool, pass, a, 7, 1)?;
+    put(pool, pass, b, 0, 2)?;
+    Ok([
+        word_of(pool, pass, a, 0)?,
+        word_of(pool, pass, a, 7)?,
+        word_of(pool, pass, b, 0)?,
+        word_of(pool, pass, b, 7)?,
+    ])
+}
+
+#[test]
+fn arenas_of_two_slots_have_words_of_their_own(rt: HostRuntime) {
+    let (pool, mut pass) = made(&rt, 2);
+    let a = given(&rt, &pool, &mut pass, Kind::Shared, 64);
+    let b = given(&rt, &pool, &mut pass, Kind::Confined, 64);
+    assert_eq!(rt; a == b, false);
+    assert_eq!(rt; words_of_both(&pool, &mut pass, a, b), Ok([0, 1, 2, 0]));
+    assert_eq!(rt;
+        open_arena(&rt, &pool, &mut pass, Kind::Shared),
+        Err(Refusal::NoSlot)
+    );
+}
+
+#[test]
+fn each_pass_opens_until_no_slot_is_left(rt: HostRuntime) {
+    let (pool, mut pass) = made(&rt, 2);
+    let mut other = pool.draw(&rt, &mut pass).expect(&rt, "a pass");
+    let a = open_arena(&rt, &pool, &mut other, Kind::Confined).expect(&rt, "a slot");
+    let b = open_arena(&rt, &pool, &mut pass, Kind::Confined).expect(&rt, "a slot");
+    assert_eq!(rt; (a.slot, a.generation, a.owner), (0, 0, 1));
+    assert_eq!(rt; (b.slot, b.generation, b.owner), (1, 0, 0));
+    assert_eq!(rt;
+        open_arena(&rt, &pool, &mut other, Kind::Shared),
+        Err(Refusal::NoSlot)
+    );
+}

@@ -1,0 +1,188 @@
+//! Pages, which an arena gets one by one as it allocates, and gives back as it ends.
+ghost use Rattle.std.specs.Prelude.{◌≡◌, ◌<◌, ◌≤◌, None};
+ghost use Rattle.fm_base.specs.Learnt.{CanVisit};
+ghost use Rattle.fm_rule_calls.specs.Told.{view_of_pass};
+ghost use Rattle.fm_segment.specs.Access.{IsKnown};
+ghost use Rattle.fm_arena.specs.Handles.{CanGiveBack};
+ghost use Rattle.fm_arena.specs.Shares.{CanShare};
+
+use crate::tests::pools::paged;
+use fm_arena::{Arena, AutoHandle, Shared, a_handle_lasts};
+use fm_base::{ArenaId, Kind, Memory, Refusal};
+use fm_close::GaveBack;
+use fm_lanes::{Value, ValueKind};
+use fm_layout::Layout;
+use fm_rule::{Pass, Pool};
+use fm_segment::Segment;
+use fm_words::Shape;
+use std::alloc::AllocGlobal;
+use std::process::Abort;
+use std::sync::Wait;
+
+/// A pool of one pass and four pages of 64 bytes, of which an arena has three at most. Each of its two slots has two
+/// arenas, one after another.
+fn made<R: Abort + AllocGlobal>(rt: &R) -> (Pool, Pass)
+    ensures { CanShare result.0 result.1 }
+{
+    let shape = Shape {
+        passes: 1,
+        slots: 2,
+        pages: 4,
+        page_words: 8,
+        reach: 3,
+        generations: 2,
+    };
+    Pool::make(rt.alloc(), shape).expect(rt, "words")
+}
+
+/// What an allocation is answered where another arena has given so many bytes, and its own some.
+fn answered<R: Abort + AllocGlobal + Wait>(
+    rt: &R,
+    taken: u64,
+    given: u64,
+    size: u64,
+    align: u64,
+) -> Result<u64, Refusal> {
+    let (pool, pass) = made(rt);
+    let mut m = Shared::new(&pool, pass);
+    let other = m.open_arena(rt, Kind::Shared).expect(rt, "a slot");
+    let a = m.open_arena(rt, Kind::Shared).expect(rt, "a slot");
+    assert_eq!(rt; m.allocate(rt, other, taken, 8), Ok(0));
+    assert_eq!(rt; m.allocate(rt, a, given, 8), Ok(0));
+    m.allocate(rt, a, size, align)
+}
+
+#[test]
+fn an_allocation_wants_the_pages_of_its_range(rt: HostRuntime) {
+    let rows = [
+        // one part, two and all three
+        (192, 0, 64, 1, Ok(0)),
+        (192, 0, 65, 1, Err(Refusal::PoolFull)),
+        (128, 0, 65, 1, Ok(0)),
+        (128, 0, 129, 1, Err(Refusal::PoolFull)),
+        (64, 0, 192, 1, Ok(0)),
+        (192, 0, 193, 1, Err(Refusal::NoRoom(0))),
+        // bytes that are skipped are given too
+        (192, 8, 8, 64, Err(Refusal::PoolFull)),
+        (128, 8, 8, 64, Ok(64)),
+        (128, 8, 8, 128, Err(Refusal::PoolFull)),
+        (64, 8, 8, 128, Ok(128)),
+        // also where no others are asked for
+        (192, 8, 0, 64, Ok(64)),
+        (192, 8, 0, 128, Err(Refusal::PoolFull)),
+        (128, 8, 0, 128, Ok(128)),
+        (192, 8, 0, 256, Err(Refusal::NoRoom(8))),
+    ];
+    for (taken, given, size, align, answer) in rows {
+        assert_eq!(rt; answered(&rt, taken, given, size, align), answer);
+    }
+}
+
+#[test]
+fn who_found_no_page_finds_it_once_another_arena_is_closed(rt: HostRuntime) {
+    let (pool, pass) = made(&rt);
+    let mut m = Shared::new(&pool, pass);
+    let a = Arena::start(&rt, &mut m, Kind::Confined).expect(&rt, "a slot");
+    let b = Arena::start(&rt, &mut m, Kind::Shared).expect(&rt, "a slot");
+    assert_eq!(rt; m.allocate(&rt, a.id(), 128, 8), Ok(0));
+    assert_eq!(rt; m.allocate(&rt, b.id(), 192, 8), Err(Refusal::PoolFull));
+    // It keeps the two pages that it found.
+    assert_eq!(rt; m.allocate(&rt, a.id(), 1, 1), Err(Refusal::PoolFull));
+    assert_eq!(rt; a.close(&rt, &mut m), Ok(()));
+    assert_eq!(rt; m.allocate(&rt, b.id(), 192, 8), Ok(0));
+}
+
+/// An automatic arena that has given 192 bytes.
+fn automatic<R: Abort + Wait>(rt: &R, m: &mut Shared) -> AutoHandle
+    requires { m.old.inside ≡ None }
+    ensures { CanGiveBack m.new result }
+{
+    let handle = AutoHandle::start(rt, m).expect(rt, "a slot");
+    a_handle_lasts();
+    assert_eq!(rt; m.allocate(rt, handle.arena(), 192, 8), Ok(0));
+    handle
+}
+
+/// Another arena, for which the page that is left is too few.
+fn short<R: Abort + Wait>(rt: &R, m: &mut Shared, handle: &AutoHandle) -> ArenaId
+    requires { CanGiveBack m.old handle.now }
+    ensures handle { CanGiveBack m.new handle.now }
+    ensures visit { CanVisit (view_of_pass m.new) result }
+{
+    a_handle_lasts();
+    let a = m.open_arena(rt, Kind::Shared).expect(rt, "a slot");
+    assert_eq!(rt; m.allocate(rt, a, 65, 1), Err(Refusal::PoolFull));
+    a
+}
+
+#[test]
+fn the_last_handle_gives_the_pages_back(rt: HostRuntime) {
+    let (pool, pass) = made(&rt);
+    let mut m = Shared::new(&pool, pass);
+    let handle = automatic(&rt, &mut m);
+    let a = short(&rt, &mut m, &handle);
+    assert_eq!(rt; handle.give_back(&rt, &mut m), GaveBack::Ended);
+    assert_eq!(rt; m.allocate(&rt, a, 65, 1), Ok(0));
+}
+
+/// A new arena, and all its bytes.
+fn whole<R: Abort + Wait>(rt: &R, m: &mut Shared) -> (Arena, Segment)
+    requires { m.old.inside ≡ None }
+    ensures outside { m.new.inside ≡ None }
+    ensures known { IsKnown (view_of_pass m.new) result.1 }
+    ensures arena { result.1.arena ≡ result.0.id }
+{
+    let arena = m.start(rt, Kind::Shared).expect(rt, "a slot");
+    let s = m.allocate_segment(rt, &arena, 192, 8).expect(rt, "pages");
+    (arena, s)
+}
+
+/// How many of the longs of 192 bytes are 0, up to the first one that isn't.
+fn zeros(m: &mut Shared, s: &Segment) -> u64
+    requires outside { m.old.inside ≡ None }
+    requires known { IsKnown (view_of_pass m.old) s.now }
+    ensures outside { m.new.inside ≡ None }
+{
+    let long = Layout::value(ValueKind::Long);
+    for at in 0..24 {
+        if s.get(m, &long, 8 * at) != Ok(Value::Long(0)) {
+            return at;
+        }
+    }
+    24
+}
+
+#[test]
+fn each_page_is_zeros_when_it_is_lent_again(rt: HostRuntime) {
+    let (pool, pass) = made(&rt);
+    let mut m = Shared::new(&pool, pass);
+    let (arena, s) = whole(&rt, &mut m);
+    assert_eq!(rt; s.fill(&rt, &mut m, 255), Ok(()));
+    assert_eq!(rt; arena.close(&rt, &mut m), Ok(()));
+    let (_, t) = whole(&rt, &mut m);
+    assert_eq!(rt; zeros(&mut m, &t), 24);
+}
+
+/// What an allocation of all bytes of a pool of so many pages is answered, and then one of another arena.
+fn all_and_more<R: Abort + AllocGlobal + Wait>(
+    rt: &R,
+    pages: u32,
+) -> (Result<u64, Refusal>, Result<u64, Refusal>)
+    requires some { 0 < pages }
+    requires few { pages ≤ 4096 }
+{
+    let (pool, pass) = paged(rt, 2, pages, 1, 1);
+    let mut m = Shared::new(&pool, pass);
+    let a = m.open_arena(rt, Kind::Shared).expect(rt, "a slot");
+    let b = m.open_arena(rt, Kind::Shared).expect(rt, "a slot");
+    let all = m.allocate(rt, a, 8 * u64::from(pages), 8);
+    (all, m.allocate(rt, b, 1, 1))
+}
+
+#[test]
+fn a_pool_has_as_many_pages_as_it_was_made_with(rt: HostRuntime) {
+    for pages in 1..131 {
+        assert_eq!(rt; all_and_more(&rt, pages), (Ok(0), Err(Refusal::PoolFull)));
+    }
+    assert_eq!(rt; all_and_more(&rt, 4_096), (Ok(0), Err(Refusal::PoolFull)));
+}

@@ -1,5 +1,0 @@
-use Rattle.fm_bench.proofs.crews.visit_often.Given as goal
-use Rattle.fm_bench.specs.Ready.{CanWork}
-
-abbrev pub invariant-loop : goal.invariant-loop
-invariant-loop l = CanWork l.fn.pool l.worker.pass l.fn.a

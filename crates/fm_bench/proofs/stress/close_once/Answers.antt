@@ -1,7 +1,0 @@
-use Rattle.fm_bench.proofs.Working.{idle, idle_on, works}
-use Rattle.fm_bench.proofs.stress.close_once.Goals as goal
-
-pub returns : goal.returns
-returns g c =
-    let after = c.close.ensures in
-    works after.outside (idle_on c.a_crew_stands.ensures (idle c.requires) after.did after.lasts)

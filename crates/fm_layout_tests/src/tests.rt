@@ -1,0 +1,9 @@
+mod demos;
+mod layouts;
+mod layouts_named;
+mod layouts_read;
+mod layouts_written;
+mod path_texts;
+mod paths;
+mod queries;
+mod record;

@@ -1,0 +1,89 @@
+ghost use Rattle.std.specs.Prelude.{◌≡◌, None};
+
+use crate::tests::body::{close_an_arena, use_a_word};
+use crate::tests::exact::use_by_itself;
+use crate::tests::handles::{use_ints, use_longs};
+use crate::tests::segments::{copy_until_closed, use_ranges, use_values};
+use crate::{Double, Others};
+use fm_base::{Kind, Memory, Refusal};
+use fm_mono::Mono;
+use std::alloc::Global;
+use std::process::Abort;
+use std::sync::Wait;
+
+/// What every memory does whose arenas others leave alone.
+pub fn use_alone<R: Abort + Wait, M: Memory>(rt: &R, m: &mut M, alloc: Global)
+    requires { (M.view m.old).inside ≡ None }
+    ensures { (M.view m.new).inside ≡ None }
+{
+    use_a_word(rt, m, 0);
+    close_an_arena(rt, m);
+    use_ranges(rt, m);
+    use_values(rt, m, 7, 7, -1);
+    use_ints(rt, m, alloc, 0, 0);
+    use_longs(rt, m, alloc, 0);
+}
+
+#[test]
+fn one_thread(rt: HostRuntime) {
+    let mut m = Mono::make(rt.alloc(), 64);
+    use_by_itself(&rt, &mut m);
+    use_alone(&rt, &mut m, rt.alloc());
+}
+
+#[test]
+fn beside_another_caller(rt: HostRuntime) {
+    let others = Others::Add {
+        script: u64::MAX,
+        step: 1,
+    };
+    let mut m = Double::new(&rt, rt.alloc(), Mono::make(rt.alloc(), 64), others);
+    use_a_word(&rt, &mut m, 1);
+    close_an_arena(&rt, &mut m);
+    use_ranges(&rt, &mut m);
+    use_values(&rt, &mut m, 8, 10, 0);
+    use_longs(&rt, &mut m, rt.alloc(), 1);
+}
+
+#[test]
+fn where_the_others_are_gathered(rt: HostRuntime) {
+    let mono = Mono::make(rt.alloc(), 64);
+    let mut m = Double::new(&rt, rt.alloc(), mono, Others::Gathered);
+    use_by_itself(&rt, &mut m);
+    use_alone(&rt, &mut m, rt.alloc());
+}
+
+/// The other caller comes between the tries of an update, and changes the bytes above the value, or those below it.
+#[test]
+fn beside_a_neighbour_that_changes(rt: HostRuntime) {
+    for (index, step) in [(0, 1 << 32), (1, 1)] {
+        let others = Others::Add {
+            script: 0x4444_4444_4444_4444,
+            step,
+        };
+        let mut m = Double::new(&rt, rt.alloc(), Mono::make(rt.alloc(), 64), others);
+        use_ints(&rt, &mut m, rt.alloc(), index, 3);
+    }
+}
+
+#[test]
+fn while_another_caller_closes(rt: HostRuntime) {
+    let mono = Mono::make(rt.alloc(), 64);
+    let mut m = Double::new(&rt, rt.alloc(), mono, Others::Close { left: 5 });
+    copy_until_closed(&rt, &mut m);
+}
+
+/// An arena of one thread, and a word of it, by the calls of `Memory` alone.
+#[test]
+fn from_opening_to_closing(rt: HostRuntime) {
+    let mut memory = Mono::make(rt.alloc(), 64);
+    let arena = memory.open_arena(&rt, Kind::Shared).expect(&rt, "an arena");
+    assert_eq!(rt; memory.allocate(&rt, arena, 8, 8), Ok(0));
+    assert_eq!(rt; memory.enter(arena), Ok(()));
+    memory.store(0, 7);
+    assert_eq!(rt; memory.load(0), 7);
+    memory.leave();
+    assert_eq!(rt; memory.allocate(&rt, arena, 64, 8), Err(Refusal::NoRoom(8)));
+    assert_eq!(rt; memory.close(&rt, arena), Ok(()));
+    assert_eq!(rt; memory.enter(arena), Err(Refusal::Closed));
+}

@@ -1,0 +1,5 @@
+mod lines;
+mod parsing;
+mod plays;
+mod reports;
+mod written;

@@ -1,0 +1,16 @@
+mod demos;
+mod endings;
+mod faults;
+mod files;
+mod gates;
+mod guesses;
+mod keeping;
+mod kinds;
+mod layouts;
+mod migrations;
+mod queries;
+mod scripts;
+mod sizes;
+mod sums;
+mod tallies;
+mod texts;

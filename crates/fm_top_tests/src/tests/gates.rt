@@ -1,0 +1,66 @@
+use crate::tests::endings::{parts_of, words_of};
+use crate::tests::files::text_file;
+use crate::tests::queries::files;
+use fm_io::{Files, SureFiles, SureSink};
+use fm_io_gates::Recording;
+use fm_top::{Kept, run_tool};
+use std::alloc::AllocGlobal;
+use std::process::Abort;
+use std::random::RandomSource;
+use std::sync::Wait;
+use std::test::Fail;
+use std::thread::Threads;
+
+/// Rows, and behind `by` a line for each worker that passed the gate: `+` before and `-` after the call of this number. The
+/// two queries of `demo` are calls of two crews, and where nothing is asked of records nobody passes.
+const PASSED: &str = "\
+query --threads 2 L1 count R1 -> 0 count 2| by 1: +0 -0|2: +0 -0|
+tally --threads 2 L1 .tags[0] R1 -> 0 1 1|5 1|total 2| by 1: +0 -0|2: +0 -0|
+demo --threads 2 3 -> 0 count 3|sum(.amount) -126243|min(.amount) -50000|max(.amount) -34162|count 0|sum(.id) 0| by 1: +0 -0 +0 -0|2: +0 -0 +0 -0|
+query L1 count Ragged -> 6 ragged 1|
+layout nofile -> 2 missing nofile|";
+
+/// The first and the last lines are those of no worker.
+const SCRIPT: &str =
+    "pool 1 1 8 1000 1\nfirst open a shared\nfirst alloc a s 16 8\n1 set s long 0 5\n1 get s long 0\n2 set s long 8 7\n\
+    last get s long 8\n";
+
+/// How its run ends, and who passed the gate.
+const SCRIPT_PASSED: &str =
+    "run S -> 0 first open a shared -> ok|first alloc a s 16 8 -> ok 0|1 set s long 0 5 -> ok|1 get s long 0 -> 5|\
+    2 set s long 8 7 -> ok|last get s long 8 -> 7|bytes a 05000000000000000700000000000000| by 1: +0 -0 +1 -1|2: +0 -0|";
+
+/// Compares how a run on the row's line ends with what the row tells, and all who passed the gate.
+fn passes<R, F>(rt: &R, files: &mut F, row: &str) -> Result<(), Fail>
+where
+    R: Threads + Wait + Sync + RandomSource + AllocGlobal + Abort,
+    F: Files,
+{
+    let alloc = rt.alloc();
+    let (row, passed) = row.rsplit_once(" by ").unwrap_or((row, ""));
+    let passed = passed.replace(alloc, "|", "\n")?;
+    let (line, status, text) = parts_of(alloc, row)?;
+    let words = words_of(alloc, line)?;
+    let gate = Recording::new(alloc)?;
+    let mut out = SureSink::new(alloc);
+    let code = run_tool(rt, alloc, &words, files, &mut out, &gate, &mut Kept::new());
+    assert_eq!(rt; code, status, "{line}");
+    assert_eq!(rt; out.written(), text.as_bytes(), "{line}");
+    assert_eq!(rt; gate.text(alloc)?.as_str(), passed.as_str(), "{line}");
+    Ok(())
+}
+
+#[test]
+fn each_worker_passes_the_gate_around_its_calls(rt: HostRuntime) -> Result<(), Fail> {
+    let alloc = rt.alloc();
+    let mut records = files(alloc, &[], usize::MAX)?;
+    for row in PASSED.lines() {
+        passes(&rt, &mut records, row)?;
+    }
+    let script = text_file(alloc, "S", SCRIPT)?;
+    passes(
+        &rt,
+        &mut SureFiles::new(vec![in alloc; script]?),
+        SCRIPT_PASSED,
+    )
+}
