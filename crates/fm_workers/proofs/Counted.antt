@@ -29,10 +29,11 @@ use Rattle.fm_workers.specs.Counts.{AreCounts, AreTallied, IsTally, ListsBytes, 
 use Rattle.fm_workers.specs.Shares.{AreShares}
 use Rattle.fm_workers.specs.Tallies.{CountsShare, DoesTallyShare, SumsTo, Tallied, Tallies, Tallying}
 use Rattle.fm_workers_crew.proofs.Callers.{AreDoneBy}
-use Rattle.fm_workers.proofs.Asked.{piece}
+use Rattle.fm_workers_shares.specs.Shares.{piece}
 use Rattle.fm_workers.proofs.ByRuns.{items_none}
 use Rattle.fm_workers.proofs.Numbers.{both_counted}
-use Rattle.fm_workers.proofs.Runs.{run_ends, run_fits, shares_order}
+use Rattle.fm_workers_shares.proofs.Numbers.{run_ends, run_fits}
+use Rattle.fm_workers.proofs.Runs.{shares_order}
 
 -- ---- numbers that a query lists
 

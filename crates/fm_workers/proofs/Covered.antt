@@ -27,9 +27,10 @@ use Rattle.fm_workers.specs.Query.{IsReadByCrew}
 use Rattle.fm_workers.specs.Tallies.{CountsShare, DoesTallyShare, SumsTo, Tallied, Tallies, Tallying}
 use Rattle.fm_records.proofs.Behind.{get_split, length-pieces, less_times}
 use Rattle.fm_workers_crew.proofs.Callers.{AreDoneBy}
-use Rattle.fm_workers.proofs.Asked.{piece}
+use Rattle.fm_workers_shares.specs.Shares.{piece}
 use Rattle.fm_workers.proofs.Counted.{bytes_of_runs, spared_share}
-use Rattle.fm_workers.proofs.Runs.{run_ends, run_fits, shares_order}
+use Rattle.fm_workers_shares.proofs.Numbers.{run_ends, run_fits}
+use Rattle.fm_workers.proofs.Runs.{shares_order}
 
 -- What is asked for of bytes is asked for of those in which the record stands.
 asked_of : (p : Plan) (all part : List ℕ) (i j : ℕ) (r : Resolution) (is : List ℕ) → (h : IsAsked p all i r is)

@@ -17,7 +17,7 @@ use Rattle.fm_workers.specs.Tallies.{CountsAll, DoesTallyShare, PassesShare, Sum
 use Rattle.fm_workers.proofs.ByRuns.{AddsListed, none_found, records_add}
 use Rattle.fm_workers_crew.proofs.Callers.{AreDoneBy}
 use Rattle.fm_workers.proofs.Numbers.{how_many-most}
-use Rattle.fm_workers.proofs.Runs.{run_ends}
+use Rattle.fm_workers_shares.proofs.Numbers.{run_ends}
 
 module _ (w : Tallying) (plan : IsPlan w.plan) (tally : IsTally w.plan) where
   -- A share lists no more numbers than it has bytes.

@@ -9,9 +9,8 @@ pub mod Covered
 pub mod FewCounted
 pub mod Queried
 pub mod Runs
-pub mod Sharing
 pub mod Sparing
+pub mod Taking
 pub mod Tallied
 pub mod Tallying
-pub mod Totals
 pub mod Touching

@@ -1,8 +1,8 @@
--- Runs of records, and shares one behind the other.
+-- Shares one behind the other.
 use Rattle.std.proofs.Common.{◌≡◌, ◌≢◌, ℕ, ◌+◌, ◌-◌, ◌*◌, ◌/◌, ◌<◌, ◌≤◌, ◌==◌, Bool, true, false, List, [], ◌∷◌, ◌++◌, refl, sym, ap, ◌∙◌, subst, inl, inr, ⊎_elim, arith}
 use Rattle.std.specs.Prelude.{◌⊎◌}
 use Rattle.std.proofs.lemmas.Bool.Decides.{nat_tests}
-use Rattle.std.proofs.Math.Nat.{add-mul, mul-le-mul_right, div-mul-le_self, div-le_self, div-le_of_le-mul, div-one, le-div_iff_mul-le}
+use Rattle.std.proofs.Math.Nat.{mul-le-mul_right, div-mul-le_self, div-le_self, div-le_of_le-mul, div-one, le-div_iff_mul-le}
 use Rattle.fm_records_query.specs.Plan.{Plan}
 use Rattle.fm_segment.specs.Region.{Region}
 use Rattle.fm_workers.specs.declared.share.Share.{Share}
@@ -17,20 +17,6 @@ one_of m n low high =
       | false ↦ (λ e. let not : n ≢ m = grind (arith, nat_tests) in inr (omega (arith, not, low, high)))
     ] in
     go (n == m) refl
-
--- A run's bytes and those before it are all up to its end.
-pub run_ends : (from to size : ℕ) → from ≤ to → from * size + (to - from) * size ≡ to * size
-run_ends from to size order =
-    let back : from + (to - from) ≡ to = omega (arith, order) in
-    sym (add-mul from (to - from) size) ∙ ap (λ (n : ℕ). n * size) back
-
--- It ends in the segment.
-pub run_fits : (from to size total : ℕ) → from ≤ to → to ≤ total / size → from * size + (to - from) * size ≤ total
-run_fits from to size total order within =
-    let sum = run_ends from to size order in
-    let most : to * size ≤ total / size * size = mul-le-mul_right size within in
-    let all = div-mul-le_self total size in
-    omega (arith, sum, most, all)
 
 -- Where a share ends that is one of so many of what is left.
 pub next_end : (from count left : ℕ) → from ≤ count → from + (count - from) / left ≤ count

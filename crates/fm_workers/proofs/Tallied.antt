@@ -40,7 +40,7 @@ use Rattle.fm_workers.proofs.Added.{by_crew, crew_adds}
 use Rattle.fm_workers.proofs.Counted.{shares_counted}
 use Rattle.fm_workers.proofs.Covered.{counted_read}
 use Rattle.fm_workers.proofs.Queried.{even_of, many}
-use Rattle.fm_workers.proofs.Sharing.{whole_piece}
+use Rattle.fm_workers_shares.proofs.Sharing.{whole_piece}
 use Rattle.fm_workers.proofs.Sparing.{by_either, reads_spare}
 use Rattle.fm_workers.proofs.CountedShares.{counted_shares}
 use Rattle.fm_workers.proofs.Touching.{IsStop, crew_stops, crew_tallies, idle_tallies, tasks_count}

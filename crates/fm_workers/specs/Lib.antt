@@ -4,5 +4,6 @@ pub mod Counts
 pub mod Shares
 pub mod Printed
 pub mod Query
+pub mod Taking
 pub mod Tallies
 pub mod Tally

@@ -71,10 +71,9 @@ pub record CanBeTallied (p : Plan) (s counts : Region) : Type 0 where
 -- Among these entries are the share's: its caller's Reads, of which the query lists the share's numbers, and behind them the Adds of how
 -- often each number came
 pub record IsCounted (p : Plan) (counts : Region) (es : List Entry) (w : Share) : Type 0 where
-  pub reads : List Entry
   pub adds : List Entry
-  pub parts : made_by w.caller es ≡ reads ++ adds
-  pub does : DoesQuery w.caller p w.region (Ok w.found) reads
+  pub parts : made_by w.caller es ≡ w.own ++ adds
+  pub does : DoesQuery w.caller p w.region (Ok w.found) w.own
   pub each : List ℕ
   pub are : AreCounts (listed w.found) each
   pub added : AddsBelow w.caller counts each 256 adds

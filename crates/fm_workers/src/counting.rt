@@ -5,11 +5,11 @@ ghost use Rattle.fm_workers.specs.Tallies.{CanCount, CanTallyShare, DoesCount, D
 
 use crate::adding::add_counts;
 use crate::counts::Counts;
-use crate::cutting::records_of;
 use fm_base::{Memory, Refusal};
 use fm_records::{Answer, Found, Numbers, query_segment};
 use fm_records_query::Query;
 use fm_segment::Segment;
+use fm_workers_shares::records_of;
 use std::alloc::Global;
 
 /// How many bytes of records are listed at once, unless one record has more.

@@ -1,11 +1,11 @@
 ghost use Rattle.std.specs.Prelude.{◌≡◌, ◌*◌, ◌+◌, ◌-◌, ◌/◌, ◌^◌, ◌<◌, ◌≤◌, IfOk, IfErr, length};
-ghost use Rattle.fm_segment.specs.Region.{part_of};
 ghost use Rattle.fm_workers.specs.Shares.{AreLevel, IsCut, IsShare, least_in};
 
 use crate::share::Share;
 use fm_base::Refusal;
 use fm_records_query::Query;
 use fm_segment::Segment;
+use fm_workers_shares::records_of;
 use std::alloc::Global;
 
 /// The segment's records in so many shares, one behind the other, of which none has two records more than another.
@@ -43,26 +43,4 @@ fn share<A>(q: &Query, s: &Segment, from: u64, to: u64) -> Share<A>
     ensures { IsShare q.now s.now from to result }
 {
     Share::of(records_of(q, s, from, to))
-}
-
-/// The records from one index on, up to another, as a segment of their own.
-pub(crate) fn records_of(q: &Query, s: &Segment, from: u64, to: u64) -> Segment
-    requires order { from ≤ to }
-    requires within { to ≤ s.now.size / q.now.size }
-    requires small { s.now.size ≤ 2 ^ 40 }
-    ensures { result ≡ part_of (from * q.now.size) ((to - from) * q.now.size) s.now }
-{
-    let size = q.record_size();
-    part(s, from * size, (to - from) * size)
-}
-
-/// So many bytes of the segment from an offset on, which it has.
-fn part(s: &Segment, offset: u64, size: u64) -> Segment
-    requires { offset + size ≤ s.now.size }
-    ensures { result ≡ part_of offset size s.now }
-{
-    let Ok(bytes) = s.as_slice(offset, size) else {
-        unreachable!()
-    };
-    bytes
 }

@@ -27,7 +27,6 @@ mod adding;
 mod counting;
 mod counts;
 mod cutting;
-mod joining;
 mod printing;
 mod query;
 mod share;

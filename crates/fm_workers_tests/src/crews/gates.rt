@@ -51,6 +51,9 @@ fn two_workers_meet_at_a_tally(rt: HostRuntime) -> Result<(), Fail> {
     Ok(())
 }
 
+/// Four shares, all of one worker.
+const FOUR_CALLS: &str = "1: +0 -0 +1 -1 +2 -2 +3 -3\n";
+
 /// Each of three workers has one call, between the gate's.
 const EACH_ONCE: &str = "1: +0 -0\n2: +0 -0\n3: +0 -0\n";
 
@@ -58,11 +61,11 @@ const EACH_ONCE: &str = "1: +0 -0\n2: +0 -0\n3: +0 -0\n";
 fn each_share_is_one_call(rt: HostRuntime) -> Result<(), Fail> {
     let q = query(rt.alloc())?;
     let gate = Recording::new(rt.alloc())?;
-    let (pool, mut pass) = made(&rt, 4);
+    let (pool, mut pass) = made(&rt, 2);
     let s = stocked(&rt, &pool, &mut pass, Kind::Shared);
-    let answer = asked(&rt, &pool, &mut pass, &q, &s, 3, &gate);
+    let answer = asked(&rt, &pool, &mut pass, &q, &s, 1, &gate);
     assert_eq!(rt; answer.as_deref(), Ok(ANSWER));
-    assert_eq!(rt; gate.text(rt.alloc())?.as_str(), EACH_ONCE);
+    assert_eq!(rt; gate.text(rt.alloc())?.as_str(), FOUR_CALLS);
     Ok(())
 }
 

@@ -3,12 +3,13 @@ use Rattle.std.proofs.lemmas.List.Elements.{All-from_recursion}
 use Rattle.fm_base.specs.declared.arena_id.ArenaId.{ArenaId}
 use Rattle.fm_base.specs.declared.refusal.Refusal.{Refusal}
 use Rattle.fm_base.specs.declared.refusal.Refusal.TheVariants.{Memory, Ragged, WrongThread}
-use Rattle.fm_workers_crew.specs.Crew.{callers}
-use Rattle.fm_workers.specs.Shares.{Answers, CanAsk}
+use Rattle.fm_workers_jobs.specs.Turns.{HasAccount}
+use Rattle.fm_workers_shares.specs.Batches.{begun, nones}
+use Rattle.fm_workers_shares.specs.Shares.{each_of, many_of}
 use Rattle.fm_workers.specs.Query.{QueriedWith}
-use Rattle.fm_workers_crew.proofs.Callers.{worked_by_callers}
-use Rattle.fm_workers.proofs.Asked.{answers_few, bytes_small, can_ask_shares, shares_same}
-use Rattle.fm_workers.proofs.Queried.{even_of, open_to_all, queried, queried_none, queried_refused}
+use Rattle.fm_workers.specs.Taking.{Asking, CanTakeShares, asking}
+use Rattle.fm_workers.proofs.Queried.{can_finish, even_of, open_to_all, queried, queried_none, queried_refused}
+use Rattle.fm_workers.proofs.Taking.{can_take_all}
 use Rattle.fm_workers.proofs.query.query_with.Goals as goal
 
 pub returns-then-rest-ne0-clause-queried : goal.returns-then-rest-ne0-clause-queried
@@ -32,34 +33,47 @@ returns-in-Err-clause-queried g c =
 
 pub work_crew-requires-clause-can : goal.work_crew-requires-clause-can
 work_crew-requires-clause-can g c κs within =
-    All-from_recursion (CanAsk c.args.q.now c.args.pass.now) c.in-Ok.shares.items
-    (can_ask_shares c.args.q.now c.args.pass.now c.args.s.now 0 (c.args.s.now.size / c.args.q.now.size) c.in-Ok.shares.items c.record_size.ensures.plan
-    c.requires.known c.requires.aligned (omega arith) c.in-Ok.ensures.cut)
+    let b = c.in-Ok.batch in
+    let w : Asking = asking b.jobs c.args.q.now c.args.s.now c.records_each-each.result in
+    let shared = open_to_all c.args.q.now c.args.s.now c.size.result c.record_size.result c.arena.result c.size.ensures.size c.record_size.ensures.size
+    c.if-rest-ne0.false c.arena.ensures (c.is_confined.ensures.no c.if-is_confined.false) in
+    All-from_recursion (CanTakeShares w c.args.pass.now) b.takers.items
+    (can_take_all w c.args.pass.now b.takers.items c.requires.known c.requires.aligned shared.shared c.in-Ok.ensures.begun.takers)
 
-pub join_shares-requires-clause-few : goal.join_shares-requires-clause-few
-join_shares-requires-clause-few g c =
-    let w = c.in-Ok-work_crew.ensures.worked in
-    answers_few c.args.q.now w.crew.more (callers w.crew.crew) c.in-Ok.shares.items c.work_crew.new.tasks.items (worked_by_callers (Answers c.args.q.now) w)
-
-pub join_shares-requires-clause-small : goal.join_shares-requires-clause-small
-join_shares-requires-clause-small g c =
-    let w = c.in-Ok-work_crew.ensures.worked in
-    let shares = shares_same c.args.q.now c.args.s.now 0 (c.args.s.now.size / c.args.q.now.size) w.crew.more (callers w.crew.crew) c.in-Ok.shares.items
-    c.work_crew.new.tasks.items (worked_by_callers (Answers c.args.q.now) w) c.in-Ok.ensures.cut in
-    bytes_small c.args.q.now c.args.s.now c.work_crew.new.tasks.items shares c.size.ensures.ends
+pub finish-requires : goal.finish-requires
+finish-requires g c =
+    let b = c.in-Ok.batch in
+    let shared = open_to_all c.args.q.now c.args.s.now c.size.result c.record_size.result c.arena.result c.size.ensures.size c.record_size.ensures.size
+    c.if-rest-ne0.false c.arena.ensures (c.is_confined.ensures.no c.if-is_confined.false) in
+    let count : c.size-2.result / c.record_size-2.result ≡ c.args.s.now.size / c.args.q.now.size =
+    (λ i. c.size-2.ensures.size i / c.record_size-2.ensures.size i) in
+    let each : c.records_each-each.result ≡ each_of (c.args.s.now.size / c.args.q.now.size) c.args.threads =
+    c.records_each-each.ensures.each ∙ ap (λ n. each_of n c.args.threads) count in
+    let many : c.count_shares.result ≡ many_of (c.args.s.now.size / c.args.q.now.size) c.records_each-each.result =
+    c.count_shares.ensures.many ∙ (λ i. many_of (count i) (sym c.records_each-each.ensures.each i)) in
+    can_finish {k = asking b.jobs c.args.q.now c.args.s.now c.records_each-each.result} c.in-Ok-work_crew.ensures.worked c.record_size.ensures.plan
+    c.in-Ok.ensures.begun.count each c.records_each-each.ensures.some (let ends = c.size.ensures.ends in omega (arith, ends)) shared
+    c.requires.known b.giver b.slots.items
+    (subst (λ n. HasAccount b.jobs b.giver (begun n c.args.threads)) many c.in-Ok.ensures.begun.giver)
+    (c.in-Ok.ensures.begun.slots ∙ ap nones many) c.requires.some
 
 pub returns-in-Ok-work_crew-clause-queried : goal.returns-in-Ok-work_crew-clause-queried
 returns-in-Ok-work_crew-clause-queried g c =
-    let w = c.in-Ok-work_crew.ensures.worked in
+    let b = c.in-Ok.batch in
     let shared = open_to_all c.args.q.now c.args.s.now c.size.result c.record_size.result c.arena.result c.size.ensures.size c.record_size.ensures.size
     c.if-rest-ne0.false c.arena.ensures (c.is_confined.ensures.no c.if-is_confined.false) in
-    let shares = shares_same c.args.q.now c.args.s.now 0 (c.args.s.now.size / c.args.q.now.size) w.crew.more (callers w.crew.crew) c.in-Ok.shares.items
-    c.work_crew.new.tasks.items (worked_by_callers (Answers c.args.q.now) w) c.in-Ok.ensures.cut in
-    queried w c.record_size.ensures.plan c.in-Ok.ensures.cut c.in-Ok.ensures.level c.in-Ok.ensures.count shared c.requires.known c.join_shares.result
-    c.join_shares.ensures.comes c.join_shares.ensures.few shares
+    let count : c.size-2.result / c.record_size-2.result ≡ c.args.s.now.size / c.args.q.now.size =
+    (λ i. c.size-2.ensures.size i / c.record_size-2.ensures.size i) in
+    let each : c.records_each-each.result ≡ each_of (c.args.s.now.size / c.args.q.now.size) c.args.threads =
+    c.records_each-each.ensures.each ∙ ap (λ n. each_of n c.args.threads) count in
+    queried {k = asking b.jobs c.args.q.now c.args.s.now c.records_each-each.result} c.in-Ok-work_crew.ensures.worked c.record_size.ensures.plan
+    c.in-Ok.ensures.begun.count each c.records_each-each.ensures.some (let ends = c.size.ensures.ends in omega (arith, ends)) shared
+    c.requires.known c.finish.result c.finish.ensures
 
-pub returns-in-Err-work_crew-clause-queried : goal.returns-in-Err-work_crew-clause-queried
-returns-in-Err-work_crew-clause-queried g c =
+pub returns-clause-queried : goal.returns-clause-queried
+returns-clause-queried g c =
+    let b = c.in-Ok.batch in
     let shared = open_to_all c.args.q.now c.args.s.now c.size.result c.record_size.result c.arena.result c.size.ensures.size c.record_size.ensures.size
     c.if-rest-ne0.false c.arena.ensures (c.is_confined.ensures.no c.if-is_confined.false) in
-    queried_refused c.in-Err-work_crew.refusal c.in-Err-work_crew.ensures.worked c.in-Ok.ensures.count shared c.requires.known
+    queried_refused {k = asking b.jobs c.args.q.now c.args.s.now c.records_each-each.result} c.in-Err-work_crew.refusal c.in-Err-work_crew.ensures.worked
+    c.in-Ok.ensures.begun.count shared c.requires.known

@@ -1,6 +1,6 @@
 use Rattle.std.proofs.Common.{◌+◌, ◌-◌, ◌*◌, ◌≤◌, arith}
-use Rattle.fm_workers.proofs.Runs.{run_fits}
-use Rattle.fm_workers.proofs.cutting.records_of.Goals as goal
+use Rattle.fm_workers_shares.proofs.Numbers.{run_fits}
+use Rattle.fm_workers_shares.proofs.share.records_of.Goals as goal
 
 pub overflow_mul-from : goal.overflow_mul-from
 overflow_mul-from c =
