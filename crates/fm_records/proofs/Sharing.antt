@@ -104,8 +104,8 @@ shares_join p s es (w ∷ ws) plan cut done small =
     let joins = few_join p n (s.size - n) w.found (all_joined p ws) one rest.few (omega (arith, sum, small)) in
     record { can = (joins.can, rest.can); few = subst (λ (k : ℕ). AreFew k p (joined w.found (all_joined p ws))) sum joins.few }
 
--- each part of a segment that is spared is so
-spared_part : (limit : ℕ) (now : State) (es : List Entry) (s : Region) (at n : ℕ) → at + n ≤ s.size → IsSpared limit now es s
+-- Each part of a segment that is spared is so.
+pub spared_part : (limit : ℕ) (now : State) (es : List Entry) (s : Region) (at n : ℕ) → at + n ≤ s.size → IsSpared limit now es s
     → IsSpared limit now es (part_of at n s)
 spared_part limit now es s at n within h = record {
   legal = h.legal;
@@ -141,8 +141,8 @@ shares_answer limit now es p s (w ∷ ws) plan h cut done =
 
 -- ---- what was read
 
--- what is asked for of bytes is asked for of a part of them in which the record stands
-asked_of : (p : Plan) (all part : List ℕ) (i j : ℕ) (r : Resolution) (is : List ℕ) → (h : IsAsked p all i r is)
+-- What is asked for of bytes is asked for of a part of them in which the record stands.
+pub asked_of : (p : Plan) (all part : List ℕ) (i j : ℕ) (r : Resolution) (is : List ℕ) → (h : IsAsked p all i r is)
     → slice_get (records p.size part) j ≡ Some h.record_bytes → IsAsked p part j r is
 asked_of p all part i j r is h e = record {
   record_bytes = h.record_bytes;

@@ -11,9 +11,10 @@ use std::sync::Wait;
 use std::test::Fail;
 use std::thread::Threads;
 
-/// Rows, and behind `by` a line for each worker that passed the gate: `+` before and `-` after the call of this number. Which
-/// of several workers takes which share of a query isn't fixed, so these have one, with a call for each of four shares at most. The
-/// two queries of `demo` are calls of two crews, and where nothing is asked of records nobody passes.
+/// Rows, and behind `by` a line for each worker that passed the gate: `+` before and `-` after the call of this number.
+/// Which of several workers takes which share of a query isn't fixed, so queries here have one worker, and a call for
+/// each share, at most four. The two queries of `demo` are calls of two crews, and where nothing is asked of records
+/// nobody passes.
 const PASSED: &str = "\
 query --threads 1 L1 count R1 -> 0 count 2| by 1: +0 -0 +1 -1|
 tally --threads 2 L1 .tags[0] R1 -> 0 1 1|5 1|total 2| by 1: +0 -0|2: +0 -0|

@@ -1,5 +1,6 @@
 ghost use Rattle.fm_gate.specs.Needs.{IsOutside};
 ghost use Rattle.fm_workers.specs.Query.{CanQueryWith, QueriedWith};
+ghost use Rattle.fm_workers.specs.Taking.{CanTakeBatch, takers_in};
 
 use fm_arena::Shared;
 use fm_base::Refusal;
@@ -90,10 +91,28 @@ pub fn query_with<R: Threads + Wait + Sync, G: Gate>(
     }
     let count = s.size() / q.record_size();
     let each = records_each(count, threads);
-    let batch = match Batch::new(rt, alloc, count_shares(count, threads), threads) {
-        Ok(batch) => batch,
-        Err(refusal) => return Err(refusal),
-    };
+    match Batch::new(rt, alloc, count_shares(count, threads), threads) {
+        Ok(batch) => take_batch(rt, alloc, pool, pass, q, s, each, batch, gate),
+        Err(refusal) => Err(refusal),
+    }
+}
+
+/// The answer over a batch's shares, which a crew takes, a pass for each taker.
+fn take_batch<R: Threads + Wait + Sync, G: Gate>(
+    rt: &R,
+    alloc: Global,
+    pool: &Pool,
+    pass: &mut Pass,
+    q: &Query,
+    s: &Segment,
+    each: u64,
+    batch: Batch,
+    gate: &G,
+) -> Result<Answer, Refusal>
+    requires { CanTakeBatch pool.now pass.old q.now s.now (takers_in batch) each batch }
+    ensures queried { QueriedWith (takers_in batch) pass.old pass.new q.now s.now result }
+    ensures outside { IsOutside pool.now pass.new }
+{
     let Batch {
         jobs,
         giver,

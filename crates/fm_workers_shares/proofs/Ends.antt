@@ -1,7 +1,8 @@
 -- What the takers' ends say of a batch.
-use Rattle.std.proofs.Common.{◌≡◌, ℕ, ◌/◌, List, [], ◌∷◌, length, refl, ap, ◌∙◌, subst, arith, inr, Result, Ok, Err, IfOk}
+use Rattle.std.proofs.Common.{◌≡◌, ℕ, ◌/◌, List, [], ◌∷◌, ◌++◌, length, take, drop, refl, ap, ◌∙◌, subst, arith, inr, Result, Ok, Err, IfOk}
 use Rattle.std.specs.Prelude.{IfErr}
 use Rattle.std.specs.List.{AllByRecursion}
+use Rattle.std.proofs.lemmas.List.{take_at}
 use Rattle.fm_base_lists.proofs.Each.{all_both}
 use Rattle.fm_base.specs.declared.caller.Caller.{Caller}
 use Rattle.fm_base.specs.declared.refusal.Refusal.{Refusal}
@@ -18,11 +19,11 @@ use Rattle.fm_workers_shares.specs.declared.taker.Taker.{Taker}
 use Rattle.fm_workers_shares.specs.Batches.{begun}
 use Rattle.fm_workers_shares.specs.Finishing.{AreAllTaken, CanFinish, Finishes, HasTaken, answers_of}
 use Rattle.fm_workers_shares.specs.Joining.{CanJoinAll, joined_all}
-use Rattle.fm_workers_shares.specs.Placing.{Slot, absorbed, all_done, end_of, or_later}
+use Rattle.fm_workers_shares.specs.Placing.{Slot, absorbed, all_done, end_of, or_later, placed}
 use Rattle.fm_workers_shares.specs.Shares.{many_of}
 use Rattle.fm_workers_shares.specs.Taking.{DoesEach, EndsTaking}
 use Rattle.fm_workers_shares.proofs.Joins.{IsFoundAt, all_join}
-use Rattle.fm_workers_shares.proofs.Places.{all_placed, role_absorbed}
+use Rattle.fm_workers_shares.proofs.Places.{all_placed, length-placed, role_absorbed}
 use Rattle.fm_workers_shares.proofs.Settling.{HasEnded, all_among, all_taken, out_absorbed}
 
 pub both_ended : (r later : Result (Unit {0}) Refusal) → or_later r later ≡ Ok tt → (r ≡ Ok tt) × (later ≡ Ok tt)
@@ -56,6 +57,14 @@ module _ (jobs : Jobs) (p : Plan) (s : Region) (each : ℕ) where
 pub is_giver : {p : Plan} {s : Region} {each : ℕ} {jobs : Jobs} {turn : Turn} {ts : List Taker} {slots : List Slot}
     → CanFinish p s each jobs turn ts slots → IsGiver jobs turn
 is_giver can = record { is_of = can.giver.is_of; role = ap (λ (v : Account). v.role) can.giver.is }
+
+-- The places, as they stand behind a slice of them in which the answers were put.
+pub slots_after : {p : Plan} {s : Region} {each : ℕ} {jobs : Jobs} {turn : Turn} {ts : List Taker} {slots now us : List Slot} {n : ℕ}
+    → CanFinish p s each jobs turn ts slots → now ≡ slots → length now ≡ n → us ≡ placed now (all_done ts)
+    → take n (us ++ drop (length us) slots) ≡ answers_of p s each ts
+slots_after {ts = ts} {slots = slots} {now = now} {us = us} {n = n} can same long is =
+    take_at us (drop (length us) slots) n (ap length is ∙ (length-placed now (all_done ts) ∙ long))
+    ∙ (is ∙ ap (λ (xs : List Slot). placed xs (all_done ts)) (same ∙ can.empty))
 
 module _ {p : Plan} {s : Region} {each : ℕ} {jobs : Jobs} {turn : Turn} {ts : List Taker} {slots : List Slot} (can : CanFinish p s each jobs turn ts slots)
     (end : end_of ts ≡ Ok tt) where

@@ -1,5 +1,5 @@
 -- Where shares begin and end, and how many there are.
-use Rattle.std.proofs.Common.{◌≡◌, ℕ, ◌+◌, ◌-◌, ◌*◌, ◌/◌, ◌<◌, ◌≤◌, max, sym, ap, ◌∙◌, arith}
+use Rattle.std.proofs.Common.{◌≡◌, ℕ, ◌+◌, ◌-◌, ◌*◌, ◌/◌, ◌<◌, ◌≤◌, max, sym, ap, ◌∙◌, subst, arith}
 use Rattle.std.specs.Int.{div_ceil}
 use Rattle.std.proofs.Math.Nat.{add-mul, mul-le-mul_right, div-mul-le_self}
 use Rattle.std.proofs.lemmas.Grind.{div_ceil_times}
@@ -18,6 +18,10 @@ run_fits from to size total order within =
     let most : to * size ≤ total / size * size = mul-le-mul_right size within in
     let all = div-mul-le_self total size in
     omega (arith, sum, most, all)
+
+-- So it does where the records' size is told by another name.
+pub run_within : (from to size : ℕ) {n total : ℕ} → n ≡ size → from ≤ to → to ≤ total / size → from * n + (to - from) * n ≤ total
+run_within from to size {n} {total} is order within = subst (λ k. from * k + (to - from) * k ≤ total) (sym is) (run_fits from to size total order within)
 
 -- So many shares are enough.
 pub all_in : (count each : ℕ) → 0 < each → count ≤ many_of count each * each
