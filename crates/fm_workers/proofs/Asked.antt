@@ -1,5 +1,5 @@
 -- Shares of a segment, each asked by a pass of its own.
-use Rattle.std.proofs.Common.{◌≡◌, ℕ, ◌+◌, ◌/◌, ◌%◌, ◌≤◌, List, [], ◌∷◌, ◌++◌, refl, sym, subst, arith, inl, inr, le_trans, Result, Ok, Err}
+use Rattle.std.proofs.Common.{◌≡◌, ℕ, ◌+◌, ◌%◌, ◌≤◌, List, [], ◌∷◌, ◌++◌, refl, subst, arith, inl, inr, Result, Ok, Err}
 use Rattle.std.specs.Prelude.{◌⊎◌}
 use Rattle.std.specs.List.{AllByRecursion, flat_map}
 use Rattle.fm_base.specs.declared.caller.Caller.{Caller}
@@ -9,41 +9,13 @@ use Rattle.fm_base.specs.Arenas.{MayUse}
 use Rattle.fm_base.specs.Calls.{Entry}
 use Rattle.fm_base.specs.Histories.{made_by}
 use Rattle.fm_base.specs.Visits.{refused_visit}
-use Rattle.fm_rule_facts.specs.Views.{View}
-use Rattle.fm_rule_calls.specs.Told.{view_of_pass}
-use Rattle.fm_segment.specs.Access.{IsKnown}
 use Rattle.fm_segment.specs.Region.{Region}
-use Rattle.fm_records_query.specs.Plan.{Plan, IsPlan}
+use Rattle.fm_records_query.specs.Plan.{Plan}
 use Rattle.fm_records.specs.declared.found.Found.{Found}
 use Rattle.fm_records.specs.Query.{DoesQuery}
 use Rattle.fm_records.specs.Reads.{AreReads, StopsReading, IsWordOf, read_visit}
-use Rattle.fm_workers.specs.declared.share.Share.{Share}
-use Rattle.fm_workers.specs.Shares.{IsShare, AreShares, CanAsk}
 use Rattle.fm_workers.specs.Query.{OnlyReads, reads, stops}
 use Rattle.fm_workers.specs.Tallies.{DoesCount}
-use Rattle.fm_workers_shares.proofs.Numbers.{run_fits}
-use Rattle.fm_workers_shares.proofs.Serving.{aligned_at}
-use Rattle.fm_workers.proofs.Runs.{shares_order}
-
--- ---- before they are asked
-
-pub can_ask_shares : {A : Type 0} (p : Plan) (v : View) (s : Region) (from to : ℕ) (ts : List (Share A)) → IsPlan p → IsKnown (view_of_pass v) s
-    → s.first % p.alignment ≡ 0
-    → to ≤ s.size / p.size → AreShares p s from ts to → AllByRecursion (CanAsk p v) ts
-can_ask_shares p v s from to [] plan known even within h = tt
-can_ask_shares p v s from to (t ∷ ts) plan known even within h =
-    let next = h.0 in
-    let order = h.1.order in
-    let later = shares_order p s h.0 to ts h.2 in
-    let fits = run_fits from h.0 p.size s.size h.1.order (omega (arith, later, within)) in
-    let given = known.given in (
-      record {
-        known = subst (λ (r : Region). IsKnown (view_of_pass v) r) (sym h.1.region)
-            (record { arena = known.arena; given = le_trans (omega (arith, fits)) given });
-        aligned = subst (λ (r : Region). r.first % p.alignment ≡ 0) (sym h.1.region) (aligned_at p s.first from plan even);
-      },
-      can_ask_shares p v s h.0 to ts plan known even within h.2,
-    )
 
 -- ---- what the passes did
 
@@ -91,12 +63,6 @@ pub stops_count : (c : Caller) (p : Plan) (part s : Region) (r : Refusal) (own :
 stops_count c p part s Closed own w d = stops (stops_wider c part s own w d)
 stops_count c p part s Memory own w d = reads (reads_wider c part s own w d)
 stops_count c p part s r own w d = absurd d
-
-pub share_within : {A : Type 0} (p : Plan) (s : Region) (from next to : ℕ) (t : Share A) → next ≤ to → to ≤ s.size / p.size
-    → IsShare p s from next t → IsWithin t.region s
-share_within p s from next to t later within r =
-    let fits = run_fits from next p.size s.size r.order (omega (arith, later, within)) in
-    subst (λ (x : Region). IsWithin x s) (sym r.region) (record { arena = refl; from = omega arith; below = omega (arith, fits) })
 
 pub idle_reads : (s : Region) (more : List Entry) (cs : List Caller) → AllByRecursion (λ c. made_by c more ≡ []) cs
     → AllByRecursion (λ c. OnlyReads s c (made_by c more)) cs

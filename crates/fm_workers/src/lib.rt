@@ -27,15 +27,15 @@
 mod adding;
 mod counting;
 mod counts;
-mod cutting;
 mod printing;
 mod query;
-mod share;
 mod summing;
+mod tallier;
 mod tally;
+mod tally_batch;
+mod tallying;
 
 pub use counts::Counts;
 pub use printing::print_counts;
 pub use query::query_with;
-pub use share::Share;
 pub use tally::{is_tally, tally_with};

@@ -54,9 +54,6 @@ fn two_workers_meet_at_a_tally(rt: HostRuntime) -> Result<(), Fail> {
 /// Four shares, all of one worker.
 const FOUR_CALLS: &str = "1: +0 -0 +1 -1 +2 -2 +3 -3\n";
 
-/// Each of three workers has one call, between the gate's.
-const EACH_ONCE: &str = "1: +0 -0\n2: +0 -0\n3: +0 -0\n";
-
 #[test]
 fn each_share_is_one_call(rt: HostRuntime) -> Result<(), Fail> {
     let q = query(rt.alloc())?;
@@ -73,12 +70,12 @@ fn each_share_is_one_call(rt: HostRuntime) -> Result<(), Fail> {
 fn each_share_of_a_tally_is_one_call(rt: HostRuntime) -> Result<(), Fail> {
     let q = query_of(rt.alloc(), ValueKind::Byte, "list([])")?;
     let gate = Recording::new(rt.alloc())?;
-    let (pool, mut pass) = made(&rt, 4, 256);
+    let (pool, mut pass) = made(&rt, 2, 256);
     let s = stocked(&rt, &pool, &mut pass, Kind::Shared);
     let shared = zeros(&rt, &pool, &mut pass, Kind::Shared, &s);
-    let counts = tallied(&rt, &pool, &mut pass, &q, &s, &shared, 3, &gate).expect(&rt, "counts");
+    let counts = tallied(&rt, &pool, &mut pass, &q, &s, &shared, 1, &gate).expect(&rt, "counts");
     assert_eq!(rt; counts.at(0), 43);
-    assert_eq!(rt; gate.text(rt.alloc())?.as_str(), EACH_ONCE);
+    assert_eq!(rt; gate.text(rt.alloc())?.as_str(), FOUR_CALLS);
     Ok(())
 }
 
