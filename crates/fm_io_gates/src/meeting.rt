@@ -5,7 +5,8 @@ use std::sync::atomic::{AtomicBool, Ordering};
 /// How often a worker looks whether the other came, before it goes on without it: some seconds, for a busy machine.
 const TURNS: u32 = 4_000_000_000;
 
-/// What each worker's first call waits for.
+/// What each worker's first call waits for: at least that the other's is about to begin, but in `SecondNext`. So neither
+/// worker takes all calls before the other comes.
 #[derive(Clone, Copy, PartialEq, Eq)]
 pub enum Order {
     /// That the other's first call is about to begin.
@@ -82,16 +83,15 @@ impl Meeting {
 
     fn wait_as_first(&self) {
         match self.order {
-            Order::Together => self.wait(&self.second.begun),
+            Order::Together | Order::SecondLast => self.wait(&self.second.begun),
             Order::FirstLast => self.wait(&self.second.ended),
-            Order::SecondLast | Order::SecondNext => {}
+            Order::SecondNext => {}
         }
     }
 
     fn wait_as_second(&self) {
         match self.order {
-            Order::Together => self.wait(&self.first.begun),
-            Order::FirstLast => {}
+            Order::Together | Order::FirstLast => self.wait(&self.first.begun),
             Order::SecondLast | Order::SecondNext => self.wait(&self.first.ended),
         }
     }

@@ -51,10 +51,10 @@ record HasByte (from end word : ℕ) : Type 0 where
   some : from < end
 
 module _ (c : Caller) (id : ArenaId) (word : ℕ) where
-  read_left : (es fs : List Entry) → HasRead c id word es → HasRead c id word (es ++ fs)
+  pub read_left : (es fs : List Entry) → HasRead c id word es → HasRead c id word (es ++ fs)
   read_left es fs h = record { found = h.found; among = among_left _ es fs h.among }
 
-  read_right : (es fs : List Entry) → HasRead c id word fs → HasRead c id word (es ++ fs)
+  pub read_right : (es fs : List Entry) → HasRead c id word fs → HasRead c id word (es ++ fs)
   read_right es fs h = record { found = h.found; among = among_right _ es fs h.among }
 
 -- the word is one of a value of which it has a byte

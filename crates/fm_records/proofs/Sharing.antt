@@ -1,13 +1,15 @@
--- Shares of a segment, each answered by the Reads of one caller.
+-- Shares of a segment, each answered by Reads of one caller, which may have several.
 use Rattle.std.proofs.Common.{◌≡◌, ℕ, ◌+◌, ◌-◌, ◌*◌, ◌/◌, ◌%◌, ◌<◌, ◌≤◌, Bool, Some, List, [], ◌∷◌, ◌++◌, length, get_or, map, refl, sym, ap, ◌∙◌, subst, inl, inr, arith}
 use Rattle.std.specs.Prelude.{filter}
 use Rattle.fm_base_lists.proofs.Among.{among_kept}
-use Rattle.fm_base_lists.proofs.Each.{all_among, all_of_among}
+use Rattle.fm_base_lists.proofs.Each.{all_among, all_of_among, all_split}
 use Rattle.std.specs.List.{AllByRecursion, range_with_len, slice_get}
 use Rattle.std.proofs.Math.Nat.{zero-div}
 use Rattle.std.proofs.lemmas.List.{map-append}
 use Rattle.std.proofs.lemmas.Nat.{div-add-mod'}
 use Rattle.fm_base.specs.Arenas.{State, arena_of}
+use Rattle.fm_base.specs.declared.arena_id.ArenaId.{ArenaId}
+use Rattle.fm_base.specs.declared.caller.Caller.{Caller}
 use Rattle.fm_base.specs.Calls.{Read, Entry}
 use Rattle.fm_base.specs.Histories.{made_by}
 use Rattle.fm_base_bytes.specs.Words.{byte_at, byte_of}
@@ -23,10 +25,10 @@ use Rattle.fm_records.specs.Few.{AreFew}
 use Rattle.fm_records.specs.Joined.{joined}
 use Rattle.fm_records.specs.Laws.{IsAsked}
 use Rattle.fm_records.specs.Records.{records, pieces}
-use Rattle.fm_records.specs.Shares.{IsSpared, SparedAreFound, Share, IsDone, behind, IsFirst, all_joined, SharesJoin, SharesAnswer, SharesRead}
+use Rattle.fm_records.specs.Shares.{IsSpared, IsRunOf, SparedAreFound, Share, IsDone, behind, IsFirst, all_joined, SharesJoin, SharesAnswer, SharesRead}
 use Rattle.fm_records.proofs.Behind.{get_split, length-pieces, less_times, range_append}
 use Rattle.fm_records.proofs.AnsweringBytes.{answer_of_bytes, length-places, word_at_places}
-use Rattle.fm_records.proofs.Covering.{asked_is_read}
+use Rattle.fm_records.proofs.Covering.{asked_is_read, read_left, read_right}
 use Rattle.fm_records.proofs.Few.{answers_few, few_join, nothing_few}
 use Rattle.fm_records.proofs.Joining.{records-append, answer-append}
 use Rattle.fm_records.proofs.Recording.{answer-none}
@@ -58,6 +60,18 @@ spared_found limit now es s c h =
     all_filtered (FindsAs s (bytes_at_places now s)) _ es
     (by_entry now s es (λ place from below. byte_found limit now es s.arena place h.legal (h.spared place from below)))
 
+-- ---- a run of a caller's entries
+
+-- what holds of each of the caller's holds of each of a run
+all_run : (P : Entry → Type 0) (c : Caller) (es own : List Entry) → IsRunOf c es own → AllByRecursion P (made_by c es) → AllByRecursion P own
+all_run P c es own h all =
+    let parts = all_split P h.earlier (own ++ h.later) (subst (AllByRecursion P) h.run all) in (all_split P own h.later parts.1).0
+
+-- what was read in a run was read
+read_in_run : (c : Caller) (id : ArenaId) (word : ℕ) (es own : List Entry) → IsRunOf c es own → HasRead c id word own → HasRead c id word (made_by c es)
+read_in_run c id word es own h read =
+    subst (HasRead c id word) (sym h.run) (read_right c id word h.earlier (own ++ h.later) (read_left c id word own h.later read))
+
 -- ---- the segment's bytes, cut in two
 
 bytes_cut : (now : State) (s : Region) (n : ℕ) → n ≤ s.size → bytes_at_places now s ≡ bytes_at_places now (part_of 0 n s) ++ bytes_at_places now (behind n s)
@@ -85,13 +99,13 @@ shares_join p s es (w ∷ ws) plan cut done small =
     let n = w.region.size in
     let within = cut.0.within in
     let rest = shares_join p (behind w.region.size s) es ws plan cut.1 done.1 (omega (arith, small)) in
-    let one = answers_few w.caller p w.region w.found (made_by w.caller es) plan done.0.does in
+    let one = answers_few w.caller p w.region w.found w.own plan done.0.does in
     let sum : w.region.size + (s.size - w.region.size) ≡ s.size = omega (arith, within) in
     let joins = few_join p n (s.size - n) w.found (all_joined p ws) one rest.few (omega (arith, sum, small)) in
     record { can = (joins.can, rest.can); few = subst (λ (k : ℕ). AreFew k p (joined w.found (all_joined p ws))) sum joins.few }
 
--- each part of a segment that is spared is so
-spared_part : (limit : ℕ) (now : State) (es : List Entry) (s : Region) (at n : ℕ) → at + n ≤ s.size → IsSpared limit now es s
+-- Each part of a segment that is spared is so.
+pub spared_part : (limit : ℕ) (now : State) (es : List Entry) (s : Region) (at n : ℕ) → at + n ≤ s.size → IsSpared limit now es s
     → IsSpared limit now es (part_of at n s)
 spared_part limit now es s at n within h = record {
   legal = h.legal;
@@ -100,10 +114,15 @@ spared_part limit now es s at n within h = record {
 
 -- its first share is answered
 first_share : (limit : ℕ) (now : State) (es : List Entry) (p : Plan) (s : Region) (w : Share) → IsPlan p → IsSpared limit now es s → IsFirst p s w
-    → IsDone p es w → IsAnswered w.caller p w.region (bytes_at_places now w.region) w.found (made_by w.caller es)
+    → IsDone p es w → IsAnswered w.caller p w.region (bytes_at_places now w.region) w.found w.own
 first_share limit now es p s w plan h cut done =
     let mine = subst (IsSpared limit now es) (sym cut.region) (spared_part limit now es s 0 w.region.size (omega (arith, cut.within)) h) in
-    record { plan = plan; size = length-places now w.region; finds = spared_found limit now es w.region w.caller mine; does = done.does }
+    record {
+      plan = plan;
+      size = length-places now w.region;
+      finds = all_run (FindsAs w.region (bytes_at_places now w.region)) w.caller es w.own done.run (spared_found limit now es w.region w.caller mine);
+      does = done.does;
+    }
 
 pub shares_answer : SharesAnswer
 shares_answer limit now es p s [] plan h cut done = sym (ap (answer p) (places_none now s cut))
@@ -122,8 +141,8 @@ shares_answer limit now es p s (w ∷ ws) plan h cut done =
 
 -- ---- what was read
 
--- what is asked for of bytes is asked for of a part of them in which the record stands
-asked_of : (p : Plan) (all part : List ℕ) (i j : ℕ) (r : Resolution) (is : List ℕ) → (h : IsAsked p all i r is)
+-- What is asked for of bytes is asked for of a part of them in which the record stands.
+pub asked_of : (p : Plan) (all part : List ℕ) (i j : ℕ) (r : Resolution) (is : List ℕ) → (h : IsAsked p all i r is)
     → slice_get (records p.size part) j ≡ Some h.record_bytes → IsAsked p part j r is
 asked_of p all part i j r is h e = record {
   record_bytes = h.record_bytes;
@@ -160,7 +179,12 @@ shares_read limit now es p s (w ∷ ws) index r is word plan h cut done asks is_
           let mine = asked_of p _ (bytes_at_places now w.region) index index r is asks (ap (λ bs. slice_get (records p.size bs) index) (sym same) ∙ here) in
           let read = asked_is_read w.caller p w.region _ w.found _ index r is word (first_share limit now es p s w plan h cut.0 done.0) mine
           (record { above = omega (arith, above, start); below = omega (arith, below, start) }) in
-          record { share = w; among = inl refl; read = subst (λ (id : _). HasRead w.caller id word (made_by w.caller es)) same_arena read }
+          record {
+            share = w;
+            among = inl refl;
+            read = subst (λ (id : _). HasRead w.caller id word (made_by w.caller es)) same_arena
+                (read_in_run w.caller w.region.arena word es w.own done.0.run read);
+          }
       | inr there_behind ↦
           let count : length (records p.size a) ≡ w.region.size / p.size = length-pieces (length a / p.size) p.size a ∙ ap (λ k. k / p.size) long in
           let exact : w.region.size / p.size * p.size ≡ w.region.size = omega (arith, div-add-mod' w.region.size p.size, cut.0.whole) in

@@ -1,5 +1,5 @@
--- Shares of a segment, each answered by the Reads of one caller.
-use Rattle.std.specs.Prelude.{◌≡◌, ℕ, ◌+◌, ◌-◌, ◌%◌, ◌^◌, ◌<◌, ◌≤◌, List, [], ◌∷◌, Ok, ⊤}
+-- Shares of a segment, each answered by Reads of one caller, which may have several.
+use Rattle.std.specs.Prelude.{◌≡◌, ℕ, ◌+◌, ◌-◌, ◌%◌, ◌^◌, ◌<◌, ◌≤◌, List, [], ◌∷◌, ◌++◌, Ok, ⊤}
 use Rattle.std.specs.List.{AllByRecursion}
 use Rattle.fm_base.specs.declared.caller.Caller.{Caller}
 use Rattle.fm_base.specs.Arenas.{State}
@@ -35,15 +35,23 @@ SparedAreFound =
     (limit : ℕ) (now : State) (es : List Entry) (s : Region) (c : Caller) → IsSpared limit now es s
     → FindAs s (bytes_at_places now s) (made_by c es)
 
--- who answered which part, and what was found there
+-- who answered which part, what was found there, and by which entries
 pub record Share : Type 0 where
   pub caller : Caller
   pub region : Region
   pub found : List Found
+  pub own : List Entry
 
--- the share was answered by its caller's entries among these
+-- these are entries of the caller in a row, among others
+pub record IsRunOf (c : Caller) (es own : List Entry) : Type 0 where
+  pub earlier : List Entry
+  pub later : List Entry
+  pub run : made_by c es ≡ earlier ++ (own ++ later)
+
+-- the share was answered by a run of its caller's entries among these
 pub record IsDone (p : Plan) (es : List Entry) (w : Share) : Type 0 where
-  pub does : DoesQuery w.caller p w.region (Ok w.found) (made_by w.caller es)
+  pub run : IsRunOf w.caller es w.own
+  pub does : DoesQuery w.caller p w.region (Ok w.found) w.own
 
 abbrev pub AreDone : Plan → List Entry → List Share → Type 0
 AreDone p es ws = AllByRecursion (IsDone p es) ws

@@ -113,7 +113,8 @@ fn add_column_to<M: Memory, A: Adder>(
     requires can { CanRead (M.view m.old) s.now }
     requires column { IsColumn q.now path.now }
     requires few { AreFew 0 q.now (A.found adder.old ∷ []) }
-    ensures { AddsSegment (M.view m.old) (M.view m.new) s.now q.now (A.found adder.old ∷ []) (A.found adder.new ∷ []) result }
+    ensures { AddsSegment (M.view m.old) (M.view m.new) s.now q.now
+        (A.found adder.old ∷ []) (A.found adder.new ∷ []) result }
 {
     match path.value().kind {
         ValueKind::Byte => add_column_as(m, s, q, path, ValueKind::Byte, adder),
@@ -139,7 +140,8 @@ fn add_column_as<M: Memory, A: Adder>(
     requires column { IsColumn q.now path.now }
     requires kind { kind ≡ path.now.value.kind }
     requires few { AreFew 0 q.now (A.found adder.old ∷ []) }
-    ensures { AddsSegment (M.view m.old) (M.view m.new) s.now q.now (A.found adder.old ∷ []) (A.found adder.new ∷ []) result }
+    ensures { AddsSegment (M.view m.old) (M.view m.new) s.now q.now
+        (A.found adder.old ∷ []) (A.found adder.new ∷ []) result }
 {
     let size = q.record_size();
     let count = s.size() / size;

@@ -167,8 +167,8 @@ pub(crate) fn add_value<M: Memory, K: Keep>(
     found: &mut Found,
 ) -> Result<(), Refusal>
     requires { CanAddAll (M.view m.old) s.now place at [] value.now found.old }
-    ensures { AddsAll K.keeps (M.view m.old) (M.view m.new) s.now place at [] value.now (K.kept kept.old) (K.kept kept.new)
-        found.old found.new result }
+    ensures { AddsAll K.keeps (M.view m.old) (M.view m.new) s.now place at [] value.now
+        (K.kept kept.old) (K.kept kept.new) found.old found.new result }
 {
     match number_at(m, s, place + at, value, kept) {
         Some(number) => found.add_number(number),
@@ -190,8 +190,8 @@ pub(crate) fn add_value_as<M: Memory, K: Keep, A: Adder>(
 ) -> Result<(), Refusal>
     requires can { CanAddAll (M.view m.old) s.now place at [] value.now (A.found adder.old) }
     requires kind { kind ≡ value.now.kind }
-    ensures { AddsAll K.keeps (M.view m.old) (M.view m.new) s.now place at [] value.now (K.kept kept.old) (K.kept kept.new)
-        (A.found adder.old) (A.found adder.new) result }
+    ensures { AddsAll K.keeps (M.view m.old) (M.view m.new) s.now place at [] value.now
+        (K.kept kept.old) (K.kept kept.new) (A.found adder.old) (A.found adder.new) result }
 {
     match number_as(m, s, place + at, kind, value, kept) {
         Some(number) => adder.add(number),
@@ -336,8 +336,8 @@ pub(crate) fn add_one_row<M: Memory>(
     found: &mut Found,
 ) -> Result<(), Refusal>
     requires { CanAddAll (M.view m.old) s.now place at (dim ∷ []) value.now found.old }
-    ensures { (last : List Seen) × AddsAll kept_last (M.view m.old) (M.view m.new) s.now place at (dim ∷ []) value.now
-        [] last found.old found.new result }
+    ensures { (last : List Seen) × AddsAll kept_last (M.view m.old) (M.view m.new) s.now
+        place at (dim ∷ []) value.now [] last found.old found.new result }
 {
     match found {
         Found::Count(_) => add_row_alone(m, s, place, at, dim, value, found),
@@ -377,8 +377,8 @@ fn add_row_alone<M: Memory, A: Adder>(
     adder: &mut A,
 ) -> Result<(), Refusal>
     requires { CanAddAll (M.view m.old) s.now place at (dim ∷ []) value.now (A.found adder.old) }
-    ensures { (last : List Seen) × AddsAll kept_last (M.view m.old) (M.view m.new) s.now place at (dim ∷ []) value.now
-        [] last (A.found adder.old) (A.found adder.new) result }
+    ensures { (last : List Seen) × AddsAll kept_last (M.view m.old) (M.view m.new) s.now
+        place at (dim ∷ []) value.now [] last (A.found adder.old) (A.found adder.new) result }
 {
     let mut last = Last::None;
     add_row(m, s, place, at, dim, value, &mut last, adder)

@@ -1,7 +1,7 @@
 -- What a crew adds to a word.
 use Rattle.std.proofs.Common.{◌≡◌, ◌≢◌, ℕ, ◌+◌, ◌/◌, ◌<◌, ◌≤◌, ◌==◌, ◌&&◌, Bool, true, false, if◌then◌else◌, List, [], ◌∷◌, ◌++◌, slice_index, refl, sym, ap, ◌∙◌, subst, inl, inr, ⊎_elim, arith, Ok}
 use Rattle.std.specs.Prelude.{◌⊎◌}
-use Rattle.std.specs.List.{AllByRecursion, flat_map}
+use Rattle.std.specs.List.{AllByRecursion, AllZip, flat_map}
 use Rattle.std.proofs.lemmas.Bool.Decides.{nat_tests}
 use Rattle.fm_base_lists.specs.Among.{AreApart, IsAmong}
 use Rattle.fm_base_lists.proofs.Each.{all_both, all_weaker}
@@ -14,11 +14,17 @@ use Rattle.fm_base.specs.Histories.{made_by}
 use Rattle.fm_base.proofs.Counting.{added_by}
 use Rattle.fm_base.proofs.Names.{same_id-self}
 use Rattle.fm_segment.specs.Region.{Region}
+use Rattle.fm_records_query.specs.Plan.{Plan}
+use Rattle.fm_workers_shares.specs.declared.taker.Done.{Done}
+use Rattle.fm_workers_shares.specs.Answered.{all_of}
 use Rattle.fm_records.specs.Reads.{AreReads, read_visit}
 use Rattle.fm_workers.specs.Adding.{AddsAt, AddsBelow, adds, count_word, none_yet, nothing, one_more}
-use Rattle.fm_workers.specs.Tally.{LeavesWord}
-use Rattle.fm_workers.specs.Tallies.{CountsShare, DoesTallyShare, SumsTo, Tallied, Tallies, Tallying}
-use Rattle.fm_workers_crew.proofs.Callers.{AreDoneBy}
+use Rattle.fm_workers.specs.Counts.{how_many, number_of}
+use Rattle.fm_workers.specs.Tally.{IsCounted, LeavesWord}
+use Rattle.fm_workers.specs.Tallies.{TalliesShares, Tallying, all_numbers}
+use Rattle.fm_workers.proofs.Numbers.{how_many-append}
+use Rattle.fm_workers.proofs.Reading.{each_read}
+use Rattle.fm_workers.proofs.Talliers.{all_numbers-append}
 
 pub added-append : (id : ArenaId) (word : ℕ) (es fs : List Entry) → all_added id word (es ++ fs) ≡ all_added id word es + all_added id word fs
 added-append id word [] fs = omega arith
@@ -92,44 +98,47 @@ below_only c counts ns k id word own none_yet = tt
 below_only c counts ns k id word own (one_more {k = i} before more h a) =
     all_both (λ e. OnlyAdds id word e.call) before more (below_only c counts ns i id word before h) (at_only c counts i (slice_index ns i) id word more a)
 
-module _ (w : Tallying) (c : Caller) (region : Region) (ns : List ℕ) (own : List Entry) (h : CountsShare c w.plan region w.counts ns (Ok tt) own) where
-  reads : AreReads c region h.reads
-  reads = h.counted.did.reads
+module _ (p : Plan) (s counts : Region) (each : ℕ) (c : Caller) (ds : List Done) (ns : List ℕ) (own : List Entry)
+    (h : TalliesShares c p s counts each ds ns (Ok tt) own) where
+  reads : AreReads c s h.reads
+  reads = each_read p s each c ds h.reads h.counted.does
 
-  share_only : (id : ArenaId) (word : ℕ) → AllByRecursion (λ e. OnlyAdds id word e.call) own
-  share_only id word = subst (λ (es : List Entry). AllByRecursion (λ e. OnlyAdds id word e.call) es) (sym h.parts)
+  shares_only : (id : ArenaId) (word : ℕ) → AllByRecursion (λ e. OnlyAdds id word e.call) own
+  shares_only id word = subst (λ (es : List Entry). AllByRecursion (λ e. OnlyAdds id word e.call) es) (sym h.parts)
       (all_both (λ e. OnlyAdds id word e.call) h.reads h.adds
-      (subst (λ (es : List Entry). AllByRecursion (λ e. OnlyAdds id word e.call) es) (sym reads.visits) (visits_only c region.arena id word reads.reads))
-      (below_only c w.counts ns 256 id word h.adds h.added))
+      (subst (λ (es : List Entry). AllByRecursion (λ e. OnlyAdds id word e.call) es) (sym reads.visits) (visits_only c s.arena id word reads.reads))
+      (below_only c counts ns 256 id word h.adds h.added))
 
-  share_added : (k : ℕ) → k < 256 → all_added w.counts.arena (count_word w.counts k) own ≡ slice_index ns k
-  share_added k below =
-      let none = ap (all_added w.counts.arena (count_word w.counts k)) reads.visits
-      ∙ reads_added c region.arena w.counts.arena (count_word w.counts k) reads.reads in
-      let all = all_below c w.counts ns 256 k h.adds h.added below in
-      let both = added-append w.counts.arena (count_word w.counts k) h.reads h.adds in
-      ap (all_added w.counts.arena (count_word w.counts k)) h.parts ∙ omega (arith, none, all, both)
+  shares_added : (k : ℕ) → k < 256 → all_added counts.arena (count_word counts k) own ≡ slice_index ns k
+  shares_added k below =
+      let none = ap (all_added counts.arena (count_word counts k)) reads.visits
+      ∙ reads_added c s.arena counts.arena (count_word counts k) reads.reads in
+      let all = all_below c counts ns 256 k h.adds h.added below in
+      let both = added-append counts.arena (count_word counts k) h.reads h.adds in
+      ap (all_added counts.arena (count_word counts k)) h.parts ∙ omega (arith, none, all, both)
 
--- Each of the crew only adds, and what all of them added is the total.
-pub record CrewAdds (w : Tallying) (more : List Entry) (cs : List Caller) (ns : List ℕ) : Type 0 where
+-- Each of the crew only adds, and what all of them added is how often numbers came in all shares.
+pub record CrewAdds (w : Tallying) (more : List Entry) (cs : List Caller) (taken : List (List Done)) : Type 0 where
   pub only : (id : ArenaId) (word : ℕ) → AllByRecursion (λ c. AllByRecursion (λ e. OnlyAdds id word e.call) (made_by c more)) cs
-  pub sum : (k : ℕ) → k < 256 → total (λ c. all_added w.counts.arena (count_word w.counts k) (made_by c more)) cs ≡ slice_index ns k
+  pub sum : (k : ℕ) → k < 256
+      → total (λ c. all_added w.counts.arena (count_word w.counts k) (made_by c more)) cs ≡ how_many (number_of k) (all_numbers (all_of taken))
 
-pub crew_adds : (w : Tallying) (more : List Entry) (cs : List Caller) (ts us : List Tallied) (ns : List ℕ) → AreDoneBy (Tallies w) more cs ts us
-    → SumsTo us (Ok ns) → CrewAdds w more cs ns
-crew_adds w more [] [] [] ns d h = record { only = λ id word. tt; sum = λ k below. sym (h.each k below) }
-crew_adds w more (c ∷ cs) (t ∷ ts) (u ∷ us) ns d h =
-    let rest = crew_adds w more cs ts us h.share.rest d.1 (subst (SumsTo us) h.share.is_rest h.comes) in
-    let mine = subst (λ r. DoesTallyShare c w.plan t.region w.counts r (made_by c more)) h.share.is_first d.0.did in
+pub crew_adds : (w : Tallying) (more : List Entry) (cs : List Caller) (taken : List (List Done))
+    → AllZip (IsCounted w.plan w.segment w.counts w.each more) cs taken → CrewAdds w more cs taken
+crew_adds w more [] [] h = record { only = λ id word. tt; sum = λ k below. refl }
+crew_adds w more (c ∷ cs) (ds ∷ taken) h =
+    let rest = crew_adds w more cs taken h.1 in
     record {
-      only = λ id word. (share_only w c t.region h.share.first (made_by c more) mine id word, rest.only id word);
+      only = λ id word. (shares_only w.plan w.segment w.counts w.each c ds h.0.0 (made_by c more) h.0.1 id word, rest.only id word);
       sum = λ k below.
-          let a = share_added w c t.region h.share.first (made_by c more) mine k below in
+          let a = shares_added w.plan w.segment w.counts w.each c ds h.0.0 (made_by c more) h.0.1 k below in
           let b = rest.sum k below in
-          let s = h.share.sums.each k below in
-          omega (arith, a, b, s);
+          let n = h.0.1.counted.are.each k below in
+          let all = ap (how_many (number_of k)) (all_numbers-append ds (all_of taken)) in
+          let both = how_many-append (number_of k) (all_numbers ds) (all_numbers (all_of taken)) in
+          omega (arith, a, b, n, all, both);
     }
-crew_adds w more cs ts us ns d h = absurd d
+crew_adds w more cs taken h = absurd h
 
 -- ---- by callers, where others leave the word
 

@@ -41,8 +41,10 @@ use Rattle.fm_records.proofs.Plans.{IsItemFew, plan_items_few}
 use Rattle.fm_records.proofs.Visiting.{AreReads-append, AreReads-none, StopsReading-after}
 use Rattle.fm_workers.specs.Counts.{AreCounts, AreTallied, CountsToo, HasRoomFor, IsTally, ListsBytes, listed}
 use Rattle.fm_workers.specs.Tallies.{CanCount, DoesCount}
-use Rattle.fm_workers.proofs.Asked.{IsWithin, aligned_at, piece, reads_wider, stops_wider}
-use Rattle.fm_workers.proofs.Runs.{run_ends, run_fits}
+use Rattle.fm_workers_shares.specs.Shares.{piece}
+use Rattle.fm_workers_shares.proofs.Serving.{aligned_at}
+use Rattle.fm_workers.proofs.Asked.{IsWithin, reads_wider, stops_wider}
+use Rattle.fm_workers_shares.proofs.Numbers.{run_ends, run_fits}
 
 -- ---- one record
 

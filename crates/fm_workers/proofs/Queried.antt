@@ -2,30 +2,45 @@
 use Rattle.fm_workers.specs.Asking.{known_later}
 use Rattle.fm_records.proofs.Few.{few_answer}
 use Rattle.fm_segment.specs.Access.{IsKnown}
+use Rattle.fm_rule_calls.specs.Kept.{Lasts}
 use Rattle.fm_rule_calls.specs.Told.{view_of_pass}
-use Rattle.std.proofs.Common.{◌≡◌, ℕ, ◌/◌, ◌%◌, List, [], length, refl, sym, ap, ◌∙◌, subst, arith, inl, inr, ⊎_elim, Result, Ok, Err, IfOk}
+use Rattle.std.proofs.Common.{◌≡◌, ℕ, ◌/◌, ◌%◌, ◌<◌, ◌≤◌, List, [], length, refl, sym, ap, ◌∙◌, subst, arith, inl, inr, Result, Ok, Err}
 use Rattle.std.specs.Prelude.{⊤}
 use Rattle.std.specs.List.{AllByRecursion}
 use Rattle.std.proofs.lemmas.List.{length-map}
-use Rattle.std.proofs.lemmas.Nat.{div-add-mod'}
 use Rattle.fm_base.specs.declared.arena_id.ArenaId.{ArenaId}
 use Rattle.fm_base.specs.declared.kind.Kind.TheVariants.{Confined}
 use Rattle.fm_base.specs.declared.refusal.Refusal.{Refusal}
 use Rattle.fm_base.specs.declared.refusal.Refusal.TheVariants.{Ragged, WrongThread, Closed, NoPass, Memory}
 use Rattle.fm_base.specs.Finds.{Gathered}
 use Rattle.fm_base.specs.Histories.{made_by}
+use Rattle.fm_rule.specs.declared.pool.Pool.{Pool}
 use Rattle.fm_rule_facts.specs.Views.{View, IsSound}
 use Rattle.fm_segment.specs.Region.{Region}
-use Rattle.fm_records_query.specs.Plan.{Plan, IsPlan}
+use Rattle.fm_records_query.specs.Plan.{Plan}
 use Rattle.fm_records.specs.declared.found.Found.{Found}
 use Rattle.fm_records.specs.Few.{AreFew}
-use Rattle.fm_workers_crew.specs.Crew.{AreTooMany, CrewWorked, by_caller, callers}
-use Rattle.fm_workers.specs.Shares.{Asked, AreLevel, AreShares, Answers, ComesTo, IsCut, bytes_in, least_in}
-use Rattle.fm_workers.specs.Query.{OnlyReads, AnsweredBy, FoundClosed, HasAnswered, IsOpenToAll, EndsQuery, QueriedWith, WantedMemory}
+use Rattle.fm_workers_crew.specs.Crew.{AreTooMany, CrewGathered, CrewWorked, IsWhole, by_caller, callers}
+use Rattle.fm_workers_shares.specs.declared.batch.Batch.{Batch}
+use Rattle.fm_workers_shares.specs.declared.taker.Taker.{Taker}
+use Rattle.fm_workers_shares.specs.Answered.{AnsweredBy}
+use Rattle.fm_workers_shares.specs.Batches.{begun, nones}
+use Rattle.fm_workers_shares.specs.Finishing.{CanFinish, Finishes, answers_of}
+use Rattle.fm_workers_shares.specs.Placing.{all_done}
+use Rattle.fm_workers_shares.specs.Shares.{each_of, many_of}
+use Rattle.fm_workers_shares.proofs.Places.{all_placed, length-nones, length-placed}
+use Rattle.fm_workers_jobs.specs.Turns.{HasAccount, times}
+use Rattle.fm_workers_shares.specs.Taking.{jobs_of}
+use Rattle.fm_workers_shares.proofs.Settling.{all_among}
+use Rattle.fm_workers_shares.proofs.Sharing.{IsAnsweredAt, answered_by}
+use Rattle.fm_records.proofs.Sharing.{shares_join}
+use Rattle.fm_workers.specs.Query.{OnlyReads, HasAnswered, IsOpenToAll, EndsQuery, QueriedWith}
+use Rattle.fm_workers.specs.Taking.{Asking, CanTakeBatch, Takes}
 use Rattle.fm_workers_crew.proofs.Callers.{AreDoneBy, worked_by_callers}
-use Rattle.fm_workers.proofs.Asked.{HaveStopped, bytes_of_runs, count_done, crew_reads, crew_stopped, idle_reads}
+use Rattle.fm_workers.proofs.Asked.{idle_reads}
+use Rattle.fm_workers.proofs.Taking.{HaveStopped, all_of_dones, crew_answered, dones, each_took, none_refused, some_refused, takers_count, takers_read, takers_took}
+use Rattle.fm_workers.proofs.Touching.{tasks_count}
 use Rattle.fm_workers_crew.proofs.Working.{nobody, lasts_none}
-use Rattle.fm_workers.proofs.Sharing.{answered_shares, whole_piece}
 use Rattle.fm_workers.proofs.Sparing.{is_answer}
 
 pub many : (gs : List Gathered) → length (callers gs) ≡ length gs
@@ -44,127 +59,129 @@ early_not WrongThread early e = absurd (cc)
 early_not Memory early e = absurd (cc)
 early_not r early e = absurd early
 
--- Nothing was drawn.
-pub queried_none : (v : View) (p : Plan) (s : Region) (threads : ℕ) (r : Refusal) → IsEarly r → IsKnown (view_of_pass v) s
-    → EndsQuery (least_in p s threads) v v p s [] [] [] (Err r) → QueriedWith threads v v p s (Err r)
-unfolding nobody
-queried_none v p s threads r early known ends = record {
-  crew = nobody v;
-  one_each = omega arith;
-  one_less = λ e. let is : r ≡ NoPass = cc in absurd (early_not r early is);
-  visits = tt;
+-- What is known behind a refusal: nothing of an answer.
+refused : {old new : View} {p : Plan} {s : Region} {threads : ℕ} (r : Refusal) (crew : CrewGathered old new) → length crew.crew ≤ threads
+    → (r ≡ NoPass → (length crew.crew < threads) × (IsWhole old → AreTooMany old threads))
+    → AllByRecursion (λ c. OnlyReads s c (made_by c crew.more)) (callers crew.crew)
+    → EndsQuery (each_of (s.size / p.size) threads) old new p s crew.more crew.crew crew.draws (Err r) → Lasts old new → IsKnown (view_of_pass old) s
+    → (IsSound old → IsSound new) → QueriedWith threads old new p s (Err r)
+refused r crew most wanting visits ends lasts known still_sound = record {
+  crew = crew;
+  one_each = most;
+  one_less = λ e. let is : r ≡ NoPass = cc in (wanting is).0;
+  visits = visits;
   ends = ends;
   value = tt;
   answer = tt;
   few = tt;
-  wanting = λ w e. let is : r ≡ NoPass = cc in absurd (early_not r early is);
-  lasts = lasts_none v;
-  known = known;
+  wanting = λ w e. let is : r ≡ NoPass = cc in (wanting is).1 w;
+  lasts = lasts;
+  known = known_later lasts known;
   sound = tt;
-  still_sound = λ h. h;
+  still_sound = still_sound;
 }
 
--- No task was begun.
-pub queried_refused : {old new : View} {p : Plan} {s : Region} {threads : ℕ} {ts us : List Asked} (r : Refusal)
-    → CrewWorked (by_caller (Answers p)) old new ts us (Err r) → length ts ≡ threads → IsOpenToAll p s → IsKnown (view_of_pass old) s
-    → QueriedWith threads old new p s (Err r)
-queried_refused {old = old} {s = s} NoPass w count shared known = record {
-  crew = w.crew;
-  one_each = (let l = w.ends.1 in omega (arith, count, l));
-  one_less = λ e. let l = w.ends.1 in omega (arith, count, l);
-  visits = idle_reads s w.crew.more (callers w.crew.crew) w.ends.2;
-  ends = (shared, w.ends.0);
-  value = tt;
-  answer = tt;
-  few = tt;
-  wanting = λ k e. subst (AreTooMany old) count (w.wanting k refl);
-  lasts = w.lasts;
-  known = known_later w.lasts known;
-  sound = tt;
-  still_sound = w.still_sound;
-}
-queried_refused {p = p} {s = s} Memory w count shared known = record {
-  crew = w.crew;
-  one_each = (let e : length w.crew.crew ≡ 0 = ap (λ (gs : List Gathered). length gs) w.ends.1 in omega (arith, e));
-  one_less = λ e. absurd (cc);
-  visits = subst (λ (gs : List Gathered). AllByRecursion (λ c. OnlyReads s c (made_by c w.crew.more)) (callers gs)) (sym w.ends.1) tt;
-  ends = (shared, inr (subst (λ (gs : List Gathered). AllByRecursion (HasAnswered p s w.crew.more) (callers gs)) (sym w.ends.1) tt));
-  value = tt;
-  answer = tt;
-  few = tt;
-  wanting = λ k e. absurd (cc);
-  lasts = w.lasts;
-  known = known_later w.lasts known;
-  sound = tt;
-  still_sound = w.still_sound;
-}
-queried_refused r w count shared known = absurd w.ends
+-- Nothing was drawn.
+pub queried_none : (v : View) (p : Plan) (s : Region) (threads : ℕ) (r : Refusal) → IsEarly r → IsKnown (view_of_pass v) s
+    → EndsQuery (each_of (s.size / p.size) threads) v v p s [] [] [] (Err r) → QueriedWith threads v v p s (Err r)
+unfolding nobody
+queried_none v p s threads r early known ends =
+    refused r (nobody v) (omega arith) (λ is. absurd (early_not r early is)) tt ends (lasts_none v) known (λ h. h)
 
-module _ {old new : View} {p : Plan} {s : Region} {threads : ℕ} {ts us : List Asked} {u : Unit {0}}
-    (w : CrewWorked (by_caller (Answers p)) old new ts us (Ok u)) (plan : IsPlan p) (cut : IsCut p s ts)
-    (level : AreLevel p (least_in p s threads) ts) (count : length ts ≡ threads) (shared : IsOpenToAll p s) (known : IsKnown (view_of_pass old) s) where
-  done : AreDoneBy (Answers p) w.crew.more (callers w.crew.crew) ts us
-  done = worked_by_callers (Answers p) w
+-- No share was taken.
+pub queried_refused : {pool : Pool} {old new : View} {k : Asking} {threads : ℕ} {b : Batch} {us : List Taker} (r : Refusal)
+    → CrewWorked (by_caller (Takes k)) old new b.takers.items us (Err r) → CanTakeBatch pool old k.plan k.segment threads k.each b
+    → QueriedWith threads old new k.plan k.segment (Err r)
+queried_refused {old = old} {k = k} NoPass w can =
+    let less = w.ends.1 in
+    let count = can.begun.count in
+    refused NoPass w.crew (omega (arith, count, less)) (λ is. (omega (arith, count, less), λ x. subst (AreTooMany old) count (w.wanting x refl)))
+    (idle_reads k.segment w.crew.more (callers w.crew.crew) w.ends.2) (can.open_to_all, w.ends.0) w.lasts can.query.known w.still_sound
+queried_refused {k = k} Memory w can =
+    let none : length w.crew.crew ≡ 0 = ap (λ (gs : List Gathered). length gs) w.ends.1 in
+    refused Memory w.crew (omega (arith, none)) (λ is. absurd (cc))
+    (subst (λ (gs : List Gathered). AllByRecursion (λ c. OnlyReads k.segment c (made_by c w.crew.more)) (callers gs)) (sym w.ends.1) tt)
+    (can.open_to_all, inr (subst (λ (gs : List Gathered). AllByRecursion (HasAnswered k.plan k.segment _ w.crew.more) (callers gs)) (sym w.ends.1) tt))
+    w.lasts can.query.known w.still_sound
+queried_refused r w can = absurd w.ends
+
+module _ {pool : Pool} {old new : View} {k : Asking} {threads : ℕ} {b : Batch} {us : List Taker} {u : Unit {0}}
+    (w : CrewWorked (by_caller (Takes k)) old new b.takers.items us (Ok u)) (can : CanTakeBatch pool old k.plan k.segment threads k.each b) where
+  done : AreDoneBy (Takes k) w.crew.more (callers w.crew.crew) b.takers.items us
+  done = worked_by_callers (Takes k) w
 
   as_many : length w.crew.crew ≡ threads
-  as_many = sym (many w.crew.crew) ∙ (count_done p w.crew.more (callers w.crew.crew) ts us done ∙ count)
+  as_many = sym (many w.crew.crew) ∙ (tasks_count (Takes k) w.crew.more (callers w.crew.crew) b.takers.items us done ∙ can.begun.count)
 
-  visits : AllByRecursion (λ c. OnlyReads s c (made_by c w.crew.more)) (callers w.crew.crew)
-  visits = crew_reads p s 0 (s.size / p.size) w.crew.more (callers w.crew.crew) ts us (omega arith) done cut
+  visits : AllByRecursion (λ c. OnlyReads k.segment c (made_by c w.crew.more)) (callers w.crew.crew)
+  visits = takers_read k w.crew.more (callers w.crew.crew) b.takers.items us done
 
-  never_wanting : (e : Refusal) → HaveStopped p s (callers w.crew.crew) w.crew.more e → ¬ (e ≡ NoPass)
+  -- The takers' ends can be gathered.
+  pub can_finish : b.jobs ≡ k.jobs → CanFinish k.plan k.segment k.each k.jobs b.giver us b.slots.items
+  can_finish same =
+      let so_many : length us ≡ threads = takers_count k w.crew.more (callers w.crew.crew) b.takers.items us done ∙ can.begun.count in
+      record {
+        plan = can.plan;
+        even = can.open_to_all.even;
+        some = can.some;
+        small = can.small;
+        giver = subst (λ j. HasAccount j b.giver (begun (many_of (k.segment.size / k.plan.size) k.each) (length us))) same
+            (subst (λ n. HasAccount b.jobs b.giver (begun (many_of (k.segment.size / k.plan.size) k.each) n)) (sym so_many) can.begun.giver);
+        any = (let n = so_many in let some = can.query.some in omega (arith, n, some));
+        taken = takers_took k w.crew.more (callers w.crew.crew) b.takers.items us done;
+        empty = can.begun.slots;
+      }
+
+  never_wanting : (e : Refusal) → HaveStopped k.plan k.segment k.each (callers w.crew.crew) w.crew.more e → ¬ (e ≡ NoPass)
   never_wanting e (inl m) q = let other : Memory ≡ NoPass = sym m.0 ∙ q in absurd (cc)
   never_wanting e (inr f) q = let other : Closed ≡ NoPass = sym f.0 ∙ q in absurd (cc)
 
   -- An answer is wanting for want of memory, or since the arena was found closed.
-  stopped : (e : Refusal) → ComesTo p us (Err e) → HaveStopped p s (callers w.crew.crew) w.crew.more e
-  stopped e comes =
-      crew_stopped p s 0 (s.size / p.size) w.crew.more (callers w.crew.crew) ts us e (omega arith) (λ c is. absurd (shared.shared is)) done cut comes
+  stopped : (e : Refusal) → Finishes k.plan k.segment k.each us (Err e) → HaveStopped k.plan k.segment k.each (callers w.crew.crew) w.crew.more e
+  stopped e (inl refused) = some_refused k w.crew.more (callers w.crew.crew) b.takers.items us e (λ c is. absurd (can.open_to_all.shared is)) done refused
+  stopped e (inr wanting) = inl (wanting.1, inr (none_refused k w.crew.more (callers w.crew.crew) b.takers.items us done wanting.0))
 
-  -- All were asked.
-  pub queried : (r : Result (List Found) Refusal) → ComesTo p us r → IfOk r (AreFew (bytes_in us) p) → AreShares p s 0 us (s.size / p.size)
-      → QueriedWith threads old new p s r
-  queried (Err e) comes few runs = record {
-    crew = w.crew;
-    one_each = (let k = as_many in omega (arith, k));
-    one_less = λ q. let is : e ≡ NoPass = cc in absurd (never_wanting e (stopped e comes) is);
-    visits = visits;
-    ends = ⊎_elim
-        (λ (m : (e ≡ Memory) × WantedMemory p s (callers w.crew.crew) w.crew.more).
-        subst (λ (x : Refusal). EndsQuery (least_in p s threads) old new p s w.crew.more w.crew.crew w.crew.draws (Err x)) (sym m.0) (shared, m.1))
-        (λ (f : (e ≡ Closed) × FoundClosed p s (callers w.crew.crew) w.crew.more).
-        subst (λ (x : Refusal). EndsQuery (least_in p s threads) old new p s w.crew.more w.crew.crew w.crew.draws (Err x)) (sym f.0) (shared, f.1))
-        (stopped e comes);
-    value = tt;
-    answer = tt;
-    few = tt;
-    wanting = λ k q. let is : e ≡ NoPass = cc in absurd (never_wanting e (stopped e comes) is);
-    lasts = w.lasts;
-    known = known_later w.lasts known;
-    sound = tt;
-    still_sound = w.still_sound;
-  }
-  queried (Ok a) comes few runs =
-      let by = subst (λ (r : Region). AnsweredBy p r (least_in p s threads) (callers w.crew.crew) w.crew.more a) (whole_piece p s shared.even)
-      (answered_shares p s (least_in p s threads) 0 (s.size / p.size) w.crew.more (callers w.crew.crew) ts us a done cut level comes) in
+  ends_so : (e : Refusal) → HaveStopped k.plan k.segment k.each (callers w.crew.crew) w.crew.more e
+      → EndsQuery k.each old new k.plan k.segment w.crew.more w.crew.crew w.crew.draws (Err e)
+  ends_so e (inl m) = subst (λ (x : Refusal). EndsQuery k.each old new k.plan k.segment w.crew.more w.crew.crew w.crew.draws (Err x)) (sym m.0) (can.open_to_all, m.1)
+  ends_so e (inr f) = subst (λ (x : Refusal). EndsQuery k.each old new k.plan k.segment w.crew.more w.crew.crew w.crew.draws (Err x)) (sym f.0) (can.open_to_all, f.1)
+
+  by_shares : (a : List Found) → Finishes k.plan k.segment k.each us (Ok a)
+      → AnsweredBy k.plan k.segment k.each (callers w.crew.crew) w.crew.more a
+  by_shares a f =
+      let there = all_placed (IsAnsweredAt k.plan k.segment k.each (callers w.crew.crew) w.crew.more) (many_of (k.segment.size / k.plan.size) k.each)
+      (all_done us) (crew_answered k w.crew.more (callers w.crew.crew) b.takers.items us done) (all_among (many_of (k.segment.size / k.plan.size) k.each) us f.1) in
+      let long = length-placed (nones (many_of (k.segment.size / k.plan.size) k.each)) (all_done us) ∙ length-nones (many_of (k.segment.size / k.plan.size) k.each) in
+      subst (AnsweredBy k.plan k.segment k.each (callers w.crew.crew) w.crew.more) (sym f.2)
+      (answered_by k.plan k.segment k.each (callers w.crew.crew) w.crew.more (answers_of k.plan k.segment k.each us) (dones us) can.some can.open_to_all.even long there
+      (each_took k w.crew.more (callers w.crew.crew) b.takers.items us done f.0) (λ number. ap (λ ds. times number (jobs_of ds)) (all_of_dones us) ∙ f.1 number))
+
+  -- All shares were taken, or a taker was refused.
+  pub queried : (r : Result (List Found) Refusal) → Finishes k.plan k.segment k.each us r → QueriedWith threads old new k.plan k.segment r
+  queried (Err e) f =
+      let n = as_many in
+      refused e w.crew (omega (arith, n)) (λ is. absurd (never_wanting e (stopped e f) is)) visits
+      (subst (λ n. EndsQuery n old new k.plan k.segment w.crew.more w.crew.crew w.crew.draws (Err e)) can.cut (ends_so e (stopped e f)))
+      w.lasts can.query.known w.still_sound
+  queried (Ok a) f =
+      let by = by_shares a f in
       let sound : IsSound new = w.sound (λ e. absurd (cc)) in
-      let bytes = bytes_of_runs p s 0 (s.size / p.size) us runs in
-      let parts = div-add-mod' s.size p.size in
-      let even = shared.even in
-      let all : bytes_in us ≡ s.size = omega (arith, bytes, parts, even) in
-      let k = as_many in
+      let n = as_many in
+      let small = can.small in
+      let few = subst (AreFew k.segment.size k.plan) (sym by.joined)
+      (shares_join k.plan k.segment w.crew.more by.shares can.plan by.cut by.done (omega (arith, small))).few in
       record {
         crew = w.crew;
-        one_each = omega (arith, k);
+        one_each = omega (arith, n);
         one_less = λ e. absurd (cc);
         visits = visits;
-        ends = (shared, by);
-        value = is_answer w.crew plan sound by visits;
-        answer = few_answer (bytes_in us) p.items a few;
-        few = subst (λ (n : ℕ). AreFew n p a) all few;
+        ends = subst (λ m. EndsQuery m old new k.plan k.segment w.crew.more w.crew.crew w.crew.draws (Ok a)) can.cut (can.open_to_all, by);
+        value = is_answer w.crew can.plan sound by visits;
+        answer = few_answer k.segment.size k.plan.items a few;
+        few = few;
         wanting = λ v e. absurd (cc);
         lasts = w.lasts;
-        known = known_later w.lasts known;
+        known = known_later w.lasts can.query.known;
         sound = sound;
         still_sound = w.still_sound;
       }

@@ -1,5 +1,5 @@
 -- What is answered where nobody else writes.
-use Rattle.std.proofs.Common.{◌≡◌, ℕ, Bool, true, false, List, [], ◌∷◌, refl, sym, ap, ◌∙◌, subst, inl, inr, ⊎_elim}
+use Rattle.std.proofs.Common.{◌≡◌, ℕ, Bool, true, false, List, [], ◌∷◌, sym, ap, ◌∙◌, subst, inl, inr, ⊎_elim}
 use Rattle.std.specs.Prelude.{◌⊎◌, cond}
 use Rattle.std.specs.List.{AllByRecursion, flat_map}
 use Rattle.fm_base_lists.specs.Among.{IsAmong}
@@ -19,8 +19,9 @@ use Rattle.fm_records.specs.declared.found.Found.{Found}
 use Rattle.fm_records.specs.Reads.{read_visit}
 use Rattle.fm_records.specs.Shares.{Share, AreSpared, IsSpared}
 use Rattle.fm_records.proofs.Sharing.{shares_answer, shares_read}
+use Rattle.fm_workers_shares.specs.Answered.{AnsweredBy}
 use Rattle.fm_workers_crew.specs.Crew.{CrewGathered, callers}
-use Rattle.fm_workers.specs.Query.{OnlyReads, reads, stops, AnsweredBy, NobodyElseWrites, IsAnswer}
+use Rattle.fm_workers.specs.Query.{OnlyReads, reads, stops, NobodyElseWrites, IsAnswer}
 use Rattle.fm_workers_crew.proofs.Working.{nobody}
 use Rattle.fm_base_machine.proofs.Putting.{are_one-equal}
 
@@ -82,8 +83,8 @@ share_caller cs [] w i h = absurd i
 share_caller cs (x ∷ ws) w (inl is) h = subst (λ (y : Share). IsAmong y.caller cs) (sym is) h.0
 share_caller cs (x ∷ ws) w (inr i) h = share_caller cs ws w i h.1
 
-pub is_answer : {old new : View} {p : Plan} {s : Region} {few : ℕ} {a : List Found} (c : CrewGathered old new) → IsPlan p → IsSound new
-    → AnsweredBy p s few (callers c.crew) c.more a → AllByRecursion (λ x. OnlyReads s x (made_by x c.more)) (callers c.crew)
+pub is_answer : {old new : View} {p : Plan} {s : Region} {each : ℕ} {a : List Found} (c : CrewGathered old new) → IsPlan p → IsSound new
+    → AnsweredBy p s each (callers c.crew) c.more a → AllByRecursion (λ x. OnlyReads s x (made_by x c.more)) (callers c.crew)
     → NobodyElseWrites s (callers c.crew) c.more → IsAnswer old p s (callers c.crew) c.more a
 is_answer {old = old} {new = new} {p = p} {s = s} c plan sound by visits nobody =
     let n : ℕ = limit_of old.shape in

@@ -1,9 +1,9 @@
 -- What a tally by a crew comes to.
-use Rattle.std.proofs.Common.{◌≡◌, ◌≢◌, ℕ, ◌/◌, ◌%◌, ◌^◌, ◌<◌, ◌≤◌, List, [], ◌∷◌, length, slice_index, refl, sym, ap, ◌∙◌, subst, arith, inl, inr, ⊎_elim, Result, Ok, Err}
-use Rattle.std.specs.Prelude.{◌⊎◌, ⊤}
-use Rattle.std.specs.List.{AllByRecursion}
+use Rattle.std.proofs.Common.{◌≡◌, ◌≢◌, ℕ, ◌/◌, ◌%◌, ◌^◌, ◌<◌, ◌≤◌, List, [], ◌∷◌, length, refl, sym, ap, ◌∙◌, subst, arith, inl, inr, ⊎_elim, Result, Ok, Err}
+use Rattle.std.specs.Prelude.{◌⊎◌, ⊤, ℤ}
+use Rattle.std.specs.List.{AllByRecursion, range_with_len}
 use Rattle.fm_base_lists.specs.Among.{IsAmong}
-use Rattle.fm_base_lists.proofs.Each.{all_both, all_weaker}
+use Rattle.fm_base_lists.proofs.Each.{all_among, all_both, all_weaker}
 use Rattle.fm_base.specs.declared.arena_id.ArenaId.{ArenaId}
 use Rattle.fm_base.specs.declared.caller.Caller.{Caller}
 use Rattle.fm_base.specs.declared.kind.Kind.TheVariants.{Confined}
@@ -15,36 +15,43 @@ use Rattle.fm_base.specs.Counting.{OnlyAdds}
 use Rattle.fm_base.specs.Finds.{Gathered}
 use Rattle.fm_base.specs.Histories.{made_by}
 use Rattle.fm_base.specs.Untouched.{Spares}
-use Rattle.fm_base.proofs.Counting.{counted}
+use Rattle.fm_base.proofs.Counting.{counted as word_counted}
 use Rattle.fm_rule_facts.specs.Views.{IsSound, View, limit_of, state_in}
 use Rattle.fm_rule_calls.proofs.Going.{reached_by}
+use Rattle.fm_rule_calls.specs.Kept.{Lasts}
 use Rattle.fm_rule_calls.specs.Told.{view_of_pass}
 use Rattle.fm_segment.specs.Access.{IsKnown}
 use Rattle.fm_segment.specs.Region.{Region}
 use Rattle.fm_records_query.specs.Plan.{IsPlan, Plan}
-use Rattle.fm_records.specs.Alone.{bytes_at_places}
-use Rattle.fm_records.specs.Answers.{answer}
-use Rattle.fm_records.specs.Laws.{IsAsked, value_in}
-use Rattle.fm_records.specs.Reads.{IsWordOf}
-use Rattle.fm_records.specs.Shares.{IsSpared}
+use Rattle.fm_records.specs.Shares.{IsSpared, Share}
+use Rattle.fm_records.proofs.Sharing.{shares_answer, shares_read}
+use Rattle.fm_workers_jobs.specs.declared.account.Account.{Account}
+use Rattle.fm_workers_jobs.specs.Turns.{HasAccount, Turn, times}
+use Rattle.fm_workers_shares.specs.Answered.{all_of}
+use Rattle.fm_workers_shares.specs.Batches.{begun, nones}
+use Rattle.fm_workers_shares.specs.Placing.{placed}
+use Rattle.fm_workers_shares.specs.Shares.{each_of, many_of}
+use Rattle.fm_workers_shares.specs.Taking.{jobs_of}
+use Rattle.fm_workers_shares.proofs.Standing.{HasShares}
+use Rattle.fm_workers_crew.specs.Crew.{AreTooMany, CrewGathered, CrewWorked, IsWhole, by_caller, callers}
+use Rattle.fm_workers_crew.proofs.Callers.{AreDoneBy, worked_by_callers}
+use Rattle.fm_workers_crew.proofs.Working.{lasts_none, nobody}
+use Rattle.fm_workers.specs.declared.tallier.Tallier.{Tallier}
 use Rattle.fm_workers.specs.Adding.{HasCounts, count_word}
 use Rattle.fm_workers.specs.Asking.{known_later}
-use Rattle.fm_workers.specs.Counts.{AreCounts, IsTally, listed}
-use Rattle.fm_workers_crew.specs.Crew.{AreTooMany, CrewWorked, by_caller, callers}
-use Rattle.fm_workers.specs.Shares.{AreLevel, IsCut, least_in}
-use Rattle.fm_workers.specs.Query.{IsReadByCrew, NobodyElseWrites}
-use Rattle.fm_workers.specs.Tallies.{SumsTo, Tallied, Tallies, Tallying}
+use Rattle.fm_workers.specs.Counts.{AreCounts, IsTally, how_many, listed, number_of}
+use Rattle.fm_workers.specs.Query.{NobodyElseWrites}
+use Rattle.fm_workers.specs.Summing.{AreTotals, CanTotal, HaveEnded, PassTotals, Totals}
+use Rattle.fm_workers.specs.Tallies.{Tallies, Tallying, all_numbers}
 use Rattle.fm_workers.specs.Tally.{AreAllRead, AreHeld, AreTheCounts, CanBeTallied, EndsTally, LeavesWord, OnlyAddsTo, OnlyTallies, TalliedBy, TalliedWith, closed, no_more, one_add}
-use Rattle.fm_workers_crew.proofs.Callers.{AreDoneBy, worked_by_callers}
 use Rattle.fm_workers.proofs.Added.{by_crew, crew_adds}
-use Rattle.fm_workers.proofs.Counted.{shares_counted}
-use Rattle.fm_workers.proofs.Covered.{counted_read}
+use Rattle.fm_workers.proofs.Counted.{listed_joined}
+use Rattle.fm_workers.proofs.CountedShares.{HaveCounted, counted_shares, have_counted, same_numbers, tallied_by}
+use Rattle.fm_workers.proofs.FewCounted.{shares_list}
 use Rattle.fm_workers.proofs.Queried.{even_of, many}
-use Rattle.fm_workers.proofs.Sharing.{whole_piece}
 use Rattle.fm_workers.proofs.Sparing.{by_either, reads_spare}
-use Rattle.fm_workers.proofs.CountedShares.{counted_shares}
-use Rattle.fm_workers.proofs.Touching.{IsStop, crew_stops, crew_tallies, idle_tallies, tasks_count}
-use Rattle.fm_workers_crew.proofs.Working.{lasts_none, nobody}
+use Rattle.fm_workers.proofs.Totals.{passes_counted, taken_once, totals_counted}
+use Rattle.fm_workers.proofs.Touching.{HaveStopped, are_takers, crew_stops, crew_tallies, idle_tallies, talliers_count, tasks_count}
 
 -- ---- what the crew spares
 
@@ -66,10 +73,6 @@ tallies_spare s counts place more (c ∷ cs) other h = (
   tallies_spare s counts place more cs other h.1,
 )
 
-total_fits : (us : List Tallied) (ns : List ℕ) (k : ℕ) → k < 256 → SumsTo us (Ok ns) → slice_index ns k < 2 ^ 64
-total_fits [] ns k below h = let none = h.each k below in omega (arith, none)
-total_fits (u ∷ us) ns k below h = h.share.sums.fits k below
-
 -- ---- records
 
 -- the refusals before the first draw
@@ -87,175 +90,201 @@ first_not WrongThread first e = absurd (cc)
 first_not Memory first e = absurd (cc)
 first_not r first e = absurd first
 
--- Nothing was drawn.
-pub tallied_none : (v : View) (p : Plan) (s counts : Region) (threads : ℕ) (r : Refusal) → IsFirst r → IsKnown (view_of_pass v) s
-    → IsKnown (view_of_pass v) counts → EndsTally (least_in p s threads) v v p s counts [] [] [] (Err r) → TalliedWith threads v v p s counts (Err r)
-unfolding nobody
-tallied_none v p s counts threads r first known counts_known ends = record {
-  crew = nobody v;
-  one_each = omega arith;
-  one_less = λ e. let is : r ≡ NoPass = cc in absurd (first_not r first is);
-  visits = tt;
+-- What is known behind a refusal: nothing of the counts.
+refused : {old new : View} {p : Plan} {s counts : Region} {threads : ℕ} (r : Refusal) (crew : CrewGathered old new) → length crew.crew ≤ threads
+    → (r ≡ NoPass → (length crew.crew < threads) × (IsWhole old → AreTooMany old threads))
+    → AllByRecursion (λ c. OnlyTallies s counts c (made_by c crew.more)) (callers crew.crew)
+    → EndsTally (each_of (s.size / p.size) threads) old new p s counts crew.more crew.crew crew.draws (Err r) → Lasts old new
+    → IsKnown (view_of_pass old) s → IsKnown (view_of_pass old) counts → (IsSound old → IsSound new) → TalliedWith threads old new p s counts (Err r)
+refused r crew most wanting visits ends lasts known counts_known still_sound = record {
+  crew = crew;
+  one_each = most;
+  one_less = λ e. let is : r ≡ NoPass = cc in (wanting is).0;
+  visits = visits;
   ends = ends;
   value = tt;
   read = tt;
   held = tt;
-  wanting = λ w e. let is : r ≡ NoPass = cc in absurd (first_not r first is);
-  lasts = lasts_none v;
-  known = known;
-  counts_known = counts_known;
+  wanting = λ w e. let is : r ≡ NoPass = cc in (wanting is).1 w;
+  lasts = lasts;
+  known = known_later lasts known;
+  counts_known = known_later lasts counts_known;
   sound = tt;
-  still_sound = λ h. h;
+  still_sound = still_sound;
 }
 
--- No task was begun.
-pub tallied_refused : {old new : View} {w : Tallying} {s : Region} {threads : ℕ} {ts us : List Tallied} (r : Refusal)
-    → CrewWorked (by_caller (Tallies w)) old new ts us (Err r) → length ts ≡ threads → CanBeTallied w.plan s w.counts → IsKnown (view_of_pass old) s
-    → IsKnown (view_of_pass old) w.counts → TalliedWith threads old new w.plan s w.counts (Err r)
-tallied_refused {old = old} {w = k} {s = s} NoPass w count can known counts_known = record {
-  crew = w.crew;
-  one_each = (let l = w.ends.1 in omega (arith, count, l));
-  one_less = λ e. let l = w.ends.1 in omega (arith, count, l);
-  visits = idle_tallies s k.counts w.crew.more (callers w.crew.crew) w.ends.2;
-  ends = (can, w.ends.0);
-  value = tt;
-  read = tt;
-  held = tt;
-  wanting = λ x e. subst (AreTooMany old) count (w.wanting x refl);
-  lasts = w.lasts;
-  known = known_later w.lasts known;
-  counts_known = known_later w.lasts counts_known;
-  sound = tt;
-  still_sound = w.still_sound;
-}
-tallied_refused {w = k} {s = s} Memory w count can known counts_known = record {
-  crew = w.crew;
-  one_each = (let e : length w.crew.crew ≡ 0 = ap (λ (gs : List Gathered). length gs) w.ends.1 in omega (arith, e));
-  one_less = λ e. absurd (cc);
-  visits = subst (λ (gs : List Gathered). AllByRecursion (λ c. OnlyTallies s k.counts c (made_by c w.crew.more)) (callers gs)) (sym w.ends.1) tt;
-  ends = (can, inr (ap callers w.ends.1));
-  value = tt;
-  read = tt;
-  held = tt;
-  wanting = λ x e. absurd (cc);
-  lasts = w.lasts;
-  known = known_later w.lasts known;
-  counts_known = known_later w.lasts counts_known;
-  sound = tt;
-  still_sound = w.still_sound;
-}
+-- Nothing was drawn.
+pub tallied_none : (v : View) (p : Plan) (s counts : Region) (threads : ℕ) (r : Refusal) → IsFirst r → IsKnown (view_of_pass v) s
+    → IsKnown (view_of_pass v) counts → EndsTally (each_of (s.size / p.size) threads) v v p s counts [] [] [] (Err r) → TalliedWith threads v v p s counts (Err r)
+unfolding nobody
+tallied_none v p s counts threads r first known counts_known ends =
+    refused r (nobody v) (omega arith) (λ is. absurd (first_not r first is)) tt ends (lasts_none v) known counts_known (λ h. h)
+
+-- No share was taken.
+pub tallied_refused : {old new : View} {k : Tallying} {threads : ℕ} {ts us : List Tallier} (r : Refusal)
+    → CrewWorked (by_caller (Tallies k)) old new ts us (Err r) → length ts ≡ threads → CanBeTallied k.plan k.segment k.counts
+    → IsKnown (view_of_pass old) k.segment → IsKnown (view_of_pass old) k.counts → TalliedWith threads old new k.plan k.segment k.counts (Err r)
+tallied_refused {old = old} {k = k} {threads = threads} NoPass w count can known counts_known =
+    let less = w.ends.1 in
+    refused NoPass w.crew (omega (arith, count, less))
+    (λ e. (omega (arith, count, less), λ x. subst (AreTooMany old) count (w.wanting x refl)))
+    (idle_tallies k.segment k.counts w.crew.more (callers w.crew.crew) w.ends.2) (can, w.ends.0) w.lasts known counts_known w.still_sound
+tallied_refused {k = k} Memory w count can known counts_known =
+    let none : length w.crew.crew ≡ 0 = ap (λ (gs : List Gathered). length gs) w.ends.1 in
+    refused Memory w.crew (omega (arith, none)) (λ e. absurd (cc))
+    (subst (λ (gs : List Gathered). AllByRecursion (λ c. OnlyTallies k.segment k.counts c (made_by c w.crew.more)) (callers gs)) (sym w.ends.1) tt)
+    (can, inr (ap callers w.ends.1)) w.lasts known counts_known w.still_sound
 tallied_refused r w count can known counts_known = absurd w.ends
 
-module _ {old new : View} {k : Tallying} {s : Region} {threads : ℕ} {ts us : List Tallied} {u : Unit {0}}
-    (w : CrewWorked (by_caller (Tallies k)) old new ts us (Ok u)) (plan : IsPlan k.plan) (cut : IsCut k.plan s ts)
-    (level : AreLevel k.plan (least_in k.plan s threads) ts) (count : length ts ≡ threads)
-    (can : CanBeTallied k.plan s k.counts) (longs : HasCounts k.counts) (other : k.counts.arena ≢ s.arena)
-    (known : IsKnown (view_of_pass old) s) (counts_known : IsKnown (view_of_pass old) k.counts) (small : s.size ≤ 2 ^ 40) where
+module _ {old new : View} {k : Tallying} {threads : ℕ} {ts us : List Tallier} {u : Unit {0}}
+    (w : CrewWorked (by_caller (Tallies k)) old new ts us (Ok u)) (plan : IsPlan k.plan) (count : length ts ≡ threads)
+    (each : k.each ≡ each_of (k.segment.size / k.plan.size) threads) (some : 0 < k.each) (any : 0 < threads) (small : k.segment.size ≤ 2 ^ 40)
+    (can : CanBeTallied k.plan k.segment k.counts) (longs : HasCounts k.counts) (other : k.counts.arena ≢ k.segment.arena)
+    (known : IsKnown (view_of_pass old) k.segment) (counts_known : IsKnown (view_of_pass old) k.counts) where
   done : AreDoneBy (Tallies k) w.crew.more (callers w.crew.crew) ts us
   done = worked_by_callers (Tallies k) w
 
   as_many : length w.crew.crew ≡ threads
   as_many = sym (many w.crew.crew) ∙ (tasks_count (Tallies k) w.crew.more (callers w.crew.crew) ts us done ∙ count)
 
-  visits : AllByRecursion (λ c. OnlyTallies s k.counts c (made_by c w.crew.more)) (callers w.crew.crew)
-  visits = crew_tallies k s 0 (s.size / k.plan.size) w.crew.more (callers w.crew.crew) ts us longs (omega arith) done cut
+  so_many : length us ≡ threads
+  so_many = talliers_count k w.crew.more (callers w.crew.crew) ts us done ∙ count
+
+  visits : AllByRecursion (λ c. OnlyTallies k.segment k.counts c (made_by c w.crew.more)) (callers w.crew.crew)
+  visits = crew_tallies k w.crew.more (callers w.crew.crew) ts us longs done
 
   is_sound : IsSound new
   is_sound = w.sound (λ e. absurd (cc))
 
-  spared : NobodyElseWrites s (callers w.crew.crew) w.crew.more → IsSpared (limit_of old.shape) (state_in old) w.crew.more s
+  -- The talliers' turns can be taken back.
+  pub can_total : (turn : Turn) → HasAccount k.jobs turn (begun (many_of (k.segment.size / k.plan.size) k.each) threads) → CanTotal k.jobs turn us
+  can_total turn giver = record {
+    giver = record { is_of = giver.is_of; role = ap (λ (v : Account). v.role) giver.is };
+    out = (let out = ap (λ (v : Account). v.out) giver.is in let n = so_many in omega (arith, out, n));
+    talliers = are_takers k w.crew.more (callers w.crew.crew) ts us done;
+  }
+
+  spared : NobodyElseWrites k.segment (callers w.crew.crew) w.crew.more → IsSpared (limit_of old.shape) (state_in old) w.crew.more k.segment
   spared nobody =
       let r = reached_by {p = old} {q = new} w.crew.more w.crew.seen (ap (λ (v : View). v.shape) w.crew.is) is_sound in
       record {
         legal = r.legal;
-        spared = λ place from below. by_either (λ e. Spares s.arena place e.call) (callers w.crew.crew) w.crew.more
-            (nobody place from below) (tallies_spare s k.counts place w.crew.more (callers w.crew.crew) other visits);
+        spared = λ place from below. by_either (λ e. Spares k.segment.arena place e.call) (callers w.crew.crew) w.crew.more
+            (nobody place from below) (tallies_spare k.segment k.counts place w.crew.more (callers w.crew.crew) other visits);
       }
 
-  by_shares : (ns : List ℕ) → SumsTo us (Ok ns)
-      → TalliedBy k.plan s k.counts (least_in k.plan s threads) (callers w.crew.crew) w.crew.more ns
-  by_shares ns sums =
-      subst (λ (x : Region). TalliedBy k.plan x k.counts (least_in k.plan s threads) (callers w.crew.crew) w.crew.more ns) (whole_piece k.plan s can.even)
-      (counted_shares k s (least_in k.plan s threads) 0 (s.size / k.plan.size) w.crew.more (callers w.crew.crew) ts us ns done cut level sums)
+  -- ---- all was counted
 
-  all_read : (ns : List ℕ) → SumsTo us (Ok ns) → AreAllRead old k.plan s (callers w.crew.crew) w.crew.more
-  all_read ns sums nobody index path is word =
-      subst (λ (x : Region). IsAsked k.plan (bytes_at_places (state_in old) x) index path is → IsWordOf (value_in k.plan x index path is) word
-      → IsReadByCrew s (callers w.crew.crew) w.crew.more word) (whole_piece k.plan s can.even)
-      (counted_read (limit_of old.shape) (state_in old) k s w.crew.more plan (spared nobody) 0 (s.size / k.plan.size) (callers w.crew.crew) ts us ns
-      index path is word (omega arith) done cut sums)
+  module _ {giver : Account} (begins : giver ≡ begun (many_of (k.segment.size / k.plan.size) k.each) threads) (ended : HaveEnded giver us) where
+    counted : HaveCounted k w.crew.more (callers w.crew.crew) us
+    counted = have_counted k w.crew.more (callers w.crew.crew) ts us done ended.end
 
-  the_counts : (ns : List ℕ) → SumsTo us (Ok ns) → AreTheCounts old k.plan s (callers w.crew.crew) w.crew.more ns
-  the_counts ns sums nobody =
-      subst (λ (x : Region). AreCounts (listed (answer k.plan (bytes_at_places (state_in old) x))) ns) (whole_piece k.plan s can.even)
-      (shares_counted (limit_of old.shape) (state_in old) k s w.crew.more plan can.tally (spared nobody) 0 (s.size / k.plan.size) (callers w.crew.crew) ts us ns
-      (omega arith) done cut sums)
+    once : (n : ℕ) → times n (jobs_of (all_of counted.taken)) ≡ times n (range_with_len 0 (many_of (k.segment.size / k.plan.size) k.each))
+    once =
+        let n = so_many in
+        taken_once k.jobs (many_of (k.segment.size / k.plan.size) k.each) giver us counted.taken
+        (begins ∙ ap (λ m. begun (many_of (k.segment.size / k.plan.size) k.each) m) (sym so_many)) ended.settled (omega (arith, n, any)) counted.took
 
-  are_held : (ns : List ℕ) → SumsTo us (Ok ns) → AreHeld old new k.counts (callers w.crew.crew) w.crew.more ns
-  are_held ns sums i below zero_there leaves =
-      let r = reached_by {p = old} {q = new} w.crew.more w.crew.seen (ap (λ (v : View). v.shape) w.crew.is) is_sound in
-      let adds = crew_adds k w.crew.more (callers w.crew.crew) ts us ns done sums in
-      let word = count_word k.counts i in
-      let others = all_weaker (λ (e : Entry). IsAmong e.caller (callers w.crew.crew) ⊎ LeavesWord k.counts.arena (count_word k.counts i) e.call)
-      (λ (e : Entry). IsAmong e.caller (callers w.crew.crew) ⊎ OnlyAdds k.counts.arena (count_word k.counts i) e.call)
-      (λ e h. ⊎_elim (λ a. inl a) (λ (l : LeavesWord k.counts.arena (count_word k.counts i) e.call). inr l.0) h) w.crew.more leaves in
-      let only = by_either (λ e. OnlyAdds k.counts.arena (count_word k.counts i) e.call) (callers w.crew.crew) w.crew.more others
-      (adds.only k.counts.arena (count_word k.counts i)) in
-      let small : word_in (state_in old) k.counts.arena (count_word k.counts i) < 2 ^ 64 = omega (arith, zero_there) in
-      let now = counted (limit_of old.shape) (state_in old) w.crew.more k.counts.arena (count_word k.counts i) r.legal small only in
-      let all = by_crew k.counts.arena (count_word k.counts i) w.crew.more (callers w.crew.crew) w.crew.distinct leaves in
-      let sum = adds.sum i below in
-      let fits = total_fits us ns i below sums in
-      ap (λ x. word_in x k.counts.arena (count_word k.counts i)) r.state ∙ omega (arith, zero_there, now, all, sum, fits)
+    abbrev shares : HasShares k.plan k.segment k.each (callers w.crew.crew) w.crew.more k.segment 0
+        (placed (nones (many_of (k.segment.size / k.plan.size) k.each)) (all_of counted.taken))
+    shares = counted_shares k w.crew.more (callers w.crew.crew) counted.taken some can.even counted.by_each once
 
-  stop_not : (e : Refusal) → IsStop e k.plan s k.counts (callers w.crew.crew) w.crew.more → ¬ (e ≡ NoPass)
+    few : (n : ℤ) → how_many n (all_numbers (all_of counted.taken)) ≤ k.segment.size
+    few n =
+        let same = same_numbers k w.crew.more (callers w.crew.crew) counted.taken some can.even counted.by_each once n in
+        let most = shares_list k.plan k.segment w.crew.more shares.shares n plan can.tally shares.cut shares.done in
+        omega (arith, same, most)
+
+    -- So no sum passes 64 bits.
+    never_passes : PassTotals us → ⊥
+    never_passes passes =
+        let often = passes_counted k.jobs us counted.taken counted.took passes in
+        let most = few (number_of often.0) in
+        let over = often.1 in
+        omega (arith, most, over, small)
+
+    module _ (ns : List ℕ) (totals : AreTotals us ns) where
+      are_counts : AreCounts (all_numbers (all_of counted.taken)) ns
+      are_counts = totals_counted k.jobs us counted.taken ns counted.took totals
+
+      by_shares : TalliedBy k.plan k.segment k.counts k.each (callers w.crew.crew) w.crew.more ns
+      by_shares = tallied_by k w.crew.more (callers w.crew.crew) counted.taken some can.even counted.by_each once ns are_counts
+
+      the_counts : AreTheCounts old k.plan k.segment (callers w.crew.crew) w.crew.more ns
+      the_counts nobody =
+          let is = shares_answer (limit_of old.shape) (state_in old) w.crew.more k.plan k.segment by_shares.shares plan (spared nobody) by_shares.cut
+          by_shares.done in
+          subst (λ ms. AreCounts ms ns) (listed_joined k.plan w.crew.more by_shares.shares plan can.tally by_shares.done ∙ ap listed is) by_shares.are
+
+      all_read : AreAllRead old k.plan k.segment (callers w.crew.crew) w.crew.more
+      all_read nobody index path is word asked of =
+          let x = shares_read (limit_of old.shape) (state_in old) w.crew.more k.plan k.segment by_shares.shares index path is word plan (spared nobody)
+          by_shares.cut by_shares.done asked of in
+          record {
+            caller = x.share.caller;
+            among = all_among (λ (v : Share). IsAmong v.caller (callers w.crew.crew)) x.share by_shares.shares by_shares.callers x.among;
+            read = x.read;
+          }
+
+      are_held : AreHeld old new k.counts (callers w.crew.crew) w.crew.more ns
+      are_held i below zero_there leaves =
+          let r = reached_by {p = old} {q = new} w.crew.more w.crew.seen (ap (λ (v : View). v.shape) w.crew.is) is_sound in
+          let adds = crew_adds k w.crew.more (callers w.crew.crew) counted.taken counted.by_each in
+          let others = all_weaker (λ (e : Entry). IsAmong e.caller (callers w.crew.crew) ⊎ LeavesWord k.counts.arena (count_word k.counts i) e.call)
+          (λ (e : Entry). IsAmong e.caller (callers w.crew.crew) ⊎ OnlyAdds k.counts.arena (count_word k.counts i) e.call)
+          (λ e h. ⊎_elim (λ a. inl a) (λ (l : LeavesWord k.counts.arena (count_word k.counts i) e.call). inr l.0) h) w.crew.more leaves in
+          let only = by_either (λ e. OnlyAdds k.counts.arena (count_word k.counts i) e.call) (callers w.crew.crew) w.crew.more others
+          (adds.only k.counts.arena (count_word k.counts i)) in
+          let low : word_in (state_in old) k.counts.arena (count_word k.counts i) < 2 ^ 64 = omega (arith, zero_there) in
+          let now = word_counted (limit_of old.shape) (state_in old) w.crew.more k.counts.arena (count_word k.counts i) r.legal low only in
+          let all = by_crew k.counts.arena (count_word k.counts i) w.crew.more (callers w.crew.crew) w.crew.distinct leaves in
+          let sum = adds.sum i below in
+          let mine = are_counts.each i below in
+          let most = few (number_of i) in
+          ap (λ x. word_in x k.counts.arena (count_word k.counts i)) r.state ∙ omega (arith, zero_there, now, all, sum, mine, most, small)
+
+  -- ---- what comes of it
+
+  stop_not : (e : Refusal) → HaveStopped k.plan k.segment k.counts k.each (callers w.crew.crew) w.crew.more e → ¬ (e ≡ NoPass)
   stop_not e (inl m) q = let apart : Memory ≡ NoPass = sym m.0 ∙ q in absurd (cc)
   stop_not e (inr f) q = let apart : Closed ≡ NoPass = sym f.0 ∙ q in absurd (cc)
 
-  stop_ends : (e : Refusal) → IsStop e k.plan s k.counts (callers w.crew.crew) w.crew.more
-      → EndsTally (least_in k.plan s threads) old new k.plan s k.counts w.crew.more w.crew.crew w.crew.draws (Err e)
+  stop_ends : (e : Refusal) → HaveStopped k.plan k.segment k.counts k.each (callers w.crew.crew) w.crew.more e
+      → EndsTally k.each old new k.plan k.segment k.counts w.crew.more w.crew.crew w.crew.draws (Err e)
   stop_ends e (inl m) =
-      subst (λ (x : Refusal). EndsTally (least_in k.plan s threads) old new k.plan s k.counts w.crew.more w.crew.crew w.crew.draws (Err x)) (sym m.0) (can, m.1)
+      subst (λ (x : Refusal). EndsTally k.each old new k.plan k.segment k.counts w.crew.more w.crew.crew w.crew.draws (Err x)) (sym m.0) (can, inl m.1)
   stop_ends e (inr f) =
-      subst (λ (x : Refusal). EndsTally (least_in k.plan s threads) old new k.plan s k.counts w.crew.more w.crew.crew w.crew.draws (Err x)) (sym f.0) (can, f.1)
+      subst (λ (x : Refusal). EndsTally k.each old new k.plan k.segment k.counts w.crew.more w.crew.crew w.crew.draws (Err x)) (sym f.0) (can, f.1)
 
-  stopped : (e : Refusal) → SumsTo us (Err e) → IsStop e k.plan s k.counts (callers w.crew.crew) w.crew.more
-  stopped e sums = crew_stops k s w.crew.more plan can.tally small 0 (s.size / k.plan.size) (callers w.crew.crew) ts us e (omega arith) done cut sums
+  module _ (giver : Account) (begins : giver ≡ begun (many_of (k.segment.size / k.plan.size) k.each) threads) where
+    stopped : (e : Refusal) → Totals giver us (Err e) → HaveStopped k.plan k.segment k.counts k.each (callers w.crew.crew) w.crew.more e
+    stopped e (inl refused) = crew_stops k w.crew.more (callers w.crew.crew) ts us e done refused
+    stopped e (inr passes) = absurd (never_passes begins passes.0 passes.1.1)
 
-  -- All were asked.
-  pub tallied : (r : Result (List ℕ) Refusal) → SumsTo us r → TalliedWith threads old new k.plan s k.counts r
-  tallied (Err e) sums = record {
-    crew = w.crew;
-    one_each = (let n = as_many in omega (arith, n));
-    one_less = λ q. let is : e ≡ NoPass = cc in absurd (stop_not e (stopped e sums) is);
-    visits = visits;
-    ends = stop_ends e (stopped e sums);
-    value = tt;
-    read = tt;
-    held = tt;
-    wanting = λ v q. let is : e ≡ NoPass = cc in absurd (stop_not e (stopped e sums) is);
-    lasts = w.lasts;
-    known = known_later w.lasts known;
-    counts_known = known_later w.lasts counts_known;
-    sound = tt;
-    still_sound = w.still_sound;
-  }
-  tallied (Ok ns) sums = record {
-    crew = w.crew;
-    one_each = (let n = as_many in omega (arith, n));
-    one_less = λ e. absurd (cc);
-    visits = visits;
-    ends = (can, by_shares ns sums);
-    value = the_counts ns sums;
-    read = all_read ns sums;
-    held = are_held ns sums;
-    wanting = λ v e. absurd (cc);
-    lasts = w.lasts;
-    known = known_later w.lasts known;
-    counts_known = known_later w.lasts counts_known;
-    sound = is_sound;
-    still_sound = w.still_sound;
-  }
+    -- All shares were taken, or a tallier was refused.
+    pub tallied : (r : Result (List ℕ) Refusal) → Totals giver us r → TalliedWith threads old new k.plan k.segment k.counts r
+    tallied (Err e) h =
+        let n = as_many in
+        refused e w.crew (omega (arith, n)) (λ is. absurd (stop_not e (stopped e h) is)) visits
+        (subst (λ m. EndsTally m old new k.plan k.segment k.counts w.crew.more w.crew.crew w.crew.draws (Err e)) each (stop_ends e (stopped e h)))
+        w.lasts known counts_known w.still_sound
+    tallied (Ok ns) h = record {
+      crew = w.crew;
+      one_each = (let n = as_many in omega (arith, n));
+      one_less = λ e. absurd (cc);
+      visits = visits;
+      ends = subst (λ n. EndsTally n old new k.plan k.segment k.counts w.crew.more w.crew.crew w.crew.draws (Ok ns)) each
+          (can, by_shares begins h.0 ns h.1);
+      value = the_counts begins h.0 ns h.1;
+      read = all_read begins h.0 ns h.1;
+      held = are_held begins h.0 ns h.1;
+      wanting = λ v e. absurd (cc);
+      lasts = w.lasts;
+      known = known_later w.lasts known;
+      counts_known = known_later w.lasts counts_known;
+      sound = is_sound;
+      still_sound = w.still_sound;
+    }
 
 -- What the tests found.
 pub can_be_tallied : (p : Plan) (s counts : Region) (n m : ℕ) (a b : ArenaId) → IsTally p → n ≡ s.size → m ≡ p.size → n % m ≡ 0 → a ≡ s.arena

@@ -1,55 +1,134 @@
--- Answers of shares, joined from the last share to the first.
-use Rattle.std.proofs.Common.{◌≡◌, ℕ, ◌+◌, ◌^◌, ◌≤◌, List, [], ◌∷◌, ◌++◌, refl, sym, ap, ◌∙◌, subst, arith, inl, inr, ⊎_elim, Result, Ok, Err, IfOk}
-use Rattle.std.specs.Prelude.{IfErr}
+-- What talliers counted together, and their turns taken back.
+use Rattle.std.proofs.Common.{◌≡◌, ℕ, ◌+◌, ◌-◌, ◌^◌, ◌<◌, ◌≤◌, List, [], ◌∷◌, ◌++◌, length, refl, sym, ap, ◌∙◌, subst, arith, inl, inr, Result, Ok, Err}
+use Rattle.std.specs.Prelude.{ℤ}
+use Rattle.std.specs.List.{AllZip, range_with_len}
+use Rattle.std.proofs.lemmas.List.{map-append}
 use Rattle.fm_base.specs.declared.refusal.Refusal.{Refusal}
-use Rattle.fm_base.specs.declared.refusal.Refusal.TheVariants.{Memory}
-use Rattle.fm_records_query.specs.Plan.{Plan}
-use Rattle.fm_records.specs.declared.found.Found.{Found}
-use Rattle.fm_records.specs.Answers.{answer}
-use Rattle.fm_records.specs.Few.{AreFew, Joins}
-use Rattle.fm_records.proofs.Few.{few_join}
-use Rattle.fm_workers.specs.Shares.{Asked, CanJoinShare, ComesTo, JoinsShare, bytes_in}
+use Rattle.fm_workers_jobs.specs.declared.account.Account.{Account}
+use Rattle.fm_workers_jobs.specs.declared.jobs.Jobs.{Jobs}
+use Rattle.fm_workers_jobs.specs.Turns.{CanSettle, HasAccount, IsSettled, Turn, account_of, times}
+use Rattle.fm_workers_shares.specs.declared.taker.Done.{Done}
+use Rattle.fm_workers_shares.specs.Answered.{all_of}
+use Rattle.fm_workers_shares.specs.Batches.{begun}
+use Rattle.fm_workers_shares.specs.Taking.{jobs_of, took}
+use Rattle.fm_workers_shares.proofs.Once.{times-append}
+use Rattle.fm_workers.specs.declared.tallier.Tallier.{Tallier}
+use Rattle.fm_workers.specs.Counts.{AreCounts, how_many, number_of}
+use Rattle.fm_workers.specs.Summing.{AreTotals, CanTotal, PassTotals, SumsTo, SumsWith, Totals, absorbed, end_of}
+use Rattle.fm_workers.specs.Tallies.{all_numbers}
+use Rattle.fm_workers.proofs.Numbers.{both_counted, how_many-append}
+use Rattle.fm_workers.proofs.Talliers.{all_numbers-append}
 
-pub comes_none : (p : Plan) (r : Result (List Found) Refusal) → IfOk r (λ a. a ≡ answer p []) → IfErr r (λ e. e ≡ Memory) → ComesTo p [] r
-comes_none p (Ok a) is memory = is
-comes_none p (Err e) is memory = memory
+-- ---- turns taken back
 
--- Where all are answered, memory may be wanting.
-want_of : (p : Plan) (ts : List Asked) (a : List Found) → ComesTo p ts (Ok a) → ComesTo p ts (Err Memory)
-want_of p [] a h = refl
-want_of p (t ∷ ts) a h = inr ((h.0, h.2), want_of p ts h.1 h.3)
+pub role_absorbed : (v : Account) (ts : List Tallier) → (absorbed v ts).role ≡ v.role
+role_absorbed v [] = refl
+role_absorbed v (t ∷ ts) = role_absorbed v ts
 
--- One share before them.
-pub comes_more : (p : Plan) (t : Asked) (ts : List Asked) (behind r : Result (List Found) Refusal) → ComesTo p ts behind → JoinsShare t behind r
-    → ComesTo p (t ∷ ts) r
-comes_more p t ts behind (Ok a) h j = (j.0, j.1, j.2, subst (λ x. ComesTo p ts x) j.3 h, j.4)
-comes_more p t ts behind (Err e) h (inl q) = inl q
-comes_more p t ts behind (Err e) h (inr q) = inr (
-  q.0,
-  ⊎_elim (λ (b : behind ≡ Err e). subst (λ x. ComesTo p ts x) b h)
-      (λ (m : (e ≡ Memory) × ((y : List Found) × (behind ≡ Ok y))).
-      subst (λ (x : Refusal). ComesTo p ts (Err x)) (sym m.0) (want_of p ts m.1.0 (subst (λ x. ComesTo p ts x) m.1.1 h)))
-      q.1,
-)
+out_absorbed : (v : Account) (ts : List Tallier) → (absorbed v ts).out ≡ v.out - length ts
+out_absorbed v [] = omega arith
+out_absorbed v (t ∷ ts) = let rest = out_absorbed v ts in omega (arith, rest)
 
-pub bytes_append : (ts us : List Asked) → bytes_in (ts ++ us) ≡ bytes_in ts + bytes_in us
-bytes_append [] us = omega arith
-bytes_append (t ∷ ts) us = let r = bytes_append ts us in omega (arith, r)
+pushed_absorbed : (v : Account) (ts : List Tallier) → (absorbed v ts).pushed ≡ v.pushed
+pushed_absorbed v [] = refl
+pushed_absorbed v (t ∷ ts) = pushed_absorbed v ts
 
-module _ (p : Plan) (t : Asked) (n : ℕ) (behind : Result (List Found) Refusal) (here : IfOk t.answer (AreFew t.region.size p))
-    (there : IfOk behind (AreFew n p)) (small : t.region.size + n ≤ 2 ^ 62) where
-  joins : (x y : List Found) → t.answer ≡ Ok x → behind ≡ Ok y → Joins p (t.region.size + n) x y
-  joins x y e f = few_join p t.region.size n x y (subst (λ r. IfOk r (AreFew t.region.size p)) e here) (subst (λ r. IfOk r (AreFew n p)) f there) small
+-- Once all were taken back, it can be settled what became of the shares.
+pub can_settle : {jobs : Jobs} {turn home : Turn} {ts : List Tallier} → CanTotal jobs turn ts → HasAccount jobs home (absorbed (account_of turn) ts)
+    → CanSettle jobs home
+can_settle {turn = turn} {ts = ts} can account = record {
+  giver = record { is_of = account.is_of; role = ap (λ (v : Account). v.role) account.is ∙ role_absorbed (account_of turn) ts ∙ can.giver.role };
+  home = (
+      let out = ap (λ (v : Account). v.out) account.is in
+      let rest = out_absorbed (account_of turn) ts in
+      let many = can.out in
+      omega (arith, out, rest, many)
+      );
+}
 
-  pub can_join : CanJoinShare t behind
-  can_join x y e f = (joins x y e f).can
+-- what a tallier took and counted, which took its stop
+pub record TookAll (jobs : Jobs) (t : Tallier) (ds : List Done) : Type 0 where
+  pub account : HasAccount jobs t.turn (took (jobs_of ds) 1)
+  pub are : AreCounts (all_numbers ds) t.counts
 
-  pub few_more : (r : Result (List Found) Refusal) → JoinsShare t behind r → IfOk r (AreFew (t.region.size + n) p)
-  few_more (Ok a) j = subst (λ fs. AreFew (t.region.size + n) p fs) (sym j.4) (joins j.0 j.1 j.2 j.3).few
-  few_more (Err e) j = tt
+module _ (jobs : Jobs) (v : Account) where
+  ended_absorbed : (ts : List Tallier) (taken : List (List Done)) → AllZip (TookAll jobs) ts taken → (absorbed v ts).ended ≡ v.ended + length ts
+  ended_absorbed [] [] h = omega arith
+  ended_absorbed (t ∷ ts) (ds ∷ taken) h =
+      let rest = ended_absorbed ts taken h.1 in
+      let one : (account_of t.turn).ended ≡ 1 = ap (λ (a : Account). a.ended) h.0.account.is in
+      omega (arith, rest, one)
+  ended_absorbed ts taken h = absurd h
 
--- A share and those behind it have no more bytes than all.
-pub behind_small : (all next done : List Asked) (t : Asked) → all ≡ next ++ t ∷ done → bytes_in all ≤ 2 ^ 62 → t.region.size + bytes_in done ≤ 2 ^ 62
-behind_small all next done t e small =
-    let sum : bytes_in all ≡ bytes_in next + bytes_in (t ∷ done) = ap bytes_in e ∙ bytes_append next (t ∷ done) in
-    omega (arith, sum, small)
+  times_absorbed : (ts : List Tallier) (taken : List (List Done)) (k : ℕ) → AllZip (TookAll jobs) ts taken
+      → times k (absorbed v ts).taken ≡ times k v.taken + times k (jobs_of (all_of taken))
+  times_absorbed [] [] k h = omega arith
+  times_absorbed (t ∷ ts) (ds ∷ taken) k h =
+      let rest = times_absorbed ts taken k h.1 in
+      let both = times-append k (absorbed v ts).taken (account_of t.turn).taken in
+      let mine : times k (account_of t.turn).taken ≡ times k (jobs_of ds) = ap (λ (a : Account). times k a.taken) h.0.account.is in
+      let all : times k (jobs_of (ds ++ all_of taken)) ≡ times k (jobs_of ds ++ jobs_of (all_of taken)) =
+      ap (times k) (map-append (λ (d : Done). d.job) ds (all_of taken)) in
+      let parts = times-append k (jobs_of ds) (jobs_of (all_of taken)) in
+      omega (arith, rest, both, mine, all, parts)
+  times_absorbed ts taken k h = absurd h
+
+-- Each share was taken once, and nothing else.
+pub taken_once : (jobs : Jobs) (n : ℕ) (v : Account) (ts : List Tallier) (taken : List (List Done)) → v ≡ begun n (length ts) → IsSettled (absorbed v ts)
+    → 0 < length ts → AllZip (TookAll jobs) ts taken → (k : ℕ) → times k (jobs_of (all_of taken)) ≡ times k (range_with_len 0 n)
+taken_once jobs n v ts taken is settled some h k =
+    let count = ended_absorbed jobs v ts taken h in
+    let whole : n - 0 ≡ n = omega arith in
+    let pushed : times k (absorbed v ts).pushed ≡ times k (range_with_len 0 n) =
+    ap (times k) (pushed_absorbed v ts) ∙ ap (λ (a : Account). times k a.pushed) is ∙ ap (λ (m : ℕ). times k (range_with_len 0 m)) whole in
+    let none : times k v.taken ≡ 0 = ap (λ (a : Account). times k a.taken) is in
+    let all = times_absorbed jobs v ts taken k h in
+    let once = settled.each_once (omega (arith, count, some)) k in
+    omega (arith, once, pushed, none, all)
+
+-- ---- sums
+
+-- One more is added to those behind it.
+pub sums_more : (t : Tallier) (gone : List Tallier) (behind r : Result (List ℕ) Refusal) → SumsTo gone behind → SumsWith t.counts behind r
+    → SumsTo (t ∷ gone) r
+sums_more t gone (Ok xs) (Ok ns) h w = let same : xs ≡ w.0 = cc in (w.0, subst (AreTotals gone) same h, w.2)
+sums_more t gone (Ok xs) (Err r) h (inl e) = absurd (cc)
+sums_more t gone (Ok xs) (Err r) h (inr w) = let same : xs ≡ w.0 = cc in (w.2, inr (w.0, subst (AreTotals gone) same h, w.3))
+sums_more t gone (Err e) (Ok ns) h w = absurd (cc)
+sums_more t gone (Err e) (Err r) h (inl q) = let same : e ≡ r = cc in (sym same ∙ h.0, inl h.1)
+sums_more t gone (Err e) (Err r) h (inr w) = absurd (cc)
+
+-- What comes of it, once all was settled.
+pub totals : (v : Account) (ts : List Tallier) (r : Result (List ℕ) Refusal) → end_of ts ≡ Ok tt → IsSettled (absorbed v ts) → SumsTo ts r → Totals v ts r
+totals v ts (Ok ns) end settled h = (record { end = end; settled = settled }, h)
+totals v ts (Err r) end settled h = inr (record { end = end; settled = settled }, h)
+
+module _ (jobs : Jobs) where
+  -- The totals are the counts of all numbers.
+  pub totals_counted : (ts : List Tallier) (taken : List (List Done)) (ns : List ℕ) → AllZip (TookAll jobs) ts taken → AreTotals ts ns
+      → AreCounts (all_numbers (all_of taken)) ns
+  totals_counted [] [] ns h t = t
+  totals_counted (t ∷ ts) (ds ∷ taken) ns h e =
+      subst (λ (ms : List ℤ). AreCounts ms ns) (sym (all_numbers-append ds (all_of taken)))
+      (both_counted (all_numbers ds) (all_numbers (all_of taken)) t.counts e.0 ns h.0.are (totals_counted ts taken e.0 h.1 e.1) e.2)
+  totals_counted ts taken ns h e = absurd h
+
+  -- Where a sum passes 64 bits, a number comes so often.
+  pub passes_counted : (ts : List Tallier) (taken : List (List Done)) → AllZip (TookAll jobs) ts taken → PassTotals ts
+      → (k : ℕ) × (2 ^ 64 ≤ how_many (number_of k) (all_numbers (all_of taken)))
+  passes_counted [] [] h e = absurd e
+  passes_counted (t ∷ ts) (ds ∷ taken) h (inl e) =
+      let rest = passes_counted ts taken h.1 e in
+      let low = rest.1 in
+      let all = ap (how_many (number_of rest.0)) (all_numbers-append ds (all_of taken)) in
+      let both = how_many-append (number_of rest.0) (all_numbers ds) (all_numbers (all_of taken)) in
+      (rest.0, omega (arith, low, all, both))
+  passes_counted (t ∷ ts) (ds ∷ taken) h (inr e) =
+      let k = e.2.place in
+      let mine = h.0.are.each e.2.place e.2.within in
+      let rest = (totals_counted ts taken e.0 h.1 e.1).each e.2.place e.2.within in
+      let all = ap (how_many (number_of e.2.place)) (all_numbers-append ds (all_of taken)) in
+      let both = how_many-append (number_of e.2.place) (all_numbers ds) (all_numbers (all_of taken)) in
+      let passes = e.2.passes in
+      (e.2.place, omega (arith, mine, rest, all, both, passes))
+  passes_counted ts taken h e = absurd h

@@ -1,5 +1,5 @@
 -- What the passes of a tally did.
-use Rattle.std.proofs.Common.{◌≡◌, ℕ, ◌/◌, ◌^◌, ◌<◌, ◌≤◌, List, [], ◌∷◌, ◌++◌, length, refl, sym, ap, ◌∙◌, subst, arith, append_assoc, inl, inr, ⊎_elim, Result, Ok, Err}
+use Rattle.std.proofs.Common.{◌≡◌, ℕ, ◌<◌, ◌≤◌, List, [], ◌∷◌, ◌++◌, length, refl, sym, ap, ◌∙◌, subst, arith, append_assoc, inl, inr, ⊎_elim, Result, Ok, Err}
 use Rattle.std.specs.Prelude.{◌⊎◌}
 use Rattle.std.specs.List.{AllByRecursion}
 use Rattle.std.proofs.lemmas.List.{append-nil}
@@ -11,17 +11,22 @@ use Rattle.fm_base.specs.Calls.{Entry}
 use Rattle.fm_base.specs.Histories.{made_by}
 use Rattle.fm_base.specs.Visits.{refused_visit}
 use Rattle.fm_segment.specs.Region.{Region}
-use Rattle.fm_records_query.specs.Plan.{IsPlan, Plan}
+use Rattle.fm_records_query.specs.Plan.{Plan}
 use Rattle.fm_records.specs.Reads.{IsWordOf}
+use Rattle.fm_workers_jobs.specs.declared.account.Account.{Account}
+use Rattle.fm_workers_jobs.specs.Turns.{IsTaker}
+use Rattle.fm_workers_shares.specs.declared.taker.Done.{Done}
+use Rattle.fm_workers_shares.specs.Placing.{or_later}
+use Rattle.fm_workers_shares.specs.Shares.{share_of}
+use Rattle.fm_workers.specs.declared.tallier.Tallier.{Tallier}
 use Rattle.fm_workers.specs.Adding.{AddsAt, AddsBelow, DoesAdd, HasCounts, adds, count_word, none_yet, nothing, one_more}
-use Rattle.fm_workers.specs.Shares.{AreShares}
-use Rattle.fm_workers.specs.Counts.{IsTally}
-use Rattle.fm_workers.specs.Tallies.{CountsShare, DoesCount, DoesTallyShare, IsCountedShare, PassesShare, StopsShare, SumsTo, Tallied, Tallies, Tallying, unadded, uncounted}
-use Rattle.fm_workers.specs.Tally.{TalliesShare, FoundEitherClosed, HasCounted, IsFirstUncounted, OnlyAddsTo, OnlyTallies, WantedMemory, closed, no_more, one_add}
+use Rattle.fm_workers.specs.Query.{OnlyReads, reads}
+use Rattle.fm_workers.specs.Summing.{end_of}
+use Rattle.fm_workers.specs.Tallies.{DoesCount, EndsTallying, StopsTally, Tallies, TalliesShares, Tallying, unadded, uncounted}
+use Rattle.fm_workers.specs.Tally.{FoundEitherClosed, HasCounted, IsFirstUncounted, OnlyAddsTo, OnlyTallies, closed, no_more, one_add}
 use Rattle.fm_workers_crew.proofs.Callers.{AreDoneBy}
-use Rattle.fm_workers.proofs.Asked.{IsWithin, no_reads, query_reads, share_within, stops_count}
-use Rattle.fm_workers.proofs.FewCounted.{never_passes}
-use Rattle.fm_workers.proofs.Runs.{shares_order}
+use Rattle.fm_workers.proofs.Asked.{no_reads, stops_count}
+use Rattle.fm_workers.proofs.Reading.{each_read, reads_after, share_lies}
 
 pub tasks_count : {T : Type 0} (Does : Caller → T → T → List Entry → Type 0) (more : List Entry) (cs : List Caller) (ts us : List T)
     → AreDoneBy Does more cs ts us → length cs ≡ length ts
@@ -58,42 +63,40 @@ add_adds c counts ns (Err r) own longs d = absurd d
 
 -- ---- shares
 
-counts_tallies : (c : Caller) (p : Plan) (part s counts : Region) (ns : List ℕ) (end : Result (Unit {0}) Refusal) (own : List Entry) → IsWithin part s
-    → HasCounts counts → CountsShare c p part counts ns end own → OnlyTallies s counts c own
-counts_tallies c p part s counts ns end own w longs h = record {
+shares_tally : (c : Caller) (p : Plan) (s counts : Region) (each : ℕ) (ds : List Done) (ns : List ℕ) (end : Result (Unit {0}) Refusal) (own : List Entry)
+    → HasCounts counts → TalliesShares c p s counts each ds ns end own → OnlyTallies s counts c own
+shares_tally c p s counts each ds ns end own longs h = record {
   reads = h.reads;
   adds = h.adds;
   parts = h.parts;
-  are_reads = query_reads c p part s (Ok h.counted.found) h.reads w h.counted.did;
+  are_reads = reads (each_read p s each c ds h.reads h.counted.does);
   are_adds = add_adds c counts ns end h.adds longs h.added;
 }
 
-stops_tallies : (c : Caller) (p : Plan) (part s counts : Region) (r : Refusal) (own : List Entry) → IsWithin part s → HasCounts counts
-    → StopsShare c p part counts r own → OnlyTallies s counts c own
-stops_tallies c p part s counts r own w longs (uncounted d) = record {
+stops_tally : (c : Caller) (p : Plan) (s counts : Region) (each : ℕ) (r : Refusal) (own : List Entry) → HasCounts counts
+    → StopsTally c p s counts each r own → OnlyTallies s counts c own
+stops_tally c p s counts each r own longs (uncounted h) = record {
   reads = own;
   adds = [];
   parts = sym (append-nil own);
-  are_reads = stops_count c p part s r own w d;
+  are_reads = subst (OnlyReads s c) (sym h.parts)
+      (reads_after c s h.served h.last (each_read p s each c h.done h.served h.does)
+      (stops_count c p (share_of p s each h.number) s r h.last (share_lies p s each h.number) h.uncounted));
   are_adds = no_more;
 }
-stops_tallies c p part s counts r own w longs (unadded ns h) = counts_tallies c p part s counts ns (Err r) own w longs h
+stops_tally c p s counts each r own longs (unadded ds ns h) = shares_tally c p s counts each ds ns (Err r) own longs h
 
-share_tallies : (c : Caller) (p : Plan) (part s counts : Region) (r : Result (List ℕ) Refusal) (own : List Entry) → IsWithin part s → HasCounts counts
-    → DoesTallyShare c p part counts r own → OnlyTallies s counts c own
-share_tallies c p part s counts (Ok ns) own w longs d = counts_tallies c p part s counts ns (Ok tt) own w longs d
-share_tallies c p part s counts (Err r) own w longs d = stops_tallies c p part s counts r own w longs d
+ends_tally : (w : Tallying) (c : Caller) (t : Tallier) (r : Result (Unit {0}) Refusal) (own : List Entry) → HasCounts w.counts
+    → EndsTallying w.jobs c w.plan w.segment w.counts w.each t r own → OnlyTallies w.segment w.counts c own
+ends_tally w c t (Ok u) own longs d = shares_tally c w.plan w.segment w.counts w.each d.0 t.counts (Ok tt) own longs d.1
+ends_tally w c t (Err r) own longs d = stops_tally c w.plan w.segment w.counts w.each r own longs d.0
 
-pub crew_tallies : (w : Tallying) (s : Region) (from to : ℕ) (more : List Entry) (cs : List Caller) (ts us : List Tallied) → HasCounts w.counts
-    → to ≤ s.size / w.plan.size → AreDoneBy (Tallies w) more cs ts us → AreShares w.plan s from ts to
-    → AllByRecursion (λ c. OnlyTallies s w.counts c (made_by c more)) cs
-crew_tallies w s from to more [] [] [] longs within d h = tt
-crew_tallies w s from to more (c ∷ cs) (t ∷ ts) (u ∷ us) longs within d h = (
-  share_tallies c w.plan t.region s w.counts u.answer (made_by c more)
-      (share_within w.plan s from h.0 to t (shares_order w.plan s h.0 to ts h.2) within h.1) longs d.0.did,
-  crew_tallies w s h.0 to more cs ts us longs within d.1 h.2,
-)
-crew_tallies w s from to more cs ts us longs within d h = absurd d
+pub crew_tallies : (w : Tallying) (more : List Entry) (cs : List Caller) (ts us : List Tallier) → HasCounts w.counts
+    → AreDoneBy (Tallies w) more cs ts us → AllByRecursion (λ c. OnlyTallies w.segment w.counts c (made_by c more)) cs
+crew_tallies w more [] [] [] longs d = tt
+crew_tallies w more (c ∷ cs) (t ∷ ts) (u ∷ us) longs d =
+    (ends_tally w c u u.end (made_by c more) longs d.0, crew_tallies w more cs ts us longs d.1)
+crew_tallies w more cs ts us longs d = absurd d
 
 pub idle_tallies : (s counts : Region) (more : List Entry) (cs : List Caller) → AllByRecursion (λ c. made_by c more ≡ []) cs
     → AllByRecursion (λ c. OnlyTallies s counts c (made_by c more)) cs
@@ -106,15 +109,17 @@ idle_tallies s counts more (c ∷ cs) h = (
 -- ---- refusals
 
 -- how the adds of one ended
-add_stopped : (c : Caller) (counts : Region) (ns : List ℕ) (r : Refusal) (more reads own : List Entry) → own ≡ reads ++ more → DoesAdd c counts ns (Err r) more
+add_stopped : (c : Caller) (counts : Region) (ns : List ℕ) (r : Refusal) (more first own : List Entry) → own ≡ first ++ more → DoesAdd c counts ns (Err r) more
     → (r ≡ Closed) × ((before : List Entry) × (own ≡ before ++ refused_visit c counts.arena))
-add_stopped c counts ns Closed more reads own parts d =
-    (refl, (reads ++ d.before, parts ∙ ap (λ es. reads ++ es) d.stops ∙ sym (append_assoc reads d.before (refused_visit c counts.arena))))
-add_stopped c counts ns r more reads own parts d = absurd d
+add_stopped c counts ns Closed more first own parts d =
+    (refl, (first ++ d.before, parts ∙ ap (λ es. first ++ es) d.stops ∙ sym (append_assoc first d.before (refused_visit c counts.arena))))
+add_stopped c counts ns r more first own parts d = absurd d
 
--- the first that didn't count all wanted memory, or found an arena closed
-abbrev pub IsStop : Refusal → Plan → Region → Region → List Caller → List Entry → Type 0
-IsStop r p s counts cs more = ((r ≡ Memory) × WantedMemory p s counts cs more) ⊎ ((r ≡ Closed) × FoundEitherClosed p s counts cs more)
+-- the first that didn't count and add all wanted memory, or found an arena closed
+abbrev pub HaveStopped : Plan → (s counts : Region) → (each : ℕ) → List Caller → List Entry → Refusal → Type 0
+HaveStopped p s counts each cs more r =
+    ((r ≡ Memory) × ((c : Caller) × IsFirstUncounted p s counts each cs more Memory c))
+    ⊎ ((r ≡ Closed) × FoundEitherClosed p s counts each cs more)
 
 -- the caller's entries end where an arena was found closed
 record EndsAs (c : Caller) (s counts : Region) (own : List Entry) : Type 0 where
@@ -123,91 +128,100 @@ record EndsAs (c : Caller) (s counts : Region) (own : List Entry) : Type 0 where
   before : List Entry
   last : own ≡ before ++ refused_visit c arena
 
-count_stopped : (c : Caller) (p : Plan) (part s counts : Region) (r : Refusal) (own : List Entry) → part.arena ≡ s.arena
-    → DoesCount c p part (Err r) own → (r ≡ Memory) ⊎ ((r ≡ Closed) × EndsAs c s counts own)
-count_stopped c p part s counts Closed own same d =
-    inr (refl, record { arena = part.arena; either = inl same; before = d.before; last = d.stops })
-count_stopped c p part s counts Memory own same d = inl refl
-count_stopped c p part s counts r own same d = absurd d
+count_stopped : (c : Caller) (p : Plan) (part s counts : Region) (r : Refusal) (own served last : List Entry) → part.arena ≡ s.arena
+    → own ≡ served ++ last → DoesCount c p part (Err r) last → (r ≡ Memory) ⊎ ((r ≡ Closed) × EndsAs c s counts own)
+count_stopped c p part s counts Closed own served last same parts d = inr (
+  refl,
+  record {
+    arena = part.arena;
+    either = inl same;
+    before = served ++ d.before;
+    last = parts ∙ ap (λ es. served ++ es) d.stops ∙ sym (append_assoc served d.before (refused_visit c part.arena));
+  },
+)
+count_stopped c p part s counts Memory own served last same parts d = inl refl
+count_stopped c p part s counts r own served last same parts d = absurd d
 
-share_stopped : (c : Caller) (p : Plan) (part s counts : Region) (r : Refusal) (own : List Entry) → part.arena ≡ s.arena
-    → StopsShare c p part counts r own → (r ≡ Memory) ⊎ ((r ≡ Closed) × EndsAs c s counts own)
-share_stopped c p part s counts r own same (uncounted d) = count_stopped c p part s counts r own same d
-share_stopped c p part s counts r own same (unadded ns h) =
+tally_stopped : (c : Caller) (p : Plan) (s counts : Region) (each : ℕ) (r : Refusal) (own : List Entry) → StopsTally c p s counts each r own
+    → (r ≡ Memory) ⊎ ((r ≡ Closed) × EndsAs c s counts own)
+tally_stopped c p s counts each r own (uncounted h) =
+    count_stopped c p (share_of p s each h.number) s counts r own h.served h.last refl h.parts h.uncounted
+tally_stopped c p s counts each r own (unadded ds ns h) =
     let e = add_stopped c counts ns r h.adds h.reads own h.parts h.added in
     inr (e.0, record { arena = counts.arena; either = inr refl; before = e.1.0; last = e.1.1 })
 
--- One that counted all stands before them.
-module _ {p : Plan} {s counts : Region} {more : List Entry} {c : Caller} {cs : List Caller} (mine : HasCounted p s counts more c) where
-  uncounted_later : {r : Refusal} {x : Caller} → IsFirstUncounted p s counts cs more r x → IsFirstUncounted p s counts (c ∷ cs) more r x
-  uncounted_later f = record {
-    before = c ∷ f.before;
-    after = f.after;
-    parts = ap (λ (ys : List Caller). c ∷ ys) f.parts;
-    counted = (mine, f.counted);
-    refused = f.refused;
-  }
+module _ (w : Tallying) (more : List Entry) where
+  -- One that counted all stands before them.
+  stopped_later : {c : Caller} {cs : List Caller} (r : Refusal) → HasCounted w.plan w.segment w.counts w.each more c
+      → HaveStopped w.plan w.segment w.counts w.each cs more r → HaveStopped w.plan w.segment w.counts w.each (c ∷ cs) more r
+  stopped_later {c} {cs} r mine h = ⊎_elim
+      (λ (m : (r ≡ Memory) × ((x : Caller) × IsFirstUncounted w.plan w.segment w.counts w.each cs more Memory x)). inl (m.0, (m.1.0, first_later m.1.1)))
+      (λ (f : (r ≡ Closed) × FoundEitherClosed w.plan w.segment w.counts w.each cs more).
+      let x = f.1 in
+      inr (f.0, record { caller = x.caller; first = first_later x.first; arena = x.arena; either = x.either; before = x.before; last = x.last }))
+      h
+    where
+      first_later : {q : Refusal} {x : Caller} → IsFirstUncounted w.plan w.segment w.counts w.each cs more q x
+          → IsFirstUncounted w.plan w.segment w.counts w.each (c ∷ cs) more q x
+      first_later f = record {
+        before = c ∷ f.before;
+        after = f.after;
+        parts = ap (λ (ys : List Caller). c ∷ ys) f.parts;
+        counted = (mine, f.counted);
+        refused = f.refused;
+      }
 
--- The first of them didn't count all.
-uncounted_here : {p : Plan} {s counts : Region} {more : List Entry} {r : Refusal} (c : Caller) (cs : List Caller) → TalliesShare p s counts more (Err r) c
-    → IsFirstUncounted p s counts (c ∷ cs) more r c
-uncounted_here c cs h = record { before = []; after = cs; parts = refl; counted = tt; refused = h }
-
--- how some of a crew were refused, of whom there are some
-abbrev HaveStopped : Refusal → Plan → Region → Region → List Caller → List Entry → Type 0
-HaveStopped r p s counts cs more =
-    ((r ≡ Memory) × ((c : Caller) × IsFirstUncounted p s counts cs more Memory c)) ⊎ ((r ≡ Closed) × FoundEitherClosed p s counts cs more)
-
-stopped_later : {r : Refusal} {p : Plan} {s counts : Region} {more : List Entry} (c : Caller) (cs : List Caller) → HasCounted p s counts more c
-    → HaveStopped r p s counts cs more → HaveStopped r p s counts (c ∷ cs) more
-stopped_later c cs mine (inl m) = inl (m.0, (m.1.0, uncounted_later mine m.1.1))
-stopped_later c cs mine (inr f) =
-    let x = f.1 in
-    inr (f.0, record { caller = x.caller; first = uncounted_later mine x.first; arena = x.arena; either = x.either; before = x.before; last = x.last })
-
-module _ (w : Tallying) (s : Region) (more : List Entry) (plan : IsPlan w.plan) (tally : IsTally w.plan) (small : s.size ≤ 2 ^ 40) where
-  have_stopped : (from to : ℕ) (cs : List Caller) (ts us : List Tallied) (r : Refusal) → to ≤ s.size / w.plan.size
-      → AreDoneBy (Tallies w) more cs ts us → AreShares w.plan s from ts to → SumsTo us (Err r) → HaveStopped r w.plan s w.counts cs more
-  have_stopped from to [] [] [] r within d h e = absurd e
-  have_stopped from to (c ∷ cs) (t ∷ ts) (u ∷ us) r within d h e =
-      let later = shares_order w.plan s h.0 to ts h.2 in
-      let x = share_within w.plan s from h.0 to t later within h.1 in
-      let run : (y : Result (List ℕ) Refusal) → u.answer ≡ y → TalliesShare w.plan s w.counts more y c = λ y q. record {
-        from = from;
-        to = h.0;
-        order = h.1.order;
-        within = omega (arith, later, within);
-        does = subst (λ (z : Region). DoesTallyShare c w.plan z w.counts y (made_by c more)) h.1.region
-            (subst (λ (z : Result (List ℕ) Refusal). DoesTallyShare c w.plan t.region w.counts z (made_by c more)) q d.0.did);
-      } in
-      ⊎_elim
-      (λ (q : u.answer ≡ Err r).
-      let first : IsFirstUncounted w.plan s w.counts (c ∷ cs) more r c = uncounted_here c cs (run (Err r) q) in
-      ⊎_elim (λ (m : r ≡ Memory). inl (m, (c, subst (λ (z : Refusal). IsFirstUncounted w.plan s w.counts (c ∷ cs) more z c) m first)))
-      (λ (f : (r ≡ Closed) × EndsAs c s w.counts (made_by c more)). inr (
+  -- The first of them was refused.
+  first_stopped : (c : Caller) (cs : List Caller) (r : Refusal) → StopsTally c w.plan w.segment w.counts w.each r (made_by c more)
+      → HaveStopped w.plan w.segment w.counts w.each (c ∷ cs) more r
+  first_stopped c cs r d =
+      let first : IsFirstUncounted w.plan w.segment w.counts w.each (c ∷ cs) more r c =
+      record { before = []; after = cs; parts = refl; counted = tt; refused = d } in
+      ⊎_elim (λ (m : r ≡ Memory). inl (m, (c, subst (λ (x : Refusal). IsFirstUncounted w.plan w.segment w.counts w.each (c ∷ cs) more x c) m first)))
+      (λ (f : (r ≡ Closed) × EndsAs c w.segment w.counts (made_by c more)). inr (
         f.0,
         record {
           caller = c;
-          first = subst (λ (z : Refusal). IsFirstUncounted w.plan s w.counts (c ∷ cs) more z c) f.0 first;
+          first = subst (λ (x : Refusal). IsFirstUncounted w.plan w.segment w.counts w.each (c ∷ cs) more x c) f.0 first;
           arena = f.1.arena;
           either = f.1.either;
           before = f.1.before;
           last = f.1.last;
         },
       ))
-      (share_stopped c w.plan t.region s w.counts r (made_by c more) x.arena
-      (subst (λ (y : Result (List ℕ) Refusal). DoesTallyShare c w.plan t.region w.counts y (made_by c more)) q d.0.did)))
-      (λ (q : (IsCountedShare u × (e.behind ≡ Err r)) ⊎ ((r ≡ Memory) × PassesShare u e.behind)). ⊎_elim
-      (λ (b : IsCountedShare u × (e.behind ≡ Err r)). stopped_later c cs (b.0.0, run (Ok b.0.0) b.0.1)
-      (have_stopped h.0 to cs ts us r within d.1 h.2 (subst (SumsTo us) b.1 e.comes)))
-      (λ (b : (r ≡ Memory) × PassesShare u e.behind).
-      absurd (never_passes w plan tally s from to more c cs t u ts us e.behind small within d h e.comes b.1))
-      q)
-      e.share
-  have_stopped from to cs ts us r within d h e = absurd d
+      (tally_stopped c w.plan w.segment w.counts w.each r (made_by c more) d)
 
-  pub crew_stops : (from to : ℕ) (cs : List Caller) (ts us : List Tallied) (r : Refusal) → to ≤ s.size / w.plan.size
-      → AreDoneBy (Tallies w) more cs ts us → AreShares w.plan s from ts to → SumsTo us (Err r) → IsStop r w.plan s w.counts cs more
-  crew_stops from to cs ts us r within d h e =
-      ⊎_elim (λ (m : (r ≡ Memory) × ((c : Caller) × IsFirstUncounted w.plan s w.counts cs more Memory c)). inl (m.0, inl m.1))
-      (λ (f : (r ≡ Closed) × FoundEitherClosed w.plan s w.counts cs more). inr f) (have_stopped from to cs ts us r within d h e)
+  pub crew_stops : (cs : List Caller) (ts us : List Tallier) (r : Refusal) → AreDoneBy (Tallies w) more cs ts us → end_of us ≡ Err r
+      → HaveStopped w.plan w.segment w.counts w.each cs more r
+  crew_stops [] [] [] r d e = absurd (cc)
+  crew_stops (c ∷ cs) (t ∷ ts) (u ∷ us) r d e =
+      ⊎_elim
+      (λ (mine : u.end ≡ Err r).
+      first_stopped c cs r (subst (λ q. EndsTallying w.jobs c w.plan w.segment w.counts w.each u q (made_by c more)) mine d.0).0)
+      (λ (later : (u.end ≡ Ok tt) × (end_of us ≡ Err r)).
+      let mine = subst (λ q. EndsTallying w.jobs c w.plan w.segment w.counts w.each u q (made_by c more)) later.0 d.0 in
+      stopped_later r (mine.0, (u.counts, mine.1)) (crew_stops cs ts us r d.1 later.1))
+      (either u.end (end_of us) r e)
+    where
+      either : (x behind : Result (Unit {0}) Refusal) (q : Refusal) → or_later x behind ≡ Err q → (x ≡ Err q) ⊎ ((x ≡ Ok tt) × (behind ≡ Err q))
+      either (Ok o) behind q is = inr (refl, is)
+      either (Err o) behind q is = inl is
+  crew_stops cs ts us r d e = absurd d
+
+  -- ---- turns
+
+  ends_taker : (c : Caller) (t : Tallier) (r : Result (Unit {0}) Refusal) (own : List Entry)
+      → EndsTallying w.jobs c w.plan w.segment w.counts w.each t r own → IsTaker w.jobs t.turn
+  ends_taker c t (Ok u) own d = record { is_of = d.2.is_of; role = ap (λ (v : Account). v.role) d.2.is }
+  ends_taker c t (Err r) own d = d.1
+
+  -- All have their turns still.
+  pub are_takers : (cs : List Caller) (ts us : List Tallier) → AreDoneBy (Tallies w) more cs ts us → AllByRecursion (λ t. IsTaker w.jobs t.turn) us
+  are_takers [] [] [] d = tt
+  are_takers (c ∷ cs) (t ∷ ts) (u ∷ us) d = (ends_taker c u u.end (made_by c more) d.0, are_takers cs ts us d.1)
+  are_takers cs ts us d = absurd d
+
+  pub talliers_count : (cs : List Caller) (ts us : List Tallier) → AreDoneBy (Tallies w) more cs ts us → length us ≡ length ts
+  talliers_count [] [] [] d = refl
+  talliers_count (c ∷ cs) (t ∷ ts) (u ∷ us) d = let e = talliers_count cs ts us d.1 in omega (arith, e)
+  talliers_count cs ts us d = absurd d

@@ -1,8 +1,9 @@
 pub mod Adding
 pub mod Asking
 pub mod Counts
-pub mod Shares
 pub mod Printed
 pub mod Query
+pub mod Summing
+pub mod Taking
 pub mod Tallies
 pub mod Tally

@@ -1,7 +1,7 @@
 -- What a query by a crew asks for, and what its caller learns.
 use Rattle.fm_records.specs.Texts.{IsAnswerOf}
 use Rattle.fm_rule_calls.specs.Kept.{Lasts}
-use Rattle.std.specs.Prelude.{◌≡◌, ◌≢◌, ◌⊎◌, ◌+◌, ◌-◌, ◌*◌, ◌/◌, ◌<◌, ◌≤◌, ◌%◌, ℕ, List, ◌∷◌, ◌++◌, length, Result, Ok, Err, IfOk}
+use Rattle.std.specs.Prelude.{◌≡◌, ◌≢◌, ◌⊎◌, ◌+◌, ◌/◌, ◌<◌, ◌≤◌, ◌%◌, ℕ, List, ◌∷◌, ◌++◌, length, Result, Ok, Err, IfOk}
 use Rattle.std.specs.List.{AllByRecursion}
 use Rattle.fm_base.specs.declared.caller.Caller.{Caller}
 use Rattle.fm_base.specs.declared.kind.Kind.TheVariants.{Confined}
@@ -18,7 +18,7 @@ use Rattle.fm_rule_calls.specs.Told.{view_of_pass}
 use Rattle.fm_rule.specs.declared.pool.Pool.{Pool}
 use Rattle.fm_gate.specs.Needs.{IsOutside}
 use Rattle.fm_segment.specs.Access.{IsKnown}
-use Rattle.fm_segment.specs.Region.{Region, part_of}
+use Rattle.fm_segment.specs.Region.{Region}
 use Rattle.fm_records_query.specs.Plan.{Plan}
 use Rattle.fm_records.specs.declared.found.Found.{Found}
 use Rattle.fm_records.specs.Alone.{bytes_at_places}
@@ -28,9 +28,11 @@ use Rattle.fm_records.specs.Few.{AreFew}
 use Rattle.fm_records.specs.Laws.{IsAsked, value_in}
 use Rattle.fm_records.specs.Query.{DoesQuery}
 use Rattle.fm_records.specs.Reads.{AreReads, StopsReading, IsWordOf}
-use Rattle.fm_records.specs.Shares.{Share, AreDone, AreCut, all_joined}
+use Rattle.fm_workers_shares.specs.declared.taker.Done.{Done}
+use Rattle.fm_workers_shares.specs.Answered.{AnsweredBy}
+use Rattle.fm_workers_shares.specs.Shares.{each_of, share_of}
+use Rattle.fm_workers_shares.specs.Taking.{DoesEach}
 use Rattle.fm_workers_crew.specs.Crew.{AreTooMany, CrewGathered, FoundNoNumber, IsWhole, callers}
-use Rattle.fm_workers.specs.Shares.{IsLevel, least_in}
 
 -- outside; the segment is known and its first record aligned; and there are 1 to 16 workers
 pub record CanQueryWith (pool : Pool) (v : View) (p : Plan) (s : Region) (threads : ℕ) : Type 0 where
@@ -45,45 +47,39 @@ pub data OnlyReads (s : Region) (c : Caller) (own : List Entry) : Type 0 where
   reads : AreReads c s own → OnlyReads s c own
   stops : StopsReading c s own → OnlyReads s c own
 
--- the segment was cut into shares, of which none has two records more than another; each was answered by a caller of the crew, and the
--- answers joined
-pub record AnsweredBy (p : Plan) (s : Region) (few : ℕ) (crew : List Caller) (more : List Entry) (a : List Found) : Type 0 where
-  pub shares : List Share
-  pub cut : AreCut p s shares
-  pub level : AllByRecursion (λ w. IsLevel p few w.region) shares
-  pub callers : AllByRecursion (λ w. IsAmong w.caller crew) shares
-  pub done : AreDone p more shares
-  pub joined : a ≡ all_joined p shares
+-- among these entries the caller's are the query over some of the segment's shares, one after the other, and each is answered
+pub record HasAnswered (p : Plan) (s : Region) (each : ℕ) (es : List Entry) (c : Caller) : Type 0 where
+  pub done : List Done
+  pub does : DoesEach p s each c done (made_by c es)
 
--- among these entries the caller's are a query over some of the segment's records, which comes to this
-pub record AsksShare (p : Plan) (s : Region) (es : List Entry) (result : Result (List Found) Refusal) (c : Caller) : Type 0 where
-  pub from : ℕ
-  pub to : ℕ
-  pub order : from ≤ to
-  pub within : to ≤ s.size / p.size
-  pub does : DoesQuery c p (part_of (from * p.size) ((to - from) * p.size) s) result (made_by c es)
+-- each but the last, which is refused so
+pub record IsRefused (p : Plan) (s : Region) (each : ℕ) (es : List Entry) (r : Refusal) (c : Caller) : Type 0 where
+  pub done : List Done
+  pub served : List Entry
+  pub last : List Entry
+  pub parts : made_by c es ≡ served ++ last
+  pub does : DoesEach p s each c done served
+  pub number : ℕ
+  pub refused : DoesQuery c p (share_of p s each number) (Err r) last
 
--- it is answered
-abbrev pub HasAnswered : Plan → Region → List Entry → Caller → Type 0
-HasAnswered p s es c = (a : List Found) × AsksShare p s es (Ok a) c
-
--- the first of the crew, in the order of the draws, that wasn't answered over its share of the records: those before it were
-pub record IsFirstRefused (p : Plan) (s : Region) (crew : List Caller) (more : List Entry) (r : Refusal) (c : Caller) : Type 0 where
+-- the first of the crew, in the order of the draws, that was refused: those before it answered all that they took
+pub record IsFirstRefused (p : Plan) (s : Region) (each : ℕ) (crew : List Caller) (more : List Entry) (r : Refusal) (c : Caller) : Type 0 where
   pub before : List Caller
   pub after : List Caller
   pub parts : crew ≡ before ++ c ∷ after
-  pub answered : AllByRecursion (HasAnswered p s more) before
-  pub refused : AsksShare p s more (Err r) c
+  pub answered : AllByRecursion (HasAnswered p s each more) before
+  pub refused : IsRefused p s each more r c
 
--- the first that wasn't answered found the arena closed
-pub record FoundClosed (p : Plan) (s : Region) (crew : List Caller) (more : List Entry) : Type 0 where
+-- the first that was refused found the arena closed
+pub record FoundClosed (p : Plan) (s : Region) (each : ℕ) (crew : List Caller) (more : List Entry) : Type 0 where
   pub caller : Caller
-  pub first : IsFirstRefused p s crew more Closed caller
+  pub first : IsFirstRefused p s each crew more Closed caller
   pub stops : StopsReading caller s (made_by caller more)
 
--- the first that wasn't answered wanted memory; or all were, if any was drawn, and memory was wanting before that or to join the answers
-abbrev pub WantedMemory : Plan → Region → List Caller → List Entry → Type 0
-WantedMemory p s crew more = ((c : Caller) × IsFirstRefused p s crew more Memory c) ⊎ AllByRecursion (HasAnswered p s more) crew
+-- the first that was refused wanted memory; or none was, if any was drawn, and memory was wanting before that or to join the answers
+abbrev pub WantedMemory : Plan → Region → (each : ℕ) → List Caller → List Entry → Type 0
+WantedMemory p s each crew more =
+    ((c : Caller) × IsFirstRefused p s each crew more Memory c) ⊎ AllByRecursion (HasAnswered p s each more) crew
 
 -- whole records of an arena that isn't confined
 pub record IsOpenToAll (p : Plan) (s : Region) : Type 0 where
@@ -91,14 +87,14 @@ pub record IsOpenToAll (p : Plan) (s : Region) : Type 0 where
   pub shared : s.arena.kind ≢ Confined
 
 -- what comes of it, the refusals in the order of the checks
-abbrev pub EndsQuery : (few : ℕ) → View → View → Plan → Region → List Entry → List Gathered → List Find → Result (List Found) Refusal → Type 0
-EndsQuery few old new p s more crew draws (Ok a) = IsOpenToAll p s × AnsweredBy p s few (callers crew) more a
-EndsQuery few old new p s more crew draws (Err (Ragged rest)) = (rest ≡ s.size % p.size) × (0 < rest) × (new ≡ old)
-EndsQuery few old new p s more crew draws (Err WrongThread) = (s.size % p.size ≡ 0) × (s.arena.kind ≡ Confined) × (new ≡ old)
-EndsQuery few old new p s more crew draws (Err Closed) = IsOpenToAll p s × FoundClosed p s (callers crew) more
-EndsQuery few old new p s more crew draws (Err NoPass) = IsOpenToAll p s × FoundNoNumber old.shape draws
-EndsQuery few old new p s more crew draws (Err Memory) = IsOpenToAll p s × WantedMemory p s (callers crew) more
-EndsQuery few old new p s more crew draws (Err r) = ⊥
+abbrev pub EndsQuery : (each : ℕ) → View → View → Plan → Region → List Entry → List Gathered → List Find → Result (List Found) Refusal → Type 0
+EndsQuery each old new p s more crew draws (Ok a) = IsOpenToAll p s × AnsweredBy p s each (callers crew) more a
+EndsQuery each old new p s more crew draws (Err (Ragged rest)) = (rest ≡ s.size % p.size) × (0 < rest) × (new ≡ old)
+EndsQuery each old new p s more crew draws (Err WrongThread) = (s.size % p.size ≡ 0) × (s.arena.kind ≡ Confined) × (new ≡ old)
+EndsQuery each old new p s more crew draws (Err Closed) = IsOpenToAll p s × FoundClosed p s each (callers crew) more
+EndsQuery each old new p s more crew draws (Err NoPass) = IsOpenToAll p s × FoundNoNumber old.shape draws
+EndsQuery each old new p s more crew draws (Err Memory) = IsOpenToAll p s × WantedMemory p s each (callers crew) more
+EndsQuery each old new p s more crew draws (Err r) = ⊥
 
 -- ---- what the answer is
 
@@ -126,7 +122,7 @@ pub record QueriedWith (threads : ℕ) (old new : View) (p : Plan) (s : Region) 
   pub one_each : length crew.crew ≤ threads
   pub one_less : result ≡ Err NoPass → length crew.crew < threads
   pub visits : AllByRecursion (λ c. OnlyReads s c (made_by c crew.more)) (callers crew.crew)
-  pub ends : EndsQuery (least_in p s threads) old new p s crew.more crew.crew crew.draws result
+  pub ends : EndsQuery (each_of (s.size / p.size) threads) old new p s crew.more crew.crew crew.draws result
   pub value : IfOk result (λ a. NobodyElseWrites s (callers crew.crew) crew.more → IsAnswer old p s (callers crew.crew) crew.more a)
   -- it can be printed, and joined with another such answer
   pub answer : IfOk result (IsAnswerOf p)

@@ -1,5 +1,5 @@
--- What a pass does that counts the numbers of a share, and what the shares' counts come to.
-use Rattle.std.specs.Prelude.{◌≡◌, ◌≢◌, ◌⊎◌, ◌%◌, ℕ, List, [], ◌∷◌, ◌++◌, Result, Ok, Err}
+-- What a pass does that takes shares and counts their numbers.
+use Rattle.std.specs.Prelude.{◌≡◌, ◌≢◌, ◌%◌, ℕ, List, [], ◌∷◌, ◌++◌, ℤ, Result, Ok, Err}
 use Rattle.fm_base.specs.declared.caller.Caller.{Caller}
 use Rattle.fm_base.specs.declared.refusal.Refusal.{Refusal}
 use Rattle.fm_base.specs.declared.kind.Kind.TheVariants.{Confined}
@@ -16,10 +16,17 @@ use Rattle.fm_records.specs.declared.found.Found.{Found}
 use Rattle.fm_records.specs.Learnt.{CanQuery}
 use Rattle.fm_records.specs.Query.{DoesQuery}
 use Rattle.fm_records.specs.Reads.{AreReads, StopsReading}
-use Rattle.fm_workers.specs.declared.share.Share.{Share}
-use Rattle.fm_workers.specs.Shares.{CanAsk}
+use Rattle.fm_workers_jobs.specs.declared.jobs.Jobs.{Jobs}
+use Rattle.fm_workers_jobs.specs.Accounts.{taker}
+use Rattle.fm_workers_jobs.specs.Turns.{HasAccount, IsTaker}
+use Rattle.fm_workers_shares.specs.declared.taker.Done.{Done}
+use Rattle.fm_workers_shares.specs.Shares.{share_of}
+use Rattle.fm_workers_shares.specs.Taking.{CanServe, DoesEach, DoesShare, jobs_of, took}
+use Rattle.fm_workers.specs.declared.tallier.Tallier.{Tallier}
 use Rattle.fm_workers.specs.Adding.{CanAdd, DoesAdd, HasCounts}
-use Rattle.fm_workers.specs.Counts.{AreCounts, AreSums, IsTally, PassSums, listed}
+use Rattle.fm_workers.specs.Counts.{AreCounts, CountsToo, IsTally, listed}
+
+-- ---- the numbers of some records
 
 -- the query lists bytes, and can be asked of whole records that the caller may use
 pub record CanCount (v : memory.View) (p : Plan) (region : Region) : Type 0 where
@@ -41,85 +48,98 @@ DoesCount c p region (Err Closed) own = StopsReading c region own
 DoesCount c p region (Err Memory) own = AreReads c region own
 DoesCount c p region (Err r) own = ⊥
 
--- the share's numbers can be counted, and counts added
-pub record CanTallyShare (v : memory.View) (p : Plan) (region counts : Region) : Type 0 where
-  pub count : CanCount v p region
+-- ---- shares
+
+-- the query lists bytes, and the segment can be asked, by anyone
+pub record CanCountShares (v : memory.View) (p : Plan) (s : Region) : Type 0 where
+  pub tally : IsTally p
+  pub serve : CanServe v p s
+
+-- and counts can be added
+pub record CanTallyShares (v : memory.View) (p : Plan) (s counts : Region) : Type 0 where
+  pub count : CanCountShares v p s
   pub add : CanAdd v counts
 
--- the numbers were counted first, and then it was added how often each comes
-pub record CountsShare (c : Caller) (p : Plan) (region counts : Region) (ns : List ℕ) (end : Result (Unit {0}) Refusal) (own : List Entry) : Type 0 where
+-- a share was answered, and the numbers that were listed are counted too; or not all of them are
+abbrev pub CountsShare : Caller → Plan → Region → (each job : ℕ) → (old new : List ℕ) → Result (Unit {0}) Refusal → List Entry → Type 0
+CountsShare c p s each job old new (Ok u) own = (d : Done) × (d.job ≡ job) × DoesShare p s each c d own × CountsToo (listed d.answer) old new
+CountsShare c p s each job old new (Err r) own = DoesCount c p (share_of p s each job) (Err r) own
+
+-- the numbers that were listed over these shares
+abbrev pub all_numbers : List Done → List ℤ
+all_numbers [] = []
+all_numbers (d ∷ ds) = listed d.answer ++ all_numbers ds
+
+-- these shares were answered, one after the other, and all numbers that were listed were counted
+pub record CountsShares (c : Caller) (p : Plan) (s : Region) (each : ℕ) (ds : List Done) (ns : List ℕ) (own : List Entry) : Type 0 where
+  pub does : DoesEach p s each c ds own
+  pub are : AreCounts (all_numbers ds) ns
+
+-- or shares before one of which not all numbers were counted
+pub record StopsCounting (c : Caller) (p : Plan) (s : Region) (each : ℕ) (r : Refusal) (own : List Entry) : Type 0 where
+  pub done : List Done
+  pub served : List Entry
+  pub last : List Entry
+  pub parts : own ≡ served ++ last
+  pub does : DoesEach p s each c done served
+  pub number : ℕ
+  pub uncounted : DoesCount c p (share_of p s each number) (Err r) last
+
+-- the numbers of these shares were counted first, and then it was added how often each comes
+pub record TalliesShares (c : Caller) (p : Plan) (s counts : Region) (each : ℕ) (ds : List Done) (ns : List ℕ) (end : Result (Unit {0}) Refusal)
+    (own : List Entry) : Type 0 where
   pub reads : List Entry
   pub adds : List Entry
   pub parts : own ≡ reads ++ adds
-  pub counted : CountsAll c p region ns reads
+  pub counted : CountsShares c p s each ds ns reads
   pub added : DoesAdd c counts ns end adds
 
--- not all numbers were counted, or the counts' arena was found closed
-pub data StopsShare (c : Caller) (p : Plan) (region counts : Region) (r : Refusal) (own : List Entry) : Type 0 where
-  uncounted : DoesCount c p region (Err r) own → StopsShare c p region counts r own
-  unadded : (ns : List ℕ) → CountsShare c p region counts ns (Err r) own → StopsShare c p region counts r own
+-- not all numbers of a share were counted, and none was added; or the counts' arena was found closed
+pub data StopsTally (c : Caller) (p : Plan) (s counts : Region) (each : ℕ) (r : Refusal) (own : List Entry) : Type 0 where
+  uncounted : StopsCounting c p s each r own → StopsTally c p s counts each r own
+  unadded : (ds : List Done) (ns : List ℕ) → TalliesShares c p s counts each ds ns (Err r) own → StopsTally c p s counts each r own
 
-abbrev pub DoesTallyShare : Caller → Plan → Region → Region → Result (List ℕ) Refusal → List Entry → Type 0
-DoesTallyShare c p region counts (Ok ns) own = CountsShare c p region counts ns (Ok tt) own
-DoesTallyShare c p region counts (Err r) own = StopsShare c p region counts r own
+-- ---- talliers
+
+-- a tallier that hasn't begun
+pub record IsReady (jobs : Jobs) (t : Tallier) : Type 0 where
+  pub turn : HasAccount jobs t.turn taker
+  pub none : AreCounts [] t.counts
+
+-- it took its stop, and counted what it took; or not all numbers of a share
+abbrev pub CountsTaken : Jobs → Caller → Plan → Region → (each : ℕ) → Tallier → Result (Unit {0}) Refusal → List Entry → Type 0
+CountsTaken jobs c p s each t (Ok u) own = (ds : List Done) × CountsShares c p s each ds t.counts own × HasAccount jobs t.turn (took (jobs_of ds) 1)
+CountsTaken jobs c p s each t (Err r) own = StopsCounting c p s each r own × IsTaker jobs t.turn
+
+-- it took its stop, and counted and added what it took; or it was refused
+abbrev pub EndsTallying : Jobs → Caller → Plan → (s counts : Region) → (each : ℕ) → Tallier → Result (Unit {0}) Refusal → List Entry → Type 0
+EndsTallying jobs c p s counts each t (Ok u) own =
+    (ds : List Done) × TalliesShares c p s counts each ds t.counts (Ok tt) own × HasAccount jobs t.turn (took (jobs_of ds) 1)
+EndsTallying jobs c p s counts each t (Err r) own = StopsTally c p s counts each r own × IsTaker jobs t.turn
 
 -- ---- the work of a crew
 
--- what is asked, and the counts that are shared
+-- the queue, what is asked, of which segment's shares, and the counts that are shared
 pub record Tallying : Type 0 where
+  pub jobs : Jobs
   pub plan : Plan
+  pub segment : Region
+  pub each : ℕ
   pub counts : Region
 
-abbrev pub Tallied : Type 0
-Tallied = Share (List ℕ)
+abbrev pub tallying : Jobs → Plan → Region → ℕ → Region → Tallying
+tallying jobs p s each counts = record { jobs = jobs; plan = p; segment = s; each = each; counts = counts }
 
-pub record CanTally (w : Tallying) (v : View) (t : Tallied) : Type 0 where
+-- the segment and the counts are known to who has seen so much, and anyone may use them; the tallier hasn't begun
+pub record CanTally (w : Tallying) (v : View) (t : Tallier) : Type 0 where
   pub tally : IsTally w.plan
-  pub ask : CanAsk w.plan v t
-  pub whole : t.region.size % w.plan.size ≡ 0
-  pub open_to_all : t.region.arena.kind ≢ Confined
-  pub known : IsKnown (view_of_pass v) w.counts
+  pub known : IsKnown (view_of_pass v) w.segment
+  pub aligned : w.segment.first % w.plan.alignment ≡ 0
+  pub open_to_all : w.segment.arena.kind ≢ Confined
+  pub counts_known : IsKnown (view_of_pass v) w.counts
   pub shared : w.counts.arena.kind ≢ Confined
   pub longs : HasCounts w.counts
+  pub ready : IsReady w.jobs t
 
-pub record Tallies (w : Tallying) (c : Caller) (old new : Tallied) (own : List Entry) : Type 0 where
-  pub same : new.region ≡ old.region
-  pub did : DoesTallyShare c w.plan old.region w.counts new.answer own
-
--- ---- counts of shares
-
-pub record AddsShare (t : Tallied) (behind : Result (List ℕ) Refusal) (ns : List ℕ) : Type 0 where
-  pub first : List ℕ
-  pub rest : List ℕ
-  pub is_first : t.answer ≡ Ok first
-  pub is_rest : behind ≡ Ok rest
-  pub sums : AreSums first rest ns
-
--- a sum of a share's counts and of those behind it passes 64 bits
-pub record PassesShare (t : Tallied) (behind : Result (List ℕ) Refusal) : Type 0 where
-  pub first : List ℕ
-  pub rest : List ℕ
-  pub is_first : t.answer ≡ Ok first
-  pub is_rest : behind ≡ Ok rest
-  pub passes : PassSums first rest
-
--- the share was counted
-abbrev pub IsCountedShare : Tallied → Type 0
-IsCountedShare t = (ns : List ℕ) × (t.answer ≡ Ok ns)
-
--- the counts of a share and of those behind it; or the share is refused so; or it was counted, and those behind it are; or a sum can't be kept
-abbrev pub SumsShare : Tallied → Result (List ℕ) Refusal → Result (List ℕ) Refusal → Type 0
-SumsShare t behind (Ok ns) = AddsShare t behind ns
-SumsShare t behind (Err r) = (t.answer ≡ Err r) ⊎ ((IsCountedShare t × (behind ≡ Err r)) ⊎ ((r ≡ Memory) × PassesShare t behind))
-
--- the same, where B says what those behind it come to
-pub record SumsBefore (t : Tallied) (B : Result (List ℕ) Refusal → Type 0) (result : Result (List ℕ) Refusal) : Type 0 where
-  pub behind : Result (List ℕ) Refusal
-  pub comes : B behind
-  pub share : SumsShare t behind result
-
--- the counts of all shares
-abbrev pub SumsTo : List Tallied → Result (List ℕ) Refusal → Type 0
-SumsTo [] (Ok ns) = AreCounts [] ns
-SumsTo [] (Err r) = ⊥
-SumsTo (t ∷ ts) result = SumsBefore t (SumsTo ts) result
+abbrev pub Tallies : Tallying → Caller → (old new : Tallier) → List Entry → Type 0
+Tallies w c old new own = EndsTallying w.jobs c w.plan w.segment w.counts w.each new new.end own

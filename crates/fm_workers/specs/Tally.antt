@@ -1,6 +1,6 @@
 -- What a tally by a crew asks for, and what its caller learns.
-use Rattle.std.specs.Prelude.{◌≡◌, ◌≢◌, ◌⊎◌, ℕ, ◌-◌, ◌*◌, ◌/◌, ◌<◌, ◌≤◌, ◌%◌, List, [], ◌∷◌, ◌++◌, length, slice_index, ℤ, false, Result, Ok, Err, IfOk}
-use Rattle.std.specs.List.{AllByRecursion}
+use Rattle.std.specs.Prelude.{◌≡◌, ◌≢◌, ◌⊎◌, ℕ, ◌/◌, ◌<◌, ◌≤◌, ◌%◌, List, [], ◌∷◌, ◌++◌, length, slice_index, ℤ, false, Result, Ok, Err, IfOk}
+use Rattle.std.specs.List.{AllByRecursion, AllZip, range_with_len}
 use Rattle.fm_base.specs.declared.arena_id.ArenaId.{ArenaId}
 use Rattle.fm_base.specs.declared.caller.Caller.{Caller}
 use Rattle.fm_base.specs.declared.kind.Kind.TheVariants.{Confined}
@@ -19,19 +19,22 @@ use Rattle.fm_rule_calls.specs.Told.{view_of_pass}
 use Rattle.fm_rule.specs.declared.pool.Pool.{Pool}
 use Rattle.fm_path.specs.Resolution.{Resolution}
 use Rattle.fm_segment.specs.Access.{IsKnown}
-use Rattle.fm_segment.specs.Region.{Region, part_of}
+use Rattle.fm_segment.specs.Region.{Region}
 use Rattle.fm_records_query.specs.Plan.{Plan}
 use Rattle.fm_records.specs.Alone.{bytes_at_places}
 use Rattle.fm_records.specs.Answers.{answer}
 use Rattle.fm_records.specs.Laws.{IsAsked, value_in}
-use Rattle.fm_records.specs.Query.{DoesQuery}
 use Rattle.fm_records.specs.Reads.{IsWordOf}
-use Rattle.fm_records.specs.Shares.{AreCut, Share}
-use Rattle.fm_workers.specs.Adding.{AddsBelow, HasCounts, count_word}
+use Rattle.fm_records.specs.Shares.{AreCut, AreDone, Share}
+use Rattle.fm_workers_jobs.specs.Turns.{times}
+use Rattle.fm_workers_shares.specs.declared.taker.Done.{Done}
+use Rattle.fm_workers_shares.specs.Answered.{AreNumbered, all_of}
+use Rattle.fm_workers_shares.specs.Shares.{each_of, many_of}
+use Rattle.fm_workers_shares.specs.Taking.{jobs_of}
+use Rattle.fm_workers.specs.Adding.{HasCounts, count_word}
 use Rattle.fm_workers.specs.Counts.{AreCounts, IsTally, listed}
 use Rattle.fm_workers_crew.specs.Crew.{AreTooMany, CrewGathered, FoundNoNumber, IsWhole, callers}
-use Rattle.fm_workers.specs.Shares.{IsLevel, least_in}
-use Rattle.fm_workers.specs.Tallies.{DoesTallyShare}
+use Rattle.fm_workers.specs.Tallies.{StopsTally, TalliesShares}
 use Rattle.fm_workers.specs.Query.{CanQueryWith, IsReadByCrew, NobodyElseWrites, OnlyReads}
 
 -- as for a query; the counts are 256 longs that the pass knows, to be written, in another arena
@@ -68,76 +71,66 @@ pub record CanBeTallied (p : Plan) (s counts : Region) : Type 0 where
   pub shared : s.arena.kind ≢ Confined
   pub shared_counts : counts.arena.kind ≢ Confined
 
--- Among these entries are the share's: its caller's Reads, of which the query lists the share's numbers, and behind them the Adds of how
--- often each number came
-pub record IsCounted (p : Plan) (counts : Region) (es : List Entry) (w : Share) : Type 0 where
-  pub reads : List Entry
-  pub adds : List Entry
-  pub parts : made_by w.caller es ≡ reads ++ adds
-  pub does : DoesQuery w.caller p w.region (Ok w.found) reads
-  pub each : List ℕ
-  pub are : AreCounts (listed w.found) each
-  pub added : AddsBelow w.caller counts each 256 adds
+-- among these entries the caller's are the queries over these shares, one after the other, of which each listed numbers, and behind them
+-- the Adds of how often each number came in all of them
+abbrev pub IsCounted : Plan → (s counts : Region) → (each : ℕ) → List Entry → Caller → List Done → Type 0
+IsCounted p s counts each es c ds = (ns : List ℕ) × TalliesShares c p s counts each ds ns (Ok tt) (made_by c es)
 
 -- the numbers that were listed over all shares
 abbrev pub all_listed : List Share → List ℤ
 all_listed [] = []
 all_listed (w ∷ ws) = listed w.found ++ all_listed ws
 
--- The segment was cut into shares, of which none has two records more than another; each was counted by a caller of the crew, and these
--- are the counts of all numbers
-pub record TalliedBy (p : Plan) (s counts : Region) (few : ℕ) (crew : List Caller) (more : List Entry) (ns : List ℕ) : Type 0 where
+-- The segment was cut into shares of so many records; each was answered by a caller of the crew, and these are the counts of all numbers
+pub record TalliedBy (p : Plan) (s counts : Region) (each : ℕ) (crew : List Caller) (more : List Entry) (ns : List ℕ) : Type 0 where
   pub shares : List Share
   pub cut : AreCut p s shares
-  pub level : AllByRecursion (λ w. IsLevel p few w.region) shares
+  pub numbered : AreNumbered p s each 0 shares
   pub callers : AllByRecursion (λ w. IsAmong w.caller crew) shares
-  pub done : AllByRecursion (IsCounted p counts more) shares
+  pub done : AreDone p more shares
   pub are : AreCounts (all_listed shares) ns
+  -- by nothing else: each caller counted the shares that it took and added their counts, and no share was taken twice
+  pub taken : List (List Done)
+  pub by_each : AllZip (IsCounted p s counts each more) crew taken
+  pub once : (number : ℕ) → times number (jobs_of (all_of taken)) ≡ times number (range_with_len 0 (many_of (s.size / p.size) each))
 
--- among these entries the caller's count the numbers of some of the segment's records and add them to the counts, which comes to this
-pub record TalliesShare (p : Plan) (s counts : Region) (es : List Entry) (result : Result (List ℕ) Refusal) (c : Caller) : Type 0 where
-  pub from : ℕ
-  pub to : ℕ
-  pub order : from ≤ to
-  pub within : to ≤ s.size / p.size
-  pub does : DoesTallyShare c p (part_of (from * p.size) ((to - from) * p.size) s) counts result (made_by c es)
+-- it counted all shares that it took, and added their counts
+abbrev pub HasCounted : Plan → (s counts : Region) → (each : ℕ) → List Entry → Caller → Type 0
+HasCounted p s counts each es c = (ds : List Done) × IsCounted p s counts each es c ds
 
--- it counted all of them
-abbrev pub HasCounted : Plan → Region → Region → List Entry → Caller → Type 0
-HasCounted p s counts es c = (ns : List ℕ) × TalliesShare p s counts es (Ok ns) c
-
--- the first of the crew, in the order of the draws, that didn't count all of its share: those before it did
-pub record IsFirstUncounted (p : Plan) (s counts : Region) (crew : List Caller) (more : List Entry) (r : Refusal) (c : Caller) : Type 0 where
+-- the first of the crew, in the order of the draws, that didn't count and add all that it took: those before it did
+pub record IsFirstUncounted (p : Plan) (s counts : Region) (each : ℕ) (crew : List Caller) (more : List Entry) (r : Refusal) (c : Caller)
+    : Type 0 where
   pub before : List Caller
   pub after : List Caller
   pub parts : crew ≡ before ++ c ∷ after
-  pub counted : AllByRecursion (HasCounted p s counts more) before
-  pub refused : TalliesShare p s counts more (Err r) c
+  pub counted : AllByRecursion (HasCounted p s counts each more) before
+  pub refused : StopsTally c p s counts each r (made_by c more)
 
 -- the first that didn't found an arena closed, at its last entry
-pub record FoundEitherClosed (p : Plan) (s counts : Region) (crew : List Caller) (more : List Entry) : Type 0 where
+pub record FoundEitherClosed (p : Plan) (s counts : Region) (each : ℕ) (crew : List Caller) (more : List Entry) : Type 0 where
   pub caller : Caller
-  pub first : IsFirstUncounted p s counts crew more Closed caller
+  pub first : IsFirstUncounted p s counts each crew more Closed caller
   pub arena : ArenaId
   pub either : (arena ≡ s.arena) ⊎ (arena ≡ counts.arena)
   pub before : List Entry
   pub last : made_by caller more ≡ before ++ refused_visit caller arena
 
 -- the first that didn't wanted memory; or nobody was drawn
-abbrev pub WantedMemory : Plan → Region → Region → List Caller → List Entry → Type 0
-WantedMemory p s counts crew more = ((c : Caller) × IsFirstUncounted p s counts crew more Memory c) ⊎ (crew ≡ [])
+abbrev pub WantedMemory : Plan → (s counts : Region) → (each : ℕ) → List Caller → List Entry → Type 0
+WantedMemory p s counts each crew more = ((c : Caller) × IsFirstUncounted p s counts each crew more Memory c) ⊎ (crew ≡ [])
 
 -- what comes of it, the refusals in the order of the checks
-abbrev pub EndsTally : (few : ℕ) → View → View → Plan → Region → Region → List Entry → List Gathered → List Find → Result (List ℕ) Refusal → Type 0
-EndsTally few old new p s counts more crew draws (Ok ns) = CanBeTallied p s counts × TalliedBy p s counts few (callers crew) more ns
-EndsTally few old new p s counts more crew draws (Err Unsupported) = ¬ (IsTally p) × (new ≡ old)
-EndsTally few old new p s counts more crew draws (Err (Ragged rest)) = IsTally p × (rest ≡ s.size % p.size) × (0 < rest) × (new ≡ old)
-EndsTally few old new p s counts more crew draws (Err WrongThread) =
+abbrev pub EndsTally : (each : ℕ) → View → View → Plan → Region → Region → List Entry → List Gathered → List Find → Result (List ℕ) Refusal → Type 0
+EndsTally each old new p s counts more crew draws (Ok ns) = CanBeTallied p s counts × TalliedBy p s counts each (callers crew) more ns
+EndsTally each old new p s counts more crew draws (Err Unsupported) = ¬ (IsTally p) × (new ≡ old)
+EndsTally each old new p s counts more crew draws (Err (Ragged rest)) = IsTally p × (rest ≡ s.size % p.size) × (0 < rest) × (new ≡ old)
+EndsTally each old new p s counts more crew draws (Err WrongThread) =
     IsTally p × (s.size % p.size ≡ 0) × ((s.arena.kind ≡ Confined) ⊎ (counts.arena.kind ≡ Confined)) × (new ≡ old)
-EndsTally few old new p s counts more crew draws (Err Closed) = CanBeTallied p s counts × FoundEitherClosed p s counts (callers crew) more
-EndsTally few old new p s counts more crew draws (Err NoPass) = CanBeTallied p s counts × FoundNoNumber old.shape draws
-EndsTally few old new p s counts more crew draws (Err Memory) = CanBeTallied p s counts × WantedMemory p s counts (callers crew) more
-EndsTally few old new p s counts more crew draws (Err r) = ⊥
+EndsTally each old new p s counts more crew draws (Err Closed) = CanBeTallied p s counts × FoundEitherClosed p s counts each (callers crew) more
+EndsTally each old new p s counts more crew draws (Err NoPass) = CanBeTallied p s counts × FoundNoNumber old.shape draws
+EndsTally each old new p s counts more crew draws (Err Memory) = CanBeTallied p s counts × WantedMemory p s counts each (callers crew) more
+EndsTally each old new p s counts more crew draws (Err r) = ⊥
 
 -- ---- the numbers
 
@@ -172,7 +165,7 @@ pub record TalliedWith (threads : ℕ) (old new : View) (p : Plan) (s counts : R
   pub one_each : length crew.crew ≤ threads
   pub one_less : result ≡ Err NoPass → length crew.crew < threads
   pub visits : AllByRecursion (λ c. OnlyTallies s counts c (made_by c crew.more)) (callers crew.crew)
-  pub ends : EndsTally (least_in p s threads) old new p s counts crew.more crew.crew crew.draws result
+  pub ends : EndsTally (each_of (s.size / p.size) threads) old new p s counts crew.more crew.crew crew.draws result
   pub value : IfOk result (AreTheCounts old p s (callers crew.crew) crew.more)
   pub read : IfOk result (λ _. AreAllRead old p s (callers crew.crew) crew.more)
   pub held : IfOk result (AreHeld old new counts (callers crew.crew) crew.more)

@@ -1,50 +1,24 @@
 ghost use Rattle.std.specs.Prelude.{◌≡◌, ◌≤◌, ◌<◌, ◌*◌, ◌⊎◌, None};
 ghost use Rattle.fm_base.specs.View.{Did};
 ghost use Rattle.fm_workers.specs.Counts.{CountsToo, HasRoomFor, listed, numbers_listed};
-ghost use Rattle.fm_workers.specs.Tallies.{CanCount, CanTallyShare, DoesCount, DoesTallyShare};
+ghost use Rattle.fm_workers.specs.Tallies.{CanCount, DoesCount};
 
-use crate::adding::add_counts;
 use crate::counts::Counts;
-use crate::cutting::records_of;
 use fm_base::{Memory, Refusal};
 use fm_records::{Answer, Found, Numbers, query_segment};
 use fm_records_query::Query;
 use fm_segment::Segment;
+use fm_workers_shares::records_of;
 use std::alloc::Global;
 
 /// How many bytes of records are listed at once, unless one record has more.
 const LISTED_AT_ONCE: u64 = 65536;
 
-/// How often the numbers come that a query lists over a region, also added to the shared counts.
-///
-/// Refused: as the query, before anything is added; `Closed` where the counts' arena is.
-pub(crate) fn count_region<M: Memory>(
-    alloc: Global,
-    m: &mut M,
-    q: &Query,
-    region: &Segment,
-    shared: &Segment,
-) -> Result<Counts, Refusal>
-    requires { CanTallyShare (M.view m.old) q.now region.now shared.now }
-    ensures did { Did (M.view m.old) (M.view m.new)
-        (DoesTallyShare (M.view m.old).caller q.now region.now shared.now result) }
-    ensures outside { (M.view m.new).inside ≡ None }
-{
-    let counts = match count_records(alloc, m, q, region) {
-        Ok(counts) => counts,
-        Err(refusal) => return Err(refusal),
-    };
-    match add_counts(m, shared, &counts) {
-        Ok(()) => Ok(counts),
-        Err(refusal) => Err(refusal),
-    }
-}
-
 /// How often the numbers come that a query lists over a region's records. Those of some records are listed and counted
 /// before the next are read, so that a list doesn't grow with the region.
 ///
 /// Refused: `Closed` or `Memory`.
-fn count_records<M: Memory>(
+pub(crate) fn count_records<M: Memory>(
     alloc: Global,
     m: &mut M,
     q: &Query,

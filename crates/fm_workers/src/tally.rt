@@ -3,67 +3,83 @@ ghost use Rattle.fm_gate.specs.Needs.{IsOutside};
 ghost use Rattle.fm_workers.specs.Counts.{IsTally, IsByteKind, ListsBytes};
 ghost use Rattle.fm_workers.specs.Tally.{CanTallyWith, TalliedWith};
 
-use crate::counting::count_region;
 use crate::counts::Counts;
-use crate::cutting::cut;
-use crate::share::Share;
 use crate::summing::total_of;
+use crate::tallier::Tallier;
+use crate::tally_batch::TallyBatch;
+use crate::tallying::tally_shares;
 use fm_arena::Shared;
 use fm_base::Refusal;
-use fm_io::Gate;
+use fm_io::{FreeGate, Gate};
 use fm_lanes::ValueKind;
 use fm_records_query::{Asked, Fold, Query};
 use fm_rule::{Pass, Pool};
 use fm_segment::Segment;
 use fm_workers_crew::{Work, work_crew};
+use fm_workers_jobs::Jobs;
+use fm_workers_shares::{AtGate, count_shares, records_each};
 use std::alloc::Global;
-use std::marker::Model;
 use std::sync::Wait;
 use std::thread::Threads;
 
-/// What a crew counts: the numbers of a query that lists bytes, into counts that all passes share.
+/// What a crew counts: the numbers that a query lists over shares of a segment, into counts that all passes share.
 #[derive(Drop)]
-struct Tally<'a> {
+struct Tally<'a, R, G> {
+    rt: &'a R,
+    gate: &'a G,
+    jobs: &'a Jobs,
     query: &'a Query,
+    segment: Segment,
+    /// How many records a share has.
+    each: u64,
     counts: Segment,
 }
 
-impl<'a> Model for Tally<'a> {
-    ghost use Rattle.fm_workers.specs.Tallies.{Tallying};
-
-    ghost Value = { Tallying };
-
-    ghost view = { λ t. record { plan = t.query.now; counts = t.counts } };
-}
-
-/// Each pass counts the numbers of its share, and adds them to the shared counts.
-impl<'a> Work<Share<Counts>> for Tally<'a> {
-    ghost use Rattle.fm_workers.specs.Tallies.{CanTally, Tallies};
-    ghost use Rattle.fm_workers.specs.Asking.{can_tally_later};
+/// Each pass takes shares up to its stop and counts their numbers, and then adds its counts to the shared ones.
+impl<'a, R: Wait + Sync, G: Gate> Work<Tallier> for Tally<'a, R, G> {
     ghost use Rattle.fm_workers_crew.specs.Crew.{by_caller};
+    ghost use Rattle.fm_workers.specs.Asking.{can_tally_later};
+    ghost use Rattle.fm_workers.specs.Tallies.{CanTally, Tallies, tallying};
 
-    ghost can = { CanTally };
+    ghost can = { λ w. CanTally (tallying w.jobs.now w.query.now w.segment w.each w.counts) };
 
-    ghost does = { λ w. by_caller (Tallies w) };
+    ghost does = { λ w. by_caller (Tallies (tallying w.jobs.now w.query.now w.segment w.each w.counts)) };
 
-    fn work(&self, alloc: Global, memory: &mut Shared, task: &mut Share<Counts>) {
-        task.answer = count_region(alloc, memory, self.query, &task.region, &self.counts);
+    fn work(&self, alloc: Global, memory: &mut Shared, tallier: &mut Tallier) {
+        let calls = AtGate {
+            gate: self.gate,
+            number: tallier.number,
+        };
+        tally_shares(
+            self.rt,
+            alloc,
+            &calls,
+            self.jobs,
+            memory,
+            self.query,
+            &self.segment,
+            self.each,
+            &self.counts,
+            tallier,
+        );
     }
 
-    ghost stays = { can_tally_later };
+    ghost stays = { λ w. can_tally_later (tallying w.jobs.now w.query.now w.segment w.each w.counts) };
 }
 
 /// How often each number comes that a query lists over the records of a segment, by so many passes that are drawn for
-/// it, each over a share of the records, in a thread of its own where one can be started. The query lists one path, of
-/// bytes or booleans. Each pass adds what it counted to `counts`, 256 longs that all of them share: the count of a
-/// number below 0 stands 256 places further on. The passes are gathered again, after a refusal too; they make all
-/// accesses, each a visit with one Read or one Add.
+/// it, each in a thread of its own where one can be started. The query lists one path, of bytes or booleans. The records
+/// are cut into at most four shares a pass, and the passes take them from one queue, each share once. Where it is left
+/// with none, each pass adds what it counted to `counts`, 256 longs that all of them share: the count of a number below 0
+/// stands 256 places further on. The passes are gathered again, after a refusal too; they make all accesses, each a visit
+/// with one Read or one Add. Workers are numbered from 1 in the order of the draws. Each share that a worker takes is a
+/// call of the gate, counted from 0 for each worker.
 ///
 /// Refused, in this order: `Unsupported`, where the query doesn't list just one path of bytes or booleans; `Ragged`
 /// with the number of bytes behind the last whole record; `WrongThread`, exactly where one of the arenas is confined;
 /// `Memory`, or `NoPass` where a draw finds no free number, or no draw can be counted any more; then `Closed` or
-/// `Memory`, as the pass of the first share was that was refused. What `counts` then holds is open. Numbers that were
-/// drawn are free again, but those of their last term.
+/// `Memory`, as the first pass was, in the order of the draws, that was refused at a share or an Add. What `counts` then
+/// holds is open. Numbers that were drawn are free again, but those of their last term.
 pub fn tally_with<R: Threads + Wait + Sync, G: Gate>(
     rt: &R,
     alloc: Global,
@@ -92,16 +108,28 @@ pub fn tally_with<R: Threads + Wait + Sync, G: Gate>(
     if counts.arena().is_confined() {
         return Err(Refusal::WrongThread);
     }
-    let mut shares = match cut(alloc, q, s, threads) {
-        Ok(shares) => shares,
+    let count = s.size() / q.record_size();
+    let each = records_each(count, threads);
+    let batch = match TallyBatch::new(rt, alloc, count_shares(count, threads), threads) {
+        Ok(batch) => batch,
         Err(refusal) => return Err(refusal),
     };
+    let TallyBatch {
+        jobs,
+        giver,
+        mut talliers,
+    } = batch;
     let work = Tally {
+        rt,
+        gate,
+        jobs: &jobs,
         query: q,
+        segment: *s,
+        each,
         counts: *counts,
     };
-    match work_crew(rt, alloc, pool, pass, &work, &mut shares, gate) {
-        Ok(()) => total_of(shares.as_slice()),
+    match work_crew(rt, alloc, pool, pass, &work, &mut talliers, &FreeGate) {
+        Ok(()) => total_of(&jobs, giver, talliers),
         Err(refusal) => Err(refusal),
     }
 }

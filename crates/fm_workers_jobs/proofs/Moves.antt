@@ -12,16 +12,13 @@ use Rattle.fm_workers_jobs.specs.declared.item.Item.{Item}
 use Rattle.fm_workers_jobs.specs.declared.item.Item.TheVariants.{Job, Stop}
 use Rattle.fm_workers_jobs.specs.Accounts.{giver, taker, spent, after_push, after_pop, after_turn, after_absorb}
 use Rattle.fm_workers_jobs.specs.Items.{jobs_in, stops_in, AreLined}
-use Rattle.fm_workers_jobs.specs.Rule.{gives, takes, PushedNothing, TookNothing, Fits, Knows, IsFair, AtMostPushed, AddsUp}
+use Rattle.fm_workers_jobs.specs.Rule.{gives, takes, PushedNothing, TookNothing, Fits, Each, Knows, IsFair, AtMostPushed, AddsUp}
 use Rattle.fm_workers_jobs.specs.Turns.{MayFollow}
 use Rattle.fm_workers_jobs.proofs.Items.{jobs_in-job, jobs_in-stop, stops_in-job, stops_in-stop, lined_job, lined_stop, length-items, length-jobs}
 use Rattle.fm_workers_jobs.proofs.Places.{each_set, each_snoc, each_one, at_other}
 use Rattle.fm_workers_jobs.proofs.Sums.{sum_by-set, own-le-sum_by, sum_by-own, sum_by-both}
 
 -- ---- roles
-
-gives_as : (r s : Role) → r ≡ s → gives r ≡ gives s
-gives_as r s e = ap gives e
 
 -- who isn't the giver pushed nothing
 not_giver : (role : Role) (v : Account) → gives role ≡ 0 → Fits role v → PushedNothing v
@@ -106,6 +103,37 @@ begins = record {
   done = each_one (Knows []) giver (λ some_stop. refl);
 }
 
+-- A turn went on, as whose it was, and with as many turns out: the items make up for what it pushed and took.
+one_changed : (items later : List Item) (turns : List Account) (place : ℕ) (v w : Account) → IsFair items turns → get_elem? turns place ≡ some v
+    → w.role ≡ v.role → w.out ≡ v.out → Fits w.role w
+    → ((weight : ℕ → ℕ) → sum_by weight w.pushed + sum_by weight v.taken + sum_by weight (jobs_in items)
+    ≡ sum_by weight v.pushed + sum_by weight w.taken + sum_by weight (jobs_in later))
+    → w.stops + v.ended + stops_in items ≡ v.stops + w.ended + stops_in later → AreLined later → Knows later w → Each (Knows later) turns
+    → IsFair later (set turns place w)
+one_changed items later turns place v w fair at role out fits jobs stops lined mine others = record {
+  giver =
+      let s = sum_by-set (λ u. gives u.role) turns place v w at in
+      let same = ap gives role in
+      let g = fair.giver in omega arith;
+  takers =
+      let s = sum_by-set (λ u. takes u.role) turns place v w at in
+      let t = sum_by-set (λ u. u.out) turns place v w at in
+      let same = ap takes role in
+      let f = fair.takers in omega arith;
+  roles = each_set (λ u. Fits u.role u) turns place w fits fair.roles;
+  jobs = λ weight.
+      let s = sum_by-set (λ u. sum_by weight u.pushed) turns place v w at in
+      let t = sum_by-set (λ u. sum_by weight u.taken) turns place v w at in
+      let f = fair.jobs weight in
+      let change = jobs weight in omega arith;
+  stops =
+      let s = sum_by-set (λ u. u.stops) turns place v w at in
+      let t = sum_by-set (λ u. u.ended) turns place v w at in
+      let f = fair.stops in omega arith;
+  lined = lined;
+  done = each_set (Knows later) turns place w mine others;
+}
+
 -- The giver pushes a job, where it pushed no stop.
 pub pushes_job : (n place : ℕ) (v : Account) (job : ℕ) → v.role ≡ Giver → v.stops ≡ 0
     → Pushes IsFair n place v (Job job) (λ w. w ≡ after_push v (Job job))
@@ -117,27 +145,11 @@ pushes_job n place v job role unstopped items turns room fair at =
     let none_ended : (u : Account) (j : ℕ) → get_elem? turns j ≡ some u → u.ended ≡ 0 = λ u j e.
     let le = own-le-sum_by (λ y. y.ended) turns j u e in omega arith in (
       w,
-      record {
-        giver = let s = sum_by-set (λ u. gives u.role) turns place v w at in let g = fair.giver in omega arith;
-        takers =
-            let s = sum_by-set (λ u. takes u.role) turns place v w at in
-            let t = sum_by-set (λ u. u.out) turns place v w at in
-            let f = fair.takers in omega arith;
-        roles = each_set (λ u. Fits u.role u) turns place w (fits_as Giver w role tt) fair.roles;
-        jobs = λ weight.
-            let s = sum_by-set (λ u. sum_by weight u.pushed) turns place v w at in
-            let t = sum_by-set (λ u. sum_by weight u.taken) turns place v w at in
-            let f = fair.jobs weight in
-            let more = ap (sum_by weight) (jobs_in-job items job) in
-            omega (arith, sum_by_push weight v.pushed job, sum_by_push weight (jobs_in items) job);
-        stops =
-            let s = sum_by-set (λ u. u.stops) turns place v w at in
-            let t = sum_by-set (λ u. u.ended) turns place v w at in
-            omega (arith, stops_in-job items job);
-        lined = lined_job items job none_left;
-        done = each_set (Knows (items ++ Job job ∷ [])) turns place w (λ ended. let z = none_ended v place at in absurd (omega arith))
-            (λ j u e ended. let z = none_ended u j e in absurd (omega arith));
-      },
+      one_changed items (items ++ Job job ∷ []) turns place v w fair at refl refl (fits_as Giver w role tt)
+          (λ weight. let more = ap (sum_by weight) (jobs_in-job items job) in
+          omega (arith, sum_by_push weight v.pushed job, sum_by_push weight (jobs_in items) job))
+          (omega (arith, stops_in-job items job)) (lined_job items job none_left)
+          (λ ended. let z = none_ended v place at in absurd (omega arith)) (λ j u e ended. let z = none_ended u j e in absurd (omega arith)),
       refl,
     )
 
@@ -146,28 +158,10 @@ pub pushes_stop : (n place : ℕ) (v : Account) → v.role ≡ Giver → Pushes 
 pushes_stop n place v role items turns room fair at =
     let w = after_push v Stop in (
       w,
-      record {
-        giver = let s = sum_by-set (λ u. gives u.role) turns place v w at in let g = fair.giver in omega arith;
-        takers =
-            let s = sum_by-set (λ u. takes u.role) turns place v w at in
-            let t = sum_by-set (λ u. u.out) turns place v w at in
-            let f = fair.takers in omega arith;
-        roles = each_set (λ u. Fits u.role u) turns place w (fits_as Giver w role tt) fair.roles;
-        jobs = λ weight.
-            let s = sum_by-set (λ u. sum_by weight u.pushed) turns place v w at in
-            let t = sum_by-set (λ u. sum_by weight u.taken) turns place v w at in
-            let f = fair.jobs weight in
-            let same = ap (sum_by weight) (jobs_in-stop items) in
-            omega arith;
-        stops =
-            let s = sum_by-set (λ u. u.stops) turns place v w at in
-            let t = sum_by-set (λ u. u.ended) turns place v w at in
-            let f = fair.stops in
-            omega (arith, stops_in-stop items);
-        lined = lined_stop items fair.lined;
-        done = each_set (Knows (items ++ Stop ∷ [])) turns place w (λ ended. jobs_in-stop items ∙ fair.done place v at ended)
-            (λ j u e ended. jobs_in-stop items ∙ fair.done j u e ended);
-      },
+      one_changed items (items ++ Stop ∷ []) turns place v w fair at refl refl (fits_as Giver w role tt)
+          (λ weight. let same = ap (sum_by weight) (jobs_in-stop items) in omega arith) (omega (arith, stops_in-stop items))
+          (lined_stop items fair.lined) (λ ended. jobs_in-stop items ∙ fair.done place v at ended)
+          (λ j u e ended. jobs_in-stop items ∙ fair.done j u e ended),
       refl,
     )
 
@@ -177,59 +171,31 @@ pub pushes : (n place : ℕ) (v : Account) (item : Item) → v.role ≡ Giver �
 pushes n place v (Job job) role follows = pushes_job n place v job role follows
 pushes n place v Stop role follows = pushes_stop n place v role
 
+-- What a taker takes leaves it as fit.
+fits_popped : (v : Account) (item : Item) → v.role ≡ Taker → Fits v.role v → Fits v.role (after_pop v item)
+fits_popped v (Job job) role fits =
+    let none = subst (λ r. Fits r v) role fits in
+    subst (λ r. Fits r (after_pop v (Job job))) (sym role) (record { out = none.out; pushed = none.pushed; stops = none.stops })
+fits_popped v Stop role fits =
+    let none = subst (λ r. Fits r v) role fits in
+    subst (λ r. Fits r (after_pop v Stop)) (sym role) (record { out = none.out; pushed = none.pushed; stops = none.stops })
+
 -- A taker takes a job.
 takes_job : (place : ℕ) (v : Account) (job : ℕ) (items : List Item) (turns : List Account) → v.role ≡ Taker → IsFair (Job job ∷ items) turns
     → get_elem? turns place ≡ some v → IsFair items (set turns place (after_pop v (Job job)))
 takes_job place v job items turns role fair at =
-    let w = after_pop v (Job job) in
-    let nothing : PushedNothing v = subst (λ r. Fits r v) role (fair.roles place v at) in
-    record {
-      giver = let s = sum_by-set (λ u. gives u.role) turns place v w at in let g = fair.giver in omega arith;
-      takers =
-          let s = sum_by-set (λ u. takes u.role) turns place v w at in
-          let t = sum_by-set (λ u. u.out) turns place v w at in
-          let f = fair.takers in omega arith;
-      roles = each_set (λ u. Fits u.role u) turns place w
-          (fits_as Taker w role (record { out = nothing.out; pushed = nothing.pushed; stops = nothing.stops })) fair.roles;
-      jobs = λ weight.
-          let s = sum_by-set (λ u. sum_by weight u.pushed) turns place v w at in
-          let t = sum_by-set (λ u. sum_by weight u.taken) turns place v w at in
-          let f = fair.jobs weight in
-          omega (arith, sum_by_push weight v.taken job, sum_by-cons weight job (jobs_in items));
-      stops =
-          let s = sum_by-set (λ u. u.stops) turns place v w at in
-          let t = sum_by-set (λ u. u.ended) turns place v w at in
-          let f = fair.stops in omega arith;
-      lined = fair.lined;
-      done = each_set (Knows items) turns place w (λ ended. let no = ap length (fair.done place v at ended) in absurd (omega arith))
-          (λ j u e ended. let no = ap length (fair.done j u e ended) in absurd (omega arith));
-    }
+    one_changed (Job job ∷ items) items turns place v (after_pop v (Job job)) fair at refl refl
+    (fits_popped v (Job job) role (fair.roles place v at))
+    (λ weight. omega (arith, sum_by_push weight v.taken job, sum_by-cons weight job (jobs_in items))) (omega arith) fair.lined
+    (λ ended. let no = ap length (fair.done place v at ended) in absurd (omega arith))
+    (λ j u e ended. let no = ap length (fair.done j u e ended) in absurd (omega arith))
 
 -- A taker takes a stop: no job is behind it.
 takes_stop : (place : ℕ) (v : Account) (items : List Item) (turns : List Account) → v.role ≡ Taker → IsFair (Stop ∷ items) turns
     → get_elem? turns place ≡ some v → IsFair items (set turns place (after_pop v Stop))
 takes_stop place v items turns role fair at =
-    let w = after_pop v Stop in
-    let nothing : PushedNothing v = subst (λ r. Fits r v) role (fair.roles place v at) in
-    record {
-      giver = let s = sum_by-set (λ u. gives u.role) turns place v w at in let g = fair.giver in omega arith;
-      takers =
-          let s = sum_by-set (λ u. takes u.role) turns place v w at in
-          let t = sum_by-set (λ u. u.out) turns place v w at in
-          let f = fair.takers in omega arith;
-      roles = each_set (λ u. Fits u.role u) turns place w
-          (fits_as Taker w role (record { out = nothing.out; pushed = nothing.pushed; stops = nothing.stops })) fair.roles;
-      jobs = λ weight.
-          let s = sum_by-set (λ u. sum_by weight u.pushed) turns place v w at in
-          let t = sum_by-set (λ u. sum_by weight u.taken) turns place v w at in
-          let f = fair.jobs weight in omega arith;
-      stops =
-          let s = sum_by-set (λ u. u.stops) turns place v w at in
-          let t = sum_by-set (λ u. u.ended) turns place v w at in
-          let f = fair.stops in omega arith;
-      lined = all_stops items fair.lined;
-      done = each_set (Knows items) turns place w (λ ended. fair.lined) (λ j u e ended. fair.lined);
-    }
+    one_changed (Stop ∷ items) items turns place v (after_pop v Stop) fair at refl refl (fits_popped v Stop role (fair.roles place v at))
+    (λ weight. omega arith) (omega arith) (all_stops items fair.lined) (λ ended. fair.lined) (λ j u e ended. fair.lined)
   where
     all_stops : (xs : List Item) → jobs_in xs ≡ [] → AreLined xs
     all_stops [] none = tt

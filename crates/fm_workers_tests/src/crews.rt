@@ -4,6 +4,7 @@ mod gates;
 mod tallies;
 
 ghost use Rattle.std.specs.Prelude.{◌≡◌, ◌<◌, ◌≤◌, ◌≢◌, []};
+ghost use Rattle.fm_rule_calls.specs.Kept.{Lasts};
 ghost use Rattle.fm_rule_calls.specs.Told.{view_of_pass};
 ghost use Rattle.fm_gate.specs.Needs.{IsInside, IsOutside};
 ghost use Rattle.fm_rule_facts.specs.Views.{given_of, span, IsKnown as HasArena};
@@ -27,19 +28,21 @@ use std::sync::Wait;
 use std::test::Fail;
 use std::thread::Threads;
 
-/// A pool of so many passes, whose arenas have eight words each.
-fn made<R: Abort + AllocGlobal>(rt: &R, passes: u32) -> (Pool, Pass)
+/// A pool of so many passes, whose arenas have so many words each.
+fn made<R: Abort + AllocGlobal>(rt: &R, passes: u32, words: u32) -> (Pool, Pass)
     requires some { 0 < passes }
     requires few { passes < 65 }
+    requires some_words { 0 < words }
+    requires few_words { words ≤ 16384 }
     ensures outside { IsOutside result.0 result.1 }
     ensures no_page { result.1.pages ≡ [] }
-    ensures wide { span result.0.shape ≡ 8 }
+    ensures wide { span result.0.shape ≡ words }
 {
     let shape = Shape {
         passes,
         slots: 2,
         pages: 2,
-        page_words: 8,
+        page_words: words,
         reach: 1,
         generations: 1,
     };
@@ -70,6 +73,23 @@ fn write(pool: &Pool, pass: &mut Pass, a: ArenaId, word: u64, v: u64)
     ensures pages { pass.new.pages ≡ pass.old.pages }
 {
     store(pool, pass, word, v);
+}
+
+/// So many bytes at the front of a fresh arena.
+fn fresh<R: Abort + Wait>(rt: &R, pool: &Pool, pass: &mut Pass, kind: Kind, size: u64) -> Segment
+    requires outside { IsOutside pool.now pass.old }
+    requires no_page { pass.old.pages ≡ [] }
+    requires few { size ≤ 131072 }
+    ensures outside { IsOutside pool.now pass.new }
+    ensures no_page { pass.new.pages ≡ [] }
+    ensures lasts { Lasts pass.old pass.new }
+    ensures known { IsKnown (view_of_pass pass.new) result }
+    ensures first { result.first ≡ 0 }
+    ensures size { result.size ≡ size }
+{
+    let a = open_arena(rt, pool, pass, kind).expect(rt, "a slot");
+    assert_eq!(rt; allocate(rt, pool, pass, a, size, 8), Ok(0));
+    Segment::of(a, 0, size)
 }
 
 /// A segment of those records, in a fresh arena.
@@ -140,7 +160,7 @@ const ANSWER: &[u8] = b"count 5\nsum(.amount) 26\nlist(.id) 1 3 5 6 8\n";
 #[test]
 fn answers_are_the_same_for_each_count_of_threads(rt: HostRuntime) -> Result<(), Fail> {
     let q = query(rt.alloc())?;
-    let (pool, mut pass) = made(&rt, 17);
+    let (pool, mut pass) = made(&rt, 17, 8);
     let s = stocked(&rt, &pool, &mut pass, Kind::Shared);
     let by_one = asked(&rt, &pool, &mut pass, &q, &s, 1, &FreeGate);
     assert_eq!(rt; by_one.as_deref(), Ok(ANSWER));
@@ -157,7 +177,7 @@ fn answers_are_the_same_for_each_count_of_threads(rt: HostRuntime) -> Result<(),
 #[test]
 fn sixteen_passes_answer_over_no_records(rt: HostRuntime) -> Result<(), Fail> {
     let q = query(rt.alloc())?;
-    let (pool, mut pass) = made(&rt, 17);
+    let (pool, mut pass) = made(&rt, 17, 8);
     let none = stocked(&rt, &pool, &mut pass, Kind::Shared)
         .as_slice(64, 0)
         .expect(&rt, "no bytes");
@@ -170,14 +190,10 @@ fn sixteen_passes_answer_over_no_records(rt: HostRuntime) -> Result<(), Fail> {
 }
 
 #[test]
-fn queries_are_refused(rt: HostRuntime) -> Result<(), Fail> {
+fn ragged_records_are_not_asked(rt: HostRuntime) -> Result<(), Fail> {
     let q = query(rt.alloc())?;
-    let (pool, mut pass) = made(&rt, 4);
+    let (pool, mut pass) = made(&rt, 3, 8);
     let s = stocked(&rt, &pool, &mut pass, Kind::Shared);
-    assert_eq!(rt;
-        asked(&rt, &pool, &mut pass, &q, &s, 4, &FreeGate),
-        Err(Refusal::NoPass)
-    );
     let ragged = s.as_slice(0, 20).expect(&rt, "two records and a half");
     assert_eq!(rt;
         asked(&rt, &pool, &mut pass, &q, &ragged, 2, &FreeGate),
@@ -190,7 +206,7 @@ fn queries_are_refused(rt: HostRuntime) -> Result<(), Fail> {
 #[test]
 fn a_confined_arena_is_not_asked(rt: HostRuntime) -> Result<(), Fail> {
     let q = query(rt.alloc())?;
-    let (pool, mut pass) = made(&rt, 3);
+    let (pool, mut pass) = made(&rt, 3, 8);
     let s = stocked(&rt, &pool, &mut pass, Kind::Confined);
     assert_eq!(rt;
         asked(&rt, &pool, &mut pass, &q, &s, 2, &FreeGate),
@@ -202,7 +218,7 @@ fn a_confined_arena_is_not_asked(rt: HostRuntime) -> Result<(), Fail> {
 #[test]
 fn a_closed_arena_is_not_asked(rt: HostRuntime) -> Result<(), Fail> {
     let q = query(rt.alloc())?;
-    let (pool, mut pass) = made(&rt, 3);
+    let (pool, mut pass) = made(&rt, 3, 8);
     let s = stocked(&rt, &pool, &mut pass, Kind::Shared);
     assert_eq!(rt; close(&rt, &pool, &mut pass, s.arena()), Ok(()));
     assert_eq!(rt;

@@ -1,18 +1,17 @@
-ghost use Rattle.std.specs.Prelude.{◌≡◌, ◌≤◌, ◌*◌, length, true, None};
+ghost use Rattle.std.specs.Prelude.{◌≡◌, ◌≤◌, true, None};
 ghost use Rattle.fm_records.specs.Joined.{CanJoin, CanJoinFound};
 ghost use Rattle.fm_segment.specs.Access.{IsKnown};
 
 use crate::printed::printed;
-use crate::records::{order, two_orders};
-use fm_base::{Kind, Memory, Refusal};
-use fm_lanes::{Value, ValueKind};
+use crate::records::{longs, order, two_orders};
+use fm_base::{Memory, Refusal};
+use fm_lanes::ValueKind;
 use fm_layout::Layout;
 use fm_mono::Mono;
 use fm_records::{Found, Numbers, Query, check_record, of_no_records, parse_query, query_segment};
 use fm_segment::Segment;
 use std::alloc::{AllocGlobal, Global};
 use std::process::Abort;
-use std::sync::Wait;
 use std::test::Fail;
 
 /// The query of this text over orders.
@@ -24,28 +23,6 @@ fn query(alloc: Global, text: &str) -> Result<Query, Fail> {
 fn over(alloc: Global, text: &str, layout: &Layout) -> Result<Query, Fail> {
     check_record(layout)?;
     Ok(parse_query(alloc, text, layout)?)
-}
-
-/// A segment of a fresh shared arena with these longs.
-fn longs<R: Abort + Wait, M: Memory>(rt: &R, m: &mut M, numbers: &[i64]) -> Segment
-    requires few { length numbers.now ≤ 8 }
-    requires outside { (M.view m.old).inside ≡ None }
-    ensures outside { (M.view m.new).inside ≡ None }
-    ensures known { IsKnown (M.view m.new) result }
-    ensures size { result.size ≡ 8 * length numbers.now }
-{
-    let arena = m.open_arena(rt, Kind::Shared).expect(rt, "an arena");
-    let size = 8 * numbers.len() as u64;
-    let first = m.allocate(rt, arena, size, 8).expect(rt, "the longs");
-    let s = Segment::of(arena, first, size);
-    let long = Layout::value(ValueKind::Long);
-    for k in 0..numbers.len() {
-        assert_eq!(rt;
-            s.set(rt, m, &long, 8 * k as u64, Value::Long(numbers[k])),
-            Ok(())
-        );
-    }
-    s
 }
 
 /// Whether the answers' counts and sums together are within 64 and 128 bits.

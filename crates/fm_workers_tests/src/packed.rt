@@ -1,9 +1,9 @@
 ghost use Rattle.std.specs.Prelude.{◌≡◌, None};
 ghost use Rattle.fm_segment.specs.Access.{IsKnown};
 
-use crate::records::asked;
-use fm_base::{Kind, Memory};
-use fm_lanes::{Order, Value, ValueKind};
+use crate::records::{asked, longs};
+use fm_base::Memory;
+use fm_lanes::{Order, ValueKind};
 use fm_layout::Layout;
 use fm_mono::Mono;
 use fm_segment::Segment;
@@ -28,23 +28,23 @@ fn packed(alloc: Global) -> Result<Layout, Fail> {
     Ok(Layout::structure(members)?)
 }
 
-/// The words of six such records, by their offset: byte k of them is (89 k + 37) mod 251, and the bytes behind byte 113 are 0.
-const WORDS: [(u64, i64); 15] = [
-    (0, -7041967844349215195),
-    (8, 8438829142999193079),
-    (16, 5543532280003505358),
-    (24, 2577585193642361765),
-    (32, -748648784871565956),
-    (40, -3714595871232709549),
-    (48, -6680266980158831830),
-    (56, 8800530007189576193),
-    (64, 5905233144193888723),
-    (72, 2939286057832745130),
-    (80, -386947920681182591),
-    (88, -3352895007042326184),
-    (96, -6318566115968448465),
-    (104, 9162230871379959558),
-    (112, 14040),
+/// The words of six such records: byte k of them is (89 k + 37) mod 251, and the bytes behind byte 113 are 0.
+const WORDS: [i64; 15] = [
+    -7041967844349215195,
+    8438829142999193079,
+    5543532280003505358,
+    2577585193642361765,
+    -748648784871565956,
+    -3714595871232709549,
+    -6680266980158831830,
+    8800530007189576193,
+    5905233144193888723,
+    2939286057832745130,
+    -386947920681182591,
+    -3352895007042326184,
+    -6318566115968448465,
+    9162230871379959558,
+    14040,
 ];
 
 /// What queries answer over them, by another program.
@@ -75,14 +75,7 @@ fn six_records<R: Abort + Wait, M: Memory>(rt: &R, m: &mut M) -> Segment
     ensures known { IsKnown (M.view m.new) result }
     ensures size { result.size ≡ 120 }
 {
-    let arena = m.open_arena(rt, Kind::Shared).expect(rt, "an arena");
-    let first = m.allocate(rt, arena, 120, 8).expect(rt, "six records");
-    let s = Segment::of(arena, first, 120);
-    let word = Layout::value(ValueKind::Long);
-    for (at, n) in WORDS.iter() {
-        assert_eq!(rt; s.set(rt, m, &word, *at, Value::Long(*n)), Ok(()));
-    }
-    s
+    longs(rt, m, &WORDS)
 }
 
 #[test]

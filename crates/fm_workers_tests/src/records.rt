@@ -1,4 +1,4 @@
-ghost use Rattle.std.specs.Prelude.{◌≡◌, None};
+ghost use Rattle.std.specs.Prelude.{◌≡◌, ◌≤◌, ◌*◌, length, None};
 ghost use Rattle.fm_segment.specs.Access.{IsKnown};
 
 use crate::printed::printed;
@@ -47,15 +47,37 @@ pub(crate) fn asked<R: Abort, M: Memory>(
     printed(alloc, &query, &answer)
 }
 
-/// The words of two orders, by their offset: 01000000 0200 0000 fa00000000000000 01020304 00000000, and
+/// A segment of a fresh shared arena with these longs.
+pub(crate) fn longs<R: Abort + Wait, M: Memory>(rt: &R, m: &mut M, numbers: &[i64]) -> Segment
+    requires few { length numbers.now ≤ 16 }
+    requires outside { (M.view m.old).inside ≡ None }
+    ensures outside { (M.view m.new).inside ≡ None }
+    ensures known { IsKnown (M.view m.new) result }
+    ensures size { result.size ≡ 8 * length numbers.now }
+{
+    let arena = m.open_arena(rt, Kind::Shared).expect(rt, "an arena");
+    let size = 8 * numbers.len() as u64;
+    let first = m.allocate(rt, arena, size, 8).expect(rt, "the longs");
+    let s = Segment::of(arena, first, size);
+    let long = Layout::value(ValueKind::Long);
+    for k in 0..numbers.len() {
+        assert_eq!(rt;
+            s.set(rt, m, &long, 8 * k as u64, Value::Long(numbers[k])),
+            Ok(())
+        );
+    }
+    s
+}
+
+/// The words of two orders: 01000000 0200 0000 fa00000000000000 01020304 00000000, and
 /// 02000000 0300 0000 d8ffffffffffffff 050000ff 00000000.
-const WORDS: [(u64, i64); 6] = [
-    (0, 0x0000_0002_0000_0001),
-    (8, 0xfa),
-    (16, 0x0403_0201),
-    (24, 0x0000_0003_0000_0002),
-    (32, -40),
-    (40, 0xff00_0005),
+const WORDS: [i64; 6] = [
+    0x0000_0002_0000_0001,
+    0xfa,
+    0x0403_0201,
+    0x0000_0003_0000_0002,
+    -40,
+    0xff00_0005,
 ];
 
 /// A segment of a fresh shared arena with those two records.
@@ -65,14 +87,7 @@ pub(crate) fn two_orders<R: Abort + Wait, M: Memory>(rt: &R, m: &mut M) -> Segme
     ensures known { IsKnown (M.view m.new) result }
     ensures size { result.size ≡ 48 }
 {
-    let arena = m.open_arena(rt, Kind::Shared).expect(rt, "an arena");
-    let first = m.allocate(rt, arena, 48, 8).expect(rt, "two records");
-    let s = Segment::of(arena, first, 48);
-    let word = Layout::value(ValueKind::Long);
-    for (at, n) in WORDS.iter() {
-        assert_eq!(rt; s.set(rt, m, &word, *at, Value::Long(*n)), Ok(()));
-    }
-    s
+    longs(rt, m, &WORDS)
 }
 
 /// Queries over those two orders, and what they answer.

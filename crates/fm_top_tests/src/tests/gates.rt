@@ -11,12 +11,13 @@ use std::sync::Wait;
 use std::test::Fail;
 use std::thread::Threads;
 
-/// Rows, and behind `by` a line for each worker that passed the gate: `+` before and `-` after the call of this number. The
-/// two queries of `demo` are calls of two crews, and where nothing is asked of records nobody passes.
+/// Rows, and behind `by` a line for each worker that passed the gate: `+` before and `-` after the call of this number.
+/// Which of several workers takes which share isn't fixed, so there is one here, and a call for each share, at most four.
+/// The two queries of `demo` are calls of two crews, and where nothing is asked of records nobody passes.
 const PASSED: &str = "\
-query --threads 2 L1 count R1 -> 0 count 2| by 1: +0 -0|2: +0 -0|
-tally --threads 2 L1 .tags[0] R1 -> 0 1 1|5 1|total 2| by 1: +0 -0|2: +0 -0|
-demo --threads 2 3 -> 0 count 3|sum(.amount) -126243|min(.amount) -50000|max(.amount) -34162|count 0|sum(.id) 0| by 1: +0 -0 +0 -0|2: +0 -0 +0 -0|
+query --threads 1 L1 count R1 -> 0 count 2| by 1: +0 -0 +1 -1|
+tally --threads 1 L1 .tags[0] R1 -> 0 1 1|5 1|total 2| by 1: +0 -0 +1 -1|
+demo --threads 1 3 -> 0 count 3|sum(.amount) -126243|min(.amount) -50000|max(.amount) -34162|count 0|sum(.id) 0| by 1: +0 -0 +1 -1 +2 -2 +0 -0 +1 -1 +2 -2|
 query L1 count Ragged -> 6 ragged 1|
 layout nofile -> 2 missing nofile|";
 

@@ -1,9 +1,9 @@
-ghost use Rattle.std.specs.Prelude.{◌≡◌};
+ghost use Rattle.std.specs.Prelude.{◌<◌, ◌≤◌};
 ghost use Rattle.fm_rule_calls.specs.Told.{view_of_pass};
 ghost use Rattle.fm_gate.specs.Needs.{IsOutside};
 ghost use Rattle.fm_segment.specs.Access.{IsKnown};
 
-use super::tallies::{held, made_wide, query_of, tallied, zeros};
+use super::tallies::{held, query_of, tallied, zeros};
 use super::{ANSWER, asked, made, query, stocked};
 use fm_base::{Kind, Refusal};
 use fm_io::FreeGate;
@@ -17,64 +17,37 @@ use std::sync::Wait;
 use std::test::Fail;
 use std::thread::Threads;
 
-/// So many queries, one after the other, each by one drawn pass.
+/// So many times over one pool, a query by a crew of one pass, by one of two, and so on up to so many.
 fn ask_often<R: Abort + AllocGlobal + Threads + Wait + Sync>(
     rt: &R,
-    pool: &Pool,
-    pass: &mut Pass,
-    q: &Query,
-    s: &Segment,
     times: u32,
-)
-    requires outside { IsOutside pool.now pass.old }
-    requires known { IsKnown (view_of_pass pass.old) s.now }
-    ensures outside { IsOutside pool.now pass.new }
+    most: u32,
+) -> Result<(), Fail>
+    requires some { 0 < most }
+    requires few { most ≤ 16 }
 {
+    let q = query(rt.alloc())?;
+    let (pool, mut pass) = made(rt, most + 1, 8);
+    let s = stocked(rt, &pool, &mut pass, Kind::Shared);
     for _turn in 0..times {
-        let answer = asked(rt, pool, pass, q, s, 1, &FreeGate);
-        assert_eq!(rt; answer.as_deref(), Ok(ANSWER));
+        for threads in 1..most + 1 {
+            let answer = asked(rt, &pool, &mut pass, &q, &s, threads, &FreeGate);
+            assert_eq!(rt; answer.as_deref(), Ok(ANSWER));
+        }
     }
+    assert_eq!(rt; pool.whole(&mut pass), true);
+    Ok(())
 }
 
 /// Each draws the one number that there is beside the first, with its next term.
 #[test]
 fn queries_follow_each_other_on_two_passes(rt: HostRuntime) -> Result<(), Fail> {
-    let q = query(rt.alloc())?;
-    let (pool, mut pass) = made(&rt, 2);
-    let s = stocked(&rt, &pool, &mut pass, Kind::Shared);
-    ask_often(&rt, &pool, &mut pass, &q, &s, 10_000);
-    assert_eq!(rt; pool.whole(&mut pass), true);
-    Ok(())
-}
-
-/// Crews of 1 to 16, one after the other.
-fn ask_by_more<R: Abort + AllocGlobal + Threads + Wait + Sync>(
-    rt: &R,
-    pool: &Pool,
-    pass: &mut Pass,
-    q: &Query,
-    s: &Segment,
-)
-    requires outside { IsOutside pool.now pass.old }
-    requires known { IsKnown (view_of_pass pass.old) s.now }
-    ensures outside { IsOutside pool.now pass.new }
-    ensures known { IsKnown (view_of_pass pass.new) s.now }
-{
-    for threads in 1u32..17 {
-        let answer = asked(rt, pool, pass, q, s, threads, &FreeGate);
-        assert_eq!(rt; answer.as_deref(), Ok(ANSWER));
-    }
+    ask_often(&rt, 10_000, 1)
 }
 
 #[test]
 fn crews_of_each_size_follow_each_other(rt: HostRuntime) -> Result<(), Fail> {
-    let q = query(rt.alloc())?;
-    let (pool, mut pass) = made(&rt, 17);
-    let s = stocked(&rt, &pool, &mut pass, Kind::Shared);
-    ask_by_more(&rt, &pool, &mut pass, &q, &s);
-    ask_by_more(&rt, &pool, &mut pass, &q, &s);
-    assert_eq!(rt; pool.whole(&mut pass), true);
-    Ok(())
+    ask_often(&rt, 2, 16)
 }
 
 /// While a pass is drawn beside it, a crew of three finds no number in a pool of four. Then the pass is gathered.
@@ -99,7 +72,7 @@ fn ask_beside<R: Abort + AllocGlobal + Threads + Wait + Sync>(
 #[test]
 fn a_crew_may_have_what_numbers_are_free(rt: HostRuntime) -> Result<(), Fail> {
     let q = query(rt.alloc())?;
-    let (pool, mut pass) = made(&rt, 4);
+    let (pool, mut pass) = made(&rt, 4, 8);
     let s = stocked(&rt, &pool, &mut pass, Kind::Shared);
     assert_eq!(rt;
         asked(&rt, &pool, &mut pass, &q, &s, 4, &FreeGate),
@@ -117,7 +90,7 @@ fn a_crew_may_have_what_numbers_are_free(rt: HostRuntime) -> Result<(), Fail> {
 #[test]
 fn tallies_follow_each_other(rt: HostRuntime) -> Result<(), Fail> {
     let q = query_of(rt.alloc(), ValueKind::Byte, "list([])")?;
-    let (pool, mut pass) = made_wide(&rt, 3);
+    let (pool, mut pass) = made(&rt, 3, 256);
     let s = stocked(&rt, &pool, &mut pass, Kind::Shared);
     let shared = zeros(&rt, &pool, &mut pass, Kind::Shared, &s);
     let first = tallied(&rt, &pool, &mut pass, &q, &s, &shared, 2, &FreeGate).expect(&rt, "counts");

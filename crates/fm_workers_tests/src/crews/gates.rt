@@ -3,7 +3,7 @@ ghost use Rattle.fm_rule_calls.specs.Told.{view_of_pass};
 ghost use Rattle.fm_gate.specs.Needs.{IsOutside};
 ghost use Rattle.fm_segment.specs.Access.{IsKnown};
 
-use super::tallies::{made_wide, query_of, tallied, zeros};
+use super::tallies::{query_of, tallied, zeros};
 use super::{ANSWER, asked, made, query, stocked};
 use fm_base::Kind;
 use fm_gate::{enter, leave, store};
@@ -23,7 +23,7 @@ fn two_workers_meet(rt: HostRuntime) -> Result<(), Fail> {
     let q = query(rt.alloc())?;
     for order in [Order::Together, Order::FirstLast, Order::SecondLast] {
         let gate = Meeting::of(order);
-        let (pool, mut pass) = made(&rt, 3);
+        let (pool, mut pass) = made(&rt, 3, 8);
         let s = stocked(&rt, &pool, &mut pass, Kind::Shared);
         let answer = asked(&rt, &pool, &mut pass, &q, &s, 2, &gate);
         assert_eq!(rt; answer.as_deref(), Ok(ANSWER));
@@ -38,7 +38,7 @@ fn two_workers_meet_at_a_tally(rt: HostRuntime) -> Result<(), Fail> {
     let q = query_of(rt.alloc(), ValueKind::Byte, "list([])")?;
     for order in [Order::Together, Order::FirstLast, Order::SecondLast] {
         let gate = Meeting::of(order);
-        let (pool, mut pass) = made_wide(&rt, 3);
+        let (pool, mut pass) = made(&rt, 3, 256);
         let s = stocked(&rt, &pool, &mut pass, Kind::Shared);
         let shared = zeros(&rt, &pool, &mut pass, Kind::Shared, &s);
         let counts = tallied(&rt, &pool, &mut pass, &q, &s, &shared, 2, &gate).expect(
@@ -51,18 +51,18 @@ fn two_workers_meet_at_a_tally(rt: HostRuntime) -> Result<(), Fail> {
     Ok(())
 }
 
-/// Each of three workers has one call, between the gate's.
-const EACH_ONCE: &str = "1: +0 -0\n2: +0 -0\n3: +0 -0\n";
+/// Four shares, all of one worker.
+const FOUR_CALLS: &str = "1: +0 -0 +1 -1 +2 -2 +3 -3\n";
 
 #[test]
 fn each_share_is_one_call(rt: HostRuntime) -> Result<(), Fail> {
     let q = query(rt.alloc())?;
     let gate = Recording::new(rt.alloc())?;
-    let (pool, mut pass) = made(&rt, 4);
+    let (pool, mut pass) = made(&rt, 2, 8);
     let s = stocked(&rt, &pool, &mut pass, Kind::Shared);
-    let answer = asked(&rt, &pool, &mut pass, &q, &s, 3, &gate);
+    let answer = asked(&rt, &pool, &mut pass, &q, &s, 1, &gate);
     assert_eq!(rt; answer.as_deref(), Ok(ANSWER));
-    assert_eq!(rt; gate.text(rt.alloc())?.as_str(), EACH_ONCE);
+    assert_eq!(rt; gate.text(rt.alloc())?.as_str(), FOUR_CALLS);
     Ok(())
 }
 
@@ -70,12 +70,12 @@ fn each_share_is_one_call(rt: HostRuntime) -> Result<(), Fail> {
 fn each_share_of_a_tally_is_one_call(rt: HostRuntime) -> Result<(), Fail> {
     let q = query_of(rt.alloc(), ValueKind::Byte, "list([])")?;
     let gate = Recording::new(rt.alloc())?;
-    let (pool, mut pass) = made_wide(&rt, 4);
+    let (pool, mut pass) = made(&rt, 2, 256);
     let s = stocked(&rt, &pool, &mut pass, Kind::Shared);
     let shared = zeros(&rt, &pool, &mut pass, Kind::Shared, &s);
-    let counts = tallied(&rt, &pool, &mut pass, &q, &s, &shared, 3, &gate).expect(&rt, "counts");
+    let counts = tallied(&rt, &pool, &mut pass, &q, &s, &shared, 1, &gate).expect(&rt, "counts");
     assert_eq!(rt; counts.at(0), 43);
-    assert_eq!(rt; gate.text(rt.alloc())?.as_str(), EACH_ONCE);
+    assert_eq!(rt; gate.text(rt.alloc())?.as_str(), FOUR_CALLS);
     Ok(())
 }
 
@@ -110,7 +110,7 @@ fn change<R: Abort + Wait>(rt: &R, pool: &Pool, pass: &mut Pass, s: &Segment, ga
 fn a_share_is_read_before_the_gate_is_left(rt: HostRuntime) -> Result<(), Fail> {
     let q = query(rt.alloc())?;
     let gate = Meeting::of(Order::SecondNext);
-    let (pool, mut pass) = made(&rt, 3);
+    let (pool, mut pass) = made(&rt, 3, 8);
     let s = stocked(&rt, &pool, &mut pass, Kind::Shared);
     let mut other = drawn(&rt, &pool, &mut pass, &s);
     let (answer, ()) = join_mut(

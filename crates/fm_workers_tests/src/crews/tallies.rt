@@ -3,41 +3,22 @@ ghost use Rattle.fm_rule_calls.specs.Told.{view_of_pass};
 ghost use Rattle.fm_gate.specs.Needs.{IsOutside};
 ghost use Rattle.fm_segment.specs.Access.{IsKnown};
 
-use super::stocked;
+use super::{fresh, made, stocked};
 use fm_base::{Kind, Refusal};
 use fm_close::close;
-use fm_gate::{allocate, enter, leave, load, open_arena};
+use fm_gate::{enter, leave, load};
 use fm_io::{FreeGate, Gate};
 use fm_lanes::ValueKind;
 use fm_layout::Layout;
 use fm_records::{Query, check_record, parse_query};
 use fm_rule::{Pass, Pool};
 use fm_segment::Segment;
-use fm_words::Shape;
 use fm_workers::{Counts, print_counts, tally_with};
 use std::alloc::{AllocGlobal, Global};
 use std::process::Abort;
 use std::sync::Wait;
 use std::test::Fail;
 use std::thread::Threads;
-
-/// A pool of so many passes, and arenas of 256 words.
-pub(crate) fn made_wide<R: Abort + AllocGlobal>(rt: &R, passes: u32) -> (Pool, Pass)
-    requires some { 0 < passes }
-    requires few { passes < 65 }
-    ensures outside { IsOutside result.0 result.1 }
-    ensures no_page { result.1.pages ≡ [] }
-{
-    let shape = Shape {
-        passes,
-        slots: 2,
-        pages: 2,
-        page_words: 256,
-        reach: 1,
-        generations: 1,
-    };
-    Pool::make(rt.alloc(), shape).expect(rt, "words")
-}
 
 /// Zeros for 256 counts, in a fresh arena beside that of a segment.
 pub(crate) fn zeros<R: Abort + Wait>(
@@ -56,9 +37,7 @@ pub(crate) fn zeros<R: Abort + Wait>(
     ensures first { result.first ≡ 0 }
     ensures size { result.size ≡ 2048 }
 {
-    let a = open_arena(rt, pool, pass, kind).expect(rt, "a slot");
-    assert_eq!(rt; allocate(rt, pool, pass, a, 2048, 8), Ok(0));
-    Segment::of(a, 0, 2048)
+    fresh(rt, pool, pass, kind, 2048)
 }
 
 /// A query over records of eight bytes, or booleans.
@@ -122,7 +101,7 @@ const COUNTED: &str = "-8 1\n-1 7\n0 43\n1 1\n2 2\n3 2\n4 1\n5 2\n6 1\n7 2\n8 1\
 #[test]
 fn two_passes_count_bytes(rt: HostRuntime) -> Result<(), Fail> {
     let q = query_of(rt.alloc(), ValueKind::Byte, "list([])")?;
-    let (pool, mut pass) = made_wide(&rt, 3);
+    let (pool, mut pass) = made(&rt, 3, 256);
     let s = stocked(&rt, &pool, &mut pass, Kind::Shared);
     let shared = zeros(&rt, &pool, &mut pass, Kind::Shared, &s);
     let counts = tallied(&rt, &pool, &mut pass, &q, &s, &shared, 2, &FreeGate).expect(
@@ -137,7 +116,7 @@ fn two_passes_count_bytes(rt: HostRuntime) -> Result<(), Fail> {
 #[test]
 fn sixteen_passes_count_booleans(rt: HostRuntime) -> Result<(), Fail> {
     let q = query_of(rt.alloc(), ValueKind::Boolean, "list([])")?;
-    let (pool, mut pass) = made_wide(&rt, 17);
+    let (pool, mut pass) = made(&rt, 17, 256);
     let s = stocked(&rt, &pool, &mut pass, Kind::Shared);
     let shared = zeros(&rt, &pool, &mut pass, Kind::Shared, &s);
     let counts = tallied(&rt, &pool, &mut pass, &q, &s, &shared, 16, &FreeGate).expect(
@@ -153,7 +132,7 @@ fn sixteen_passes_count_booleans(rt: HostRuntime) -> Result<(), Fail> {
 #[test]
 fn tallies_are_refused(rt: HostRuntime) -> Result<(), Fail> {
     let q = query_of(rt.alloc(), ValueKind::Byte, "list([])")?;
-    let (pool, mut pass) = made_wide(&rt, 4);
+    let (pool, mut pass) = made(&rt, 4, 256);
     let s = stocked(&rt, &pool, &mut pass, Kind::Shared);
     let shared = zeros(&rt, &pool, &mut pass, Kind::Shared, &s);
     let refused = tallied(&rt, &pool, &mut pass, &q, &s, &shared, 4, &FreeGate);
@@ -170,7 +149,7 @@ fn tallies_are_refused(rt: HostRuntime) -> Result<(), Fail> {
 #[test]
 fn closed_counts_are_not_added_to(rt: HostRuntime) -> Result<(), Fail> {
     let q = query_of(rt.alloc(), ValueKind::Byte, "list([])")?;
-    let (pool, mut pass) = made_wide(&rt, 3);
+    let (pool, mut pass) = made(&rt, 3, 256);
     let s = stocked(&rt, &pool, &mut pass, Kind::Shared);
     let shared = zeros(&rt, &pool, &mut pass, Kind::Shared, &s);
     assert_eq!(rt; close(&rt, &pool, &mut pass, shared.arena()), Ok(()));
@@ -182,7 +161,7 @@ fn closed_counts_are_not_added_to(rt: HostRuntime) -> Result<(), Fail> {
 #[test]
 fn confined_counts_are_not_added_to(rt: HostRuntime) -> Result<(), Fail> {
     let q = query_of(rt.alloc(), ValueKind::Byte, "list([])")?;
-    let (pool, mut pass) = made_wide(&rt, 3);
+    let (pool, mut pass) = made(&rt, 3, 256);
     let s = stocked(&rt, &pool, &mut pass, Kind::Shared);
     let own = zeros(&rt, &pool, &mut pass, Kind::Confined, &s);
     let refused = tallied(&rt, &pool, &mut pass, &q, &s, &own, 2, &FreeGate);

@@ -1,14 +1,12 @@
 use Rattle.std.proofs.Common.{◌≡◌, ◌%◌, ◌/◌, arith, refl, sym, ap, ◌∙◌, subst, inr, Err}
-use Rattle.std.proofs.lemmas.List.Elements.{All-from_recursion}
 use Rattle.fm_base.specs.declared.arena_id.ArenaId.{ArenaId}
 use Rattle.fm_base.specs.declared.refusal.Refusal.{Refusal}
 use Rattle.fm_base.specs.declared.refusal.Refusal.TheVariants.{Memory, Ragged, WrongThread}
-use Rattle.fm_workers_crew.specs.Crew.{callers}
-use Rattle.fm_workers.specs.Shares.{Answers, CanAsk}
+use Rattle.fm_workers_shares.specs.Batches.{IsBegun}
+use Rattle.fm_workers_shares.specs.Shares.{each_of, many_of}
 use Rattle.fm_workers.specs.Query.{QueriedWith}
-use Rattle.fm_workers_crew.proofs.Callers.{worked_by_callers}
-use Rattle.fm_workers.proofs.Asked.{answers_few, bytes_small, can_ask_shares, shares_same}
-use Rattle.fm_workers.proofs.Queried.{even_of, open_to_all, queried, queried_none, queried_refused}
+use Rattle.fm_workers.specs.Taking.{CanTakeBatch}
+use Rattle.fm_workers.proofs.Queried.{even_of, open_to_all, queried_none}
 use Rattle.fm_workers.proofs.query.query_with.Goals as goal
 
 pub returns-then-rest-ne0-clause-queried : goal.returns-then-rest-ne0-clause-queried
@@ -30,36 +28,26 @@ returns-in-Err-clause-queried g c =
     subst (λ (r : Refusal). QueriedWith c.args.threads c.args.pass.now c.args.pass.now c.args.q.now c.args.s.now (Err r)) (sym c.in-Err.ensures.memory)
     (queried_none c.args.pass.now c.args.q.now c.args.s.now c.args.threads Memory tt c.requires.known (shared, inr tt))
 
-pub work_crew-requires-clause-can : goal.work_crew-requires-clause-can
-work_crew-requires-clause-can g c κs within =
-    All-from_recursion (CanAsk c.args.q.now c.args.pass.now) c.in-Ok.shares.items
-    (can_ask_shares c.args.q.now c.args.pass.now c.args.s.now 0 (c.args.s.now.size / c.args.q.now.size) c.in-Ok.shares.items c.record_size.ensures.plan
-    c.requires.known c.requires.aligned (omega arith) c.in-Ok.ensures.cut)
-
-pub join_shares-requires-clause-few : goal.join_shares-requires-clause-few
-join_shares-requires-clause-few g c =
-    let w = c.in-Ok-work_crew.ensures.worked in
-    answers_few c.args.q.now w.crew.more (callers w.crew.crew) c.in-Ok.shares.items c.work_crew.new.tasks.items (worked_by_callers (Answers c.args.q.now) w)
-
-pub join_shares-requires-clause-small : goal.join_shares-requires-clause-small
-join_shares-requires-clause-small g c =
-    let w = c.in-Ok-work_crew.ensures.worked in
-    let shares = shares_same c.args.q.now c.args.s.now 0 (c.args.s.now.size / c.args.q.now.size) w.crew.more (callers w.crew.crew) c.in-Ok.shares.items
-    c.work_crew.new.tasks.items (worked_by_callers (Answers c.args.q.now) w) c.in-Ok.ensures.cut in
-    bytes_small c.args.q.now c.args.s.now c.work_crew.new.tasks.items shares c.size.ensures.ends
-
-pub returns-in-Ok-work_crew-clause-queried : goal.returns-in-Ok-work_crew-clause-queried
-returns-in-Ok-work_crew-clause-queried g c =
-    let w = c.in-Ok-work_crew.ensures.worked in
+pub take_batch-requires-after_bounds : goal.take_batch-requires-after_bounds
+take_batch-requires-after_bounds g c κs within =
     let shared = open_to_all c.args.q.now c.args.s.now c.size.result c.record_size.result c.arena.result c.size.ensures.size c.record_size.ensures.size
     c.if-rest-ne0.false c.arena.ensures (c.is_confined.ensures.no c.if-is_confined.false) in
-    let shares = shares_same c.args.q.now c.args.s.now 0 (c.args.s.now.size / c.args.q.now.size) w.crew.more (callers w.crew.crew) c.in-Ok.shares.items
-    c.work_crew.new.tasks.items (worked_by_callers (Answers c.args.q.now) w) c.in-Ok.ensures.cut in
-    queried w c.record_size.ensures.plan c.in-Ok.ensures.cut c.in-Ok.ensures.level c.in-Ok.ensures.count shared c.requires.known c.join_shares.result
-    c.join_shares.ensures.comes c.join_shares.ensures.few shares
+    let count : c.size-2.result / c.record_size-2.result ≡ c.args.s.now.size / c.args.q.now.size =
+    (λ i. c.size-2.ensures.size i / c.record_size-2.ensures.size i) in
+    let many : c.count_shares.result ≡ many_of (c.args.s.now.size / c.args.q.now.size) c.records_each-each.result =
+    c.count_shares.ensures.many ∙ (λ i. many_of (count i) (sym c.records_each-each.ensures.each i)) in
+    subst (λ n. CanTakeBatch c.args.pool.now c.args.pass.now c.args.q.now c.args.s.now n c.records_each-each.result c.in-Ok.batch)
+    (sym c.in-Ok.ensures.begun.count) (record {
+      query = c.requires;
+      open_to_all = shared;
+      plan = c.record_size.ensures.plan;
+      small = (let ends = c.size.ensures.ends in omega (arith, ends));
+      cut = c.records_each-each.ensures.each ∙ ap (λ n. each_of n c.args.threads) count;
+      some = c.records_each-each.ensures.some;
+      begun = subst (λ n. IsBegun n c.args.threads c.in-Ok.batch) many c.in-Ok.ensures.begun;
+    })
 
-pub returns-in-Err-work_crew-clause-queried : goal.returns-in-Err-work_crew-clause-queried
-returns-in-Err-work_crew-clause-queried g c =
-    let shared = open_to_all c.args.q.now c.args.s.now c.size.result c.record_size.result c.arena.result c.size.ensures.size c.record_size.ensures.size
-    c.if-rest-ne0.false c.arena.ensures (c.is_confined.ensures.no c.if-is_confined.false) in
-    queried_refused c.in-Err-work_crew.refusal c.in-Err-work_crew.ensures.worked c.in-Ok.ensures.count shared c.requires.known
+pub returns-in-Ok-clause-queried : goal.returns-in-Ok-clause-queried
+returns-in-Ok-clause-queried g c =
+    subst (λ n. QueriedWith n c.args.pass.now c.take_batch.new.pass c.args.q.now c.args.s.now c.take_batch.result) c.in-Ok.ensures.begun.count
+    c.take_batch.ensures.queried

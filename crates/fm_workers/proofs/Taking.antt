@@ -1,0 +1,230 @@
+-- What takers did, each as a pass of its own.
+use Rattle.std.proofs.Common.{◌≡◌, ◌≢◌, ℕ, ◌+◌, ◌-◌, ◌/◌, ◌%◌, List, [], ◌∷◌, ◌++◌, length, map, refl, sym, ap, ◌∙◌, subst, arith, inl, inr, ⊎_elim, append_assoc, Result, Ok, Err}
+use Rattle.std.specs.Prelude.{◌⊎◌}
+use Rattle.std.specs.List.{AllByRecursion, AllZip}
+use Rattle.std.proofs.Math.Nat.{mul-mod_left}
+use Rattle.std.proofs.lemmas.List.{append-nil}
+use Rattle.fm_base_lists.specs.Among.{IsAmong}
+use Rattle.fm_base_lists.proofs.Each.{all_both}
+use Rattle.fm_base.specs.declared.caller.Caller.{Caller}
+use Rattle.fm_base.specs.declared.kind.Kind.TheVariants.{Confined}
+use Rattle.fm_base.specs.declared.refusal.Refusal.{Refusal}
+use Rattle.fm_base.specs.declared.refusal.Refusal.TheVariants.{Closed, Memory}
+use Rattle.fm_base.specs.Arenas.{MayUse}
+use Rattle.fm_base.specs.Calls.{Entry}
+use Rattle.fm_base.specs.Histories.{made_by}
+use Rattle.fm_rule_calls.specs.Told.{view_of_pass}
+use Rattle.fm_rule_facts.specs.Views.{View}
+use Rattle.fm_segment.specs.Access.{IsKnown}
+use Rattle.fm_segment.specs.Region.{Region}
+use Rattle.fm_records_query.specs.Plan.{Plan}
+use Rattle.fm_records.specs.Reads.{AreReads, StopsReading}
+use Rattle.fm_records.proofs.Visiting.{AreReads-append, AreReads-none, StopsReading-after}
+use Rattle.fm_workers_shares.specs.declared.taker.Done.{Done}
+use Rattle.fm_workers_shares.specs.declared.taker.Taker.{Taker}
+use Rattle.fm_workers_shares.specs.Answered.{all_of}
+use Rattle.fm_workers_shares.specs.Finishing.{HasTaken}
+use Rattle.fm_workers_shares.specs.Placing.{all_done, end_of, or_later}
+use Rattle.fm_workers_shares.specs.Shares.{share_of, start_of}
+use Rattle.fm_workers_shares.specs.Taking.{DoesEach, EndsTaking, IsReady, TakesShares}
+use Rattle.fm_workers_shares.proofs.Ends.{both_ended}
+use Rattle.fm_workers_shares.proofs.Numbers.{run_fits, start_order, start_within}
+use Rattle.fm_workers_shares.proofs.Sharing.{IsAnsweredAt}
+use Rattle.fm_workers.specs.Query.{FoundClosed, HasAnswered, IsFirstRefused, OnlyReads, WantedMemory, reads, stops}
+use Rattle.fm_workers.specs.Taking.{Asking, CanTakeShares, Takes}
+use Rattle.fm_workers.proofs.Asked.{IsWithin, query_reads, reads_wider, stopped_by, stops_wider}
+use Rattle.fm_workers_crew.proofs.Callers.{AreDoneBy}
+
+-- Reads behind others.
+reads_behind : (c : Caller) (s : Region) (es fs : List Entry) → AreReads c s es → OnlyReads s c fs → OnlyReads s c (es ++ fs)
+reads_behind c s es fs h (reads k) = reads (AreReads-append c s es fs h k)
+reads_behind c s es fs h (stops k) = stops (StopsReading-after c s es fs h k)
+
+-- what each of them answered
+abbrev pub dones : List Taker → List (List Done)
+dones us = map (λ u. u.done.items) us
+
+pub all_of_dones : (us : List Taker) → all_of (dones us) ≡ all_done us
+all_of_dones [] = refl
+all_of_dones (u ∷ us) = ap (λ ds. u.done.items ++ ds) (all_of_dones us)
+
+-- memory was wanting, or the first that was refused found the arena closed
+abbrev pub HaveStopped : Plan → Region → ℕ → List Caller → List Entry → Refusal → Type 0
+HaveStopped p s each cs more r = ((r ≡ Memory) × WantedMemory p s each cs more) ⊎ ((r ≡ Closed) × FoundClosed p s each cs more)
+
+module _ (w : Asking) (more : List Entry) where
+  share_within : (k : ℕ) → IsWithin (share_of w.plan w.segment w.each k) w.segment
+  share_within k =
+      let fits = run_fits (start_of (w.segment.size / w.plan.size) w.each k) (start_of (w.segment.size / w.plan.size) w.each (k + 1)) w.plan.size
+      w.segment.size (start_order (w.segment.size / w.plan.size) w.each k) (start_within (w.segment.size / w.plan.size) w.each (k + 1)) in
+      record { arena = refl; from = omega arith; below = omega (arith, fits) }
+
+  -- ---- what was read
+
+  each_reads : (c : Caller) (ds : List Done) (own : List Entry) → DoesEach w.plan w.segment w.each c ds own → AreReads c w.segment own
+  each_reads c [] own h = subst (AreReads c w.segment) (sym h) (AreReads-none c w.segment)
+  each_reads c (d ∷ ds) own h =
+      let first = reads_wider c (share_of w.plan w.segment w.each d.job) w.segment h.0 (share_within d.job) h.3.reads in
+      subst (AreReads c w.segment) (sym h.2) (AreReads-append c w.segment h.0 h.1 first (each_reads c ds h.1 h.4))
+
+  ends_read : (c : Caller) (t : Taker) (r : Result (Unit {0}) Refusal) (served last : List Entry) → AreReads c w.segment served
+      → EndsTaking w.jobs w.plan w.segment w.each c t r last → OnlyReads w.segment c (served ++ last)
+  ends_read c t (Ok u) served last h e =
+      subst (λ (es : List Entry). OnlyReads w.segment c (served ++ es)) (sym e.0) (subst (OnlyReads w.segment c) (sym (append-nil served)) (reads h))
+  ends_read c t (Err r) served last h e =
+      reads_behind c w.segment served last h (query_reads c w.plan (share_of w.plan w.segment w.each e.0) w.segment (Err r) last (share_within e.0) e.1)
+
+  pub takers_read : (cs : List Caller) (ts us : List Taker) → AreDoneBy (Takes w) more cs ts us
+      → AllByRecursion (λ c. OnlyReads w.segment c (made_by c more)) cs
+  takers_read [] [] [] d = tt
+  takers_read (c ∷ cs) (t ∷ ts) (u ∷ us) d = (
+    subst (OnlyReads w.segment c) (sym d.0.parts)
+        (ends_read c u u.end d.0.served d.0.last (each_reads c u.done.items d.0.served d.0.does) d.0.ends),
+    takers_read cs ts us d.1,
+  )
+  takers_read cs ts us d = absurd d
+
+  -- ---- which takers there are
+
+  pub takers_count : (cs : List Caller) (ts us : List Taker) → AreDoneBy (Takes w) more cs ts us → length us ≡ length ts
+  takers_count [] [] [] d = refl
+  takers_count (c ∷ cs) (t ∷ ts) (u ∷ us) d = let e = takers_count cs ts us d.1 in omega (arith, e)
+  takers_count cs ts us d = absurd d
+
+  pub takers_took : (cs : List Caller) (ts us : List Taker) → AreDoneBy (Takes w) more cs ts us
+      → AllByRecursion (HasTaken w.jobs w.plan w.segment w.each) us
+  takers_took [] [] [] d = tt
+  takers_took (c ∷ cs) (t ∷ ts) (u ∷ us) d = ((c, made_by c more, d.0), takers_took cs ts us d.1)
+  takers_took cs ts us d = absurd d
+
+  -- ---- what was answered
+
+  each_answered : (crew : List Caller) (c : Caller) (ds : List Done) (earlier own later : List Entry) → IsAmong c crew
+      → made_by c more ≡ earlier ++ (own ++ later) → DoesEach w.plan w.segment w.each c ds own
+      → AllByRecursion (λ d. IsAnsweredAt w.plan w.segment w.each crew more d.job d.answer) ds
+  each_answered crew c [] earlier own later among is h = tt
+  each_answered crew c (d ∷ ds) earlier own later among is h =
+      let split : own ++ later ≡ h.0 ++ (h.1 ++ later) = ap (λ (es : List Entry). es ++ later) h.2 ∙ append_assoc h.0 h.1 later in
+      let run : made_by c more ≡ earlier ++ (h.0 ++ (h.1 ++ later)) = is ∙ ap (λ (es : List Entry). earlier ++ es) split in (
+        record { caller = c; among = among; own = h.0; run = record { earlier = earlier; later = h.1 ++ later; run = run }; does = h.3 },
+        each_answered crew c ds (earlier ++ h.0) h.1 later among (run ∙ sym (append_assoc earlier h.0 (h.1 ++ later))) h.4,
+      )
+
+  takers_answered : (crew cs : List Caller) (ts us : List Taker) → ((c : Caller) → IsAmong c cs → IsAmong c crew) → AreDoneBy (Takes w) more cs ts us
+      → AllByRecursion (λ (d : Done). IsAnsweredAt w.plan w.segment w.each crew more d.job d.answer) (all_done us)
+  takers_answered crew [] [] [] among d = tt
+  takers_answered crew (c ∷ cs) (t ∷ ts) (u ∷ us) among d =
+      all_both (λ (x : Done). IsAnsweredAt w.plan w.segment w.each crew more x.job x.answer) u.done.items (all_done us)
+      (each_answered crew c u.done.items [] d.0.served d.0.last (among c (inl refl)) d.0.parts d.0.does)
+      (takers_answered crew cs ts us (λ x i. among x (inr i)) d.1)
+  takers_answered crew cs ts us among d = absurd d
+
+  pub crew_answered : (cs : List Caller) (ts us : List Taker) → AreDoneBy (Takes w) more cs ts us
+      → AllByRecursion (λ (d : Done). IsAnsweredAt w.plan w.segment w.each cs more d.job d.answer) (all_done us)
+  crew_answered cs ts us d = takers_answered cs cs ts us (λ c i. i) d
+
+  -- ---- refusals
+
+  own_served : (c : Caller) (u : Taker) → TakesShares w.jobs c w.plan w.segment w.each u (made_by c more) → u.end ≡ Ok tt
+      → DoesEach w.plan w.segment w.each c u.done.items (made_by c more)
+  own_served c u h e =
+      let ends = subst (λ r. EndsTaking w.jobs w.plan w.segment w.each c u r h.last) e h.ends in
+      let own : made_by c more ≡ h.served = h.parts ∙ ap (λ (es : List Entry). h.served ++ es) ends.0 ∙ append-nil h.served in
+      subst (DoesEach w.plan w.segment w.each c u.done.items) (sym own) h.does
+
+  pub each_took : (cs : List Caller) (ts us : List Taker) → AreDoneBy (Takes w) more cs ts us → end_of us ≡ Ok tt
+      → AllZip (λ c ds. DoesEach w.plan w.segment w.each c ds (made_by c more)) cs (dones us)
+  each_took [] [] [] d e = tt
+  each_took (c ∷ cs) (t ∷ ts) (u ∷ us) d e =
+      let both = both_ended u.end (end_of us) e in
+      (own_served c u d.0 both.0, each_took cs ts us d.1 both.1)
+  each_took cs ts us d e = absurd d
+
+  answered_all : (c : Caller) (u : Taker) → TakesShares w.jobs c w.plan w.segment w.each u (made_by c more) → u.end ≡ Ok tt
+      → HasAnswered w.plan w.segment w.each more c
+  answered_all c u h e = record { done = u.done.items; does = own_served c u h e }
+
+  pub none_refused : (cs : List Caller) (ts us : List Taker) → AreDoneBy (Takes w) more cs ts us → end_of us ≡ Ok tt
+      → AllByRecursion (HasAnswered w.plan w.segment w.each more) cs
+  none_refused [] [] [] d e = tt
+  none_refused (c ∷ cs) (t ∷ ts) (u ∷ us) d e =
+      let both = both_ended u.end (end_of us) e in
+      (answered_all c u d.0 both.0, none_refused cs ts us d.1 both.1)
+  none_refused cs ts us d e = absurd d
+
+  -- One that was answered stands before them.
+  module _ {c : Caller} {cs : List Caller} (mine : HasAnswered w.plan w.segment w.each more c) where
+    first_later : {r : Refusal} {x : Caller} → IsFirstRefused w.plan w.segment w.each cs more r x
+        → IsFirstRefused w.plan w.segment w.each (c ∷ cs) more r x
+    first_later f = record {
+      before = c ∷ f.before;
+      after = f.after;
+      parts = ap (λ (ys : List Caller). c ∷ ys) f.parts;
+      answered = (mine, f.answered);
+      refused = f.refused;
+    }
+
+    want_later : WantedMemory w.plan w.segment w.each cs more → WantedMemory w.plan w.segment w.each (c ∷ cs) more
+    want_later (inl m) = inl (m.0, first_later m.1)
+    want_later (inr all) = inr (mine, all)
+
+    stopped_later : {r : Refusal} → HaveStopped w.plan w.segment w.each cs more r → HaveStopped w.plan w.segment w.each (c ∷ cs) more r
+    stopped_later (inl m) = inl (m.0, want_later m.1)
+    stopped_later (inr f) = inr (f.0, record { caller = f.1.caller; first = first_later f.1.first; stops = f.1.stops })
+
+  -- The first of them was refused.
+  first_stopped : (c : Caller) (cs : List Caller) (u : Taker) (r : Refusal) → ((x : Caller) → MayUse w.segment.arena x)
+      → TakesShares w.jobs c w.plan w.segment w.each u (made_by c more) → u.end ≡ Err r → HaveStopped w.plan w.segment w.each (c ∷ cs) more r
+  first_stopped c cs u r may h e =
+      let ends = subst (λ q. EndsTaking w.jobs w.plan w.segment w.each c u q h.last) e h.ends in
+      let even : (share_of w.plan w.segment w.each ends.0).size % w.plan.size ≡ 0 =
+      mul-mod_left (start_of (w.segment.size / w.plan.size) w.each (ends.0 + 1) - start_of (w.segment.size / w.plan.size) w.each ends.0) w.plan.size in
+      let first : IsFirstRefused w.plan w.segment w.each (c ∷ cs) more r c = record {
+        before = [];
+        after = cs;
+        parts = refl;
+        answered = tt;
+        refused = record {
+          done = u.done.items;
+          served = h.served;
+          last = h.last;
+          parts = h.parts;
+          does = h.does;
+          number = ends.0;
+          refused = ends.1;
+        };
+      } in
+      ⊎_elim
+      (λ (m : r ≡ Memory). inl (m, inl (c, subst (λ (x : Refusal). IsFirstRefused w.plan w.segment w.each (c ∷ cs) more x c) m first)))
+      (λ (f : (r ≡ Closed) × StopsReading c (share_of w.plan w.segment w.each ends.0) h.last). inr (
+        f.0,
+        record {
+          caller = c;
+          first = subst (λ (x : Refusal). IsFirstRefused w.plan w.segment w.each (c ∷ cs) more x c) f.0 first;
+          stops = subst (StopsReading c w.segment) (sym h.parts)
+              (StopsReading-after c w.segment h.served h.last (each_reads c u.done.items h.served h.does)
+              (stops_wider c (share_of w.plan w.segment w.each ends.0) w.segment h.last (share_within ends.0) f.1));
+        },
+      ))
+      (stopped_by c w.plan (share_of w.plan w.segment w.each ends.0) r h.last even (may c) ends.1)
+
+  pub some_refused : (cs : List Caller) (ts us : List Taker) (r : Refusal) → ((x : Caller) → MayUse w.segment.arena x)
+      → AreDoneBy (Takes w) more cs ts us → end_of us ≡ Err r → HaveStopped w.plan w.segment w.each cs more r
+  some_refused [] [] [] r may d e = absurd (cc)
+  some_refused (c ∷ cs) (t ∷ ts) (u ∷ us) r may d e =
+      ⊎_elim (λ (mine : u.end ≡ Err r). first_stopped c cs u r may d.0 mine)
+      (λ (later : (u.end ≡ Ok tt) × (end_of us ≡ Err r)). stopped_later (answered_all c u d.0 later.0) (some_refused cs ts us r may d.1 later.1))
+      (either u.end (end_of us) r e)
+    where
+      either : (x later : Result (Unit {0}) Refusal) (q : Refusal) → or_later x later ≡ Err q → (x ≡ Err q) ⊎ ((x ≡ Ok tt) × (later ≡ Err q))
+      either (Ok o) later q is = inr (refl, is)
+      either (Err o) later q is = inl is
+  some_refused cs ts us r may d e = absurd d
+
+-- ---- before they begin
+
+pub can_take_all : (w : Asking) (v : View) (ts : List Taker) → IsKnown (view_of_pass v) w.segment → w.segment.first % w.plan.alignment ≡ 0
+    → w.segment.arena.kind ≢ Confined → AllByRecursion (IsReady w.jobs) ts → AllByRecursion (CanTakeShares w v) ts
+can_take_all w v [] known aligned anyone h = tt
+can_take_all w v (t ∷ ts) known aligned anyone h =
+    (record { known = known; aligned = aligned; open_to_all = anyone; ready = h.0 }, can_take_all w v ts known aligned anyone h.1)

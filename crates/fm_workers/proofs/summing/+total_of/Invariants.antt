@@ -1,5 +1,0 @@
-use Rattle.std.proofs.Common.{length}
-use Rattle.fm_workers.proofs.summing.+total_of.Given as goal
-
-abbrev pub decreases-total_of : goal.decreases-total_of
-decreases-total_of l = length l.shares.now

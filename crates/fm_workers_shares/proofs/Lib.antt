@@ -1,0 +1,12 @@
+pub mod Each
+pub mod Ends
+pub mod Joins
+pub mod Numbers
+pub mod Once
+pub mod Places
+pub mod Popping
+pub mod Serving
+pub mod Settling
+pub mod Sharing
+pub mod Standing
+pub mod Weighing

@@ -1,0 +1,14 @@
+use Rattle.std.proofs.Common.{◌≡◌, ◌≤◌, length, vec_capacity}
+use Rattle.std.specs.List.{AllByRecursion}
+use Rattle.fm_workers_jobs.specs.Turns.{HasAccount, account_of}
+use Rattle.fm_workers_shares.specs.Batches.{after_turns}
+use Rattle.fm_workers_shares.specs.Taking.{IsReady}
+use Rattle.fm_workers_shares.proofs.batch.call_takers.Given as goal
+
+abbrev pub invariant-loop-k : goal.invariant-loop-k
+invariant-loop-k l = record {
+  ready : AllByRecursion (IsReady l.jobs) l.takers.items;
+  count : length l.takers.items ≡ l.k;
+  giver : HasAccount l.jobs l.giver (after_turns (account_of l.fn.giver) l.k);
+  room : l.count ≤ vec_capacity l.takers;
+}

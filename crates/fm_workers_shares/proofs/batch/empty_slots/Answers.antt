@@ -1,0 +1,11 @@
+use Rattle.std.proofs.Common.{rules, List, [], ◌∷◌, ◌++◌, None, ap, ◌∙◌}
+use Rattle.fm_workers_shares.specs.Placing.{Slot}
+use Rattle.fm_workers_shares.proofs.Places.{nones-more}
+use Rattle.fm_workers_shares.proofs.batch.empty_slots.Goals as goal
+
+pub loop-preserved : goal.loop-preserved
+loop-preserved c = record {
+  slots = c.push_reserved.ensures.items ∙ (ap (λ (xs : List Slot). xs ++ None ∷ []) c.loop.invariant.slots ∙ nones-more c.loop.counter);
+  len = search rules;
+  room = search rules;
+}

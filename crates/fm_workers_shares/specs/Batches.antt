@@ -1,0 +1,28 @@
+-- A batch before its shares are taken.
+use Rattle.std.specs.Prelude.{◌≡◌, ℕ, zero, suc, ◌+◌, List, [], ◌∷◌, None, length}
+use Rattle.std.specs.List.{AllByRecursion}
+use Rattle.fm_workers_jobs.specs.declared.account.Account.{Account}
+use Rattle.fm_workers_jobs.specs.Accounts.{after_batch, giver}
+use Rattle.fm_workers_jobs.specs.Turns.{HasAccount}
+use Rattle.fm_workers_shares.specs.declared.batch.Batch.{Batch}
+use Rattle.fm_workers_shares.specs.Placing.{Slot}
+use Rattle.fm_workers_shares.specs.Taking.{IsReady}
+
+-- so many turns more are out
+abbrev pub after_turns : Account → ℕ → Account
+after_turns v count = record v { out = v.out + count }
+
+-- so many places with no answer
+abbrev pub nones : ℕ → List Slot
+nones zero = []
+nones (suc n) = None ∷ nones n
+
+-- the giver pushed so many shares, and a stop for each taker, and made the takers' turns
+abbrev pub begun : (shares takers : ℕ) → Account
+begun shares takers = after_turns (after_batch giver 0 shares takers) takers
+
+pub record IsBegun (many threads : ℕ) (b : Batch) : Type 0 where
+  pub giver : HasAccount b.jobs b.giver (begun many threads)
+  pub takers : AllByRecursion (IsReady b.jobs) b.takers.items
+  pub count : length b.takers.items ≡ threads
+  pub slots : b.slots.items ≡ nones many
