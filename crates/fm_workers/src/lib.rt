@@ -8,12 +8,12 @@
 //! all append to has its numbers in the order in which they came; and where one worker is refused, what the others have
 //! added is neither a whole answer nor that of any run of records.
 //!
-//! **The idea.** Shares are cut before anything starts, and each has an answer of its own. Those of a query stand in one
-//! queue, from which each worker takes the next one until it takes a stop, and keeps the answer with the share's number
-//! (`fm_workers_shares`); of a tally each worker has one share. `work_crew` takes all memory first, draws a pass for each
-//! worker, or begins none; lets each work; gathers all of them in their order, whatever they answered; and only then are
-//! answers joined. [`query_with`] joins them; the passes of [`tally_with`] add each count to one of 256 longs, in a
-//! visit with one Add.
+//! **The idea.** Shares are cut before anything starts, and stand in one queue, from which each worker takes the next one
+//! until it takes a stop. Of a query it keeps each answer with the share's number (`fm_workers_shares`); of a tally it
+//! counts all of its shares in numbers of its own. `work_crew` takes all memory first, draws a pass for each worker, or
+//! begins none; lets each work; gathers all of them in their order, whatever they answered; and only then are answers
+//! joined. [`query_with`] joins them; behind its stop each pass of [`tally_with`] adds its counts to 256 longs that all
+//! share, each in a visit with one Add, and the answer is the sum of the passes' own counts.
 //!
 //! **Why it is safe.** Workers share the pool and the queue, by whose rule each share is taken once. All entries of the
 //! call are those of the drawn passes, and each share's answer is by Reads of one of them, so the answer is that of one
