@@ -27,7 +27,7 @@ _fmem() {
   current=${COMP_WORDS[COMP_CWORD]} command=${COMP_WORDS[1]}
   COMPREPLY=()
   if [ "$COMP_CWORD" = 1 ]; then
-    mapfile -t COMPREPLY < <(compgen -W 'sum layout migrate query tally demo run' -- "$current")
+    mapfile -t COMPREPLY < <(compgen -W 'sum layout migrate query stream tally demo run' -- "$current")
     return
   fi
   for ((k = 2; k < COMP_CWORD; k++)); do # the words that aren't of the option
@@ -38,7 +38,7 @@ _fmem() {
       *) if [ -n "$behind" ]; then behind=; else words+=("$word"); fi ;;
     esac
   done
-  if [[ $command = query || $command = tally || $command = demo ]] && [[ $current = --* ]]; then
+  if [[ $command = query || $command = stream || $command = tally || $command = demo ]] && [[ $current = --* ]]; then
     mapfile -t COMPREPLY < <(compgen -W --threads -- "$current")
     return
   fi
@@ -53,9 +53,9 @@ _fmem() {
     tally/1) mapfile -t COMPREPLY < <(_fmem_paths "${words[0]}" '|byte|boolean|' | while read -r word; do
       [[ $word != "${current#"$quote"}"* ]] || printf '%s\n' "$word"
     done) ;;
-    query/1) mapfile -t COMPREPLY < <(_fmem_query "${words[0]}" "${current#"$quote"}")
+    query/1 | stream/1) mapfile -t COMPREPLY < <(_fmem_query "${words[0]}" "${current#"$quote"}")
       compopt -o nospace 2> /dev/null ;;
-    layout/0 | migrate/0 | run/0 | sum/3 | query/[02] | tally/[02])
+    layout/0 | migrate/0 | run/0 | sum/3 | query/[02] | stream/[02] | tally/[02])
       compopt -o filenames 2> /dev/null
       mapfile -t COMPREPLY < <(compgen -f -- "$current") ;;
   esac
