@@ -66,7 +66,7 @@ pub fn command_of<'a>(
         return Ok(Some(Subcommand::Ask(ask)));
     }
     if let Some(ask) = ask_words(alloc, words, Question::Stream)? {
-        return Ok(Some(Command::Ask(ask)));
+        return Ok(Some(Subcommand::Ask(ask)));
     }
     if let Some(ask) = ask_words(alloc, words, Question::Tally)? {
         return Ok(Some(Subcommand::Ask(ask)));
