@@ -2,13 +2,16 @@
 //! int `id`, short `kind`, two bytes of padding, long `price`, four bytes `tags`, four of padding, all little.
 //!
 //! `queries parsed QUERY FILE` reads the query when it runs; `queries fixed QUERY FILE` has a loop of its own for each
-//! query of the benchmark, and knows no other.
+//! query of the benchmark, and knows no other. `queries streamed QUERY FILE` is as parsed for a file of any length, of
+//! which it holds one chunk: so many whole records as fit in 1 MiB, as `fmem stream` does.
 use std::fmt::Write as _;
-use std::io::Write as _;
+use std::fs::File;
+use std::io::{self, Read as _, Write as _};
 use std::process::exit;
 
 const SIZE: usize = 24;
 const LIMIT: usize = 67_108_864;
+const CHUNK: usize = 1_048_576 / SIZE * SIZE;
 
 fn id(r: &[u8]) -> i64 {
     i32::from_le_bytes(r[0..4].try_into().unwrap()).into()
@@ -121,20 +124,67 @@ impl Condition {
     }
 }
 
-fn parsed(query: &str, bytes: &[u8]) -> Option<String> {
-    let (items, conditions) = query.split_once(" where ").map_or((query, None), |(i, c)| (i, Some(c)));
-    let names: Vec<&str> = items.split(',').collect();
-    let mut found: Vec<Found> = names.iter().map(|item| Found::of(item)).collect::<Option<_>>()?;
-    let conditions: Vec<Condition> =
-        conditions.map_or(Some(Vec::new()), |c| c.split(" and ").map(Condition::of).collect())?;
-    for r in bytes.chunks_exact(SIZE) {
-        if conditions.iter().all(|c| c.is_of(r)) {
-            found.iter_mut().for_each(|f| f.add(r));
+struct Query<'q> {
+    names: Vec<&'q str>,
+    found: Vec<Found>,
+    conditions: Vec<Condition>,
+}
+
+impl Query<'_> {
+    fn of(text: &str) -> Option<Query<'_>> {
+        let (items, conditions) = text.split_once(" where ").map_or((text, None), |(i, c)| (i, Some(c)));
+        let names: Vec<&str> = items.split(',').collect();
+        let found = names.iter().map(|item| Found::of(item)).collect::<Option<_>>()?;
+        let conditions = conditions.map_or(Some(Vec::new()), |c| c.split(" and ").map(Condition::of).collect())?;
+        Some(Query { names, found, conditions })
+    }
+
+    fn add(&mut self, bytes: &[u8]) {
+        for r in bytes.chunks_exact(SIZE) {
+            if self.conditions.iter().all(|c| c.is_of(r)) {
+                self.found.iter_mut().for_each(|f| f.add(r));
+            }
         }
     }
-    let mut text = String::new();
-    names.iter().zip(&found).for_each(|(item, f)| f.print(item, &mut text));
-    Some(text)
+
+    fn answer(&self) -> String {
+        let mut text = String::new();
+        self.names.iter().zip(&self.found).for_each(|(item, f)| f.print(item, &mut text));
+        text
+    }
+}
+
+fn parsed(query: &str, bytes: &[u8]) -> Option<String> {
+    let mut query = Query::of(query)?;
+    query.add(bytes);
+    Some(query.answer())
+}
+
+fn streamed(query: &mut Query, file: &str) -> io::Result<()> {
+    let mut file = File::open(file)?;
+    let mut chunk = vec![0; CHUNK];
+    loop {
+        let filled = fill(&mut file, &mut chunk)?;
+        if filled % SIZE != 0 {
+            exit(6);
+        }
+        query.add(&chunk[..filled]);
+        if filled < CHUNK {
+            return Ok(());
+        }
+    }
+}
+
+/// How many bytes the file still had, or the chunk's size where it had more.
+fn fill(file: &mut File, chunk: &mut [u8]) -> io::Result<usize> {
+    let mut filled = 0;
+    while filled < chunk.len() {
+        match file.read(&mut chunk[filled..])? {
+            0 => break,
+            count => filled += count,
+        }
+    }
+    Ok(filled)
 }
 
 fn fixed(query: &str, bytes: &[u8]) -> Option<String> {
@@ -174,16 +224,24 @@ fn listed(item: &str, numbers: impl Iterator<Item = i64>) -> String {
     text
 }
 
-fn main() {
-    let words: Vec<String> = std::env::args().skip(1).collect();
-    let [how, query, file] = &words[..] else { exit(1) };
+fn whole(file: &str) -> Vec<u8> {
     let Ok(bytes) = std::fs::read(file) else { exit(3) };
     if bytes.len() > LIMIT || bytes.len() % SIZE != 0 {
         exit(6);
     }
+    bytes
+}
+
+fn main() {
+    let words: Vec<String> = std::env::args().skip(1).collect();
+    let [how, query, file] = &words[..] else { exit(1) };
     let answer = match how.as_str() {
-        "parsed" => parsed(query, &bytes),
-        "fixed" => fixed(query, &bytes),
+        "parsed" => parsed(query, &whole(file)),
+        "fixed" => fixed(query, &whole(file)),
+        "streamed" => Query::of(query).map(|mut query| {
+            streamed(&mut query, file).unwrap_or_else(|_| exit(3));
+            query.answer()
+        }),
         _ => None,
     };
     let Some(text) = answer else { exit(1) };
