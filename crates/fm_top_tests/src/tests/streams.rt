@@ -214,6 +214,7 @@ fn two_workers_of_a_stream_are_at_work_at_once(rt: HostRuntime) -> Result<(), Fa
     Ok(())
 }
 
+// `queries.rt` has the query of such a file, which is too long.
 #[test]
 fn a_stream_is_longer_than_what_a_query_takes(rt: HostRuntime) -> Result<(), Fail> {
     let alloc = rt.alloc();
@@ -224,6 +225,5 @@ fn a_stream_is_longer_than_what_a_query_takes(rt: HostRuntime) -> Result<(), Fai
         zeros(alloc, RECORD_FILE_LIMIT as usize + 65_536)?,
     )?;
     let mut files = SureFiles::new(vec![in alloc; layout, records]?);
-    line_ends(&rt, &mut files, "query L count R", 7, "too long\n")?;
     line_ends(&rt, &mut files, "stream L count R", 0, "count 1025\n")
 }
