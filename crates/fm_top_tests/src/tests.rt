@@ -11,6 +11,7 @@ mod migrations;
 mod queries;
 mod scripts;
 mod sizes;
+mod streams;
 mod sums;
 mod tallies;
 mod texts;

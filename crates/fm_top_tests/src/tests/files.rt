@@ -14,3 +14,12 @@ pub fn text_file(alloc: Global, name: &str, text: &str) -> Result<(String, Vec<u
 pub fn zeros(alloc: Global, count: usize) -> Result<Vec<u8>, AllocError> {
     vec![in alloc; 0; count]
 }
+
+/// Bytes 0 to 250, again and again.
+pub fn repeating(alloc: Global, count: usize) -> Result<Vec<u8>, AllocError> {
+    let mut bytes = Vec::new(alloc);
+    for k in 0..count {
+        bytes.push((k % 251) as u8)?;
+    }
+    Ok(bytes)
+}

@@ -16,9 +16,12 @@ use std::thread::Threads;
 /// The two queries of `demo` are calls of two crews, and where nothing is asked of records nobody passes.
 const PASSED: &str = "\
 query --threads 1 L1 count R1 -> 0 count 2| by 1: +0 -0 +1 -1|
+stream --threads 1 L1 count R1 -> 0 count 2| by 1: +0 -0 +1 -1|
 tally --threads 1 L1 .tags[0] R1 -> 0 1 1|5 1|total 2| by 1: +0 -0 +1 -1|
 demo --threads 1 3 -> 0 count 3|sum(.amount) -126243|min(.amount) -50000|max(.amount) -34162|count 0|sum(.id) 0| by 1: +0 -0 +1 -1 +2 -2 +0 -0 +1 -1 +2 -2|
 query L1 count Ragged -> 6 ragged 1|
+stream L1 count Ragged -> 6 ragged 1|
+stream L1 count E -> 0 count 0|
 layout nofile -> 2 missing nofile|";
 
 /// The first and the last lines are those of no worker.
@@ -32,7 +35,7 @@ const SCRIPT_PASSED: &str =
     2 set s long 8 7 -> ok|last get s long 8 -> 7|bytes a 05000000000000000700000000000000| by 1: +0 -0 +1 -1|2: +0 -0|";
 
 /// Compares how a run on the row's line ends with what the row tells, and all who passed the gate.
-fn passes<R, F>(rt: &R, files: &mut F, row: &str) -> Result<(), Fail>
+pub fn passes<R, F>(rt: &R, files: &mut F, row: &str) -> Result<(), Fail>
 where
     R: Threads + Wait + Sync + RandomSource + AllocGlobal + Abort,
     F: Files,

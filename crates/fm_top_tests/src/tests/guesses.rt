@@ -1,5 +1,5 @@
 use crate::tests::endings::{ends, parts_of};
-use crate::tests::files::{named, text_file};
+use crate::tests::files::{named, repeating, text_file};
 use fm_io::{Fault, Files, MemFiles, Piece};
 use fm_top::RECORD_FILE_LIMIT;
 use std::alloc::{AllocError, Global};
@@ -26,22 +26,13 @@ impl Files for Guessed {
     }
 }
 
-/// Bytes 0 to 250, again and again.
-fn bytes(alloc: Global, count: usize) -> Result<Vec<u8>, AllocError> {
-    let mut bytes = Vec::new(alloc);
-    for k in 0..count {
-        bytes.push((k % 251) as u8)?;
-    }
-    Ok(bytes)
-}
-
 /// A layout of records of 8 bytes, and a record file `R` of so many bytes, whose size is guessed so.
 fn with_guess(alloc: Global, count: usize, guess: Option<u64>) -> Result<Guessed, AllocError> {
     let layout =
         "{\"type\":\"struct\",\"members\":[{\"type\":\"byte\",\"name\":\"a\"},{\"type\":\"padding\",\"size\":7}]}";
     let all = vec![in alloc;
         text_file(alloc, "L", layout)?,
-        named(alloc, "R", bytes(alloc, count)?)?,
+        named(alloc, "R", repeating(alloc, count)?)?,
     ]?;
     Ok(Guessed {
         files: MemFiles::new(all, Vec::new(alloc)),

@@ -28,6 +28,12 @@ const KEEPING: &str = "\
 query L1 count R1 -> 0 kept
 query L1 count, R1 -> 5 none
 tally L1 .tags[] R1 -> 0 kept
+stream L1 count Ragged -> 6 none
+stream L1 count R1 -> 0 kept
+stream L1 count nofile -> 2 none
+stream L1 count E -> 0 kept
+stream L1 count, R1 -> 5 none
+stream --threads 16 L1 count R1 -> 0 kept
 query L1 count nofile -> 2 none
 demo --threads 2 3 -> 0 kept
 query L1 count Ragged -> 6 none
@@ -79,6 +85,8 @@ const UNWRITTEN: &str = "\
 query L1 count R1 -> 8 kept
 query L1 count, R1 -> 8 none
 tally L1 .tags[] R1 -> 8 kept
+query L1 count, R1 -> 8 none
+stream L1 count R1 -> 8 kept
 query -> 8 none
 demo 3 -> 8 kept
 sum 8 0 long R1 -> 8 none";

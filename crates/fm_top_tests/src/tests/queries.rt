@@ -46,7 +46,7 @@ pub fn files(alloc: Global, failing: &[u64], most: usize) -> Result<MemFiles, Al
 }
 
 /// The record file, queries over its sales, and how they end. A text that is refused is refused before the file is read.
-const QUERIES: &str = "\
+pub const QUERIES: &str = "\
 R1 count,sum(.price),list(.tags[]) where .kind>=2 -> 0 count 2|sum(.price) 210|list(.tags[]) 1 2 3 4 5 0 0 -1|
 R1 min(.price) where .kind=9 -> 0 min(.price) none|
 R1 max(.price),min(.tags[]),sum(.tags[1:2]),list(.id) -> 0 max(.price) 250|min(.tags[]) -1|sum(.tags[1:2]) 5|list(.id) 1 2|
@@ -176,7 +176,7 @@ query --version -> 1 usage|
 query --help L1 count R1 -> 1 usage|
 --threads 2 query L1 count R1 -> 1 usage|
 Query L1 count R1 -> 1 usage|
-stream L1 count R1 -> 1 usage|";
+Stream L1 count R1 -> 1 usage|";
 
 #[test]
 fn the_option_stands_anywhere_and_once(rt: HostRuntime) -> Result<(), Fail> {
@@ -198,8 +198,11 @@ fn as_many_threads_as_one_likes_answer_the_same(rt: HostRuntime) -> Result<(), F
     Ok(())
 }
 
-#[test]
-fn a_part_of_the_records_is_counted_or_ragged(rt: HostRuntime) -> Result<(), Fail> {
+/// Compares how this command ends for each part of the sales with what it should: they are counted, or ragged.
+pub fn parts_end<R>(rt: &R, command: &str) -> Result<(), Fail>
+where
+    R: Threads + Wait + Sync + RandomSource + AllocGlobal + Abort,
+{
     let alloc = rt.alloc();
     for n in 0..SALES.len() {
         let layout = text_file(alloc, "L1", SALE)?;
@@ -212,14 +215,19 @@ fn a_part_of_the_records_is_counted_or_ragged(rt: HostRuntime) -> Result<(), Fai
             (6, format!(in alloc; "ragged {rest}\n")?)
         };
         ends(
-            &rt,
+            rt,
             &mut files,
-            &["query", "L1", "count", "R"],
+            &[command, "L1", "count", "R"],
             status,
             &text,
         )?;
     }
     Ok(())
+}
+
+#[test]
+fn a_part_of_the_records_is_counted_or_ragged(rt: HostRuntime) -> Result<(), Fail> {
+    parts_end(&rt, "query")
 }
 
 /// How runs end after so many reads. Each file that is there takes one read for its bytes and one for its end.
@@ -232,20 +240,28 @@ query L1 count nofile -> 2 missing nofile| after 3
 query L1 count Ragged -> 6 ragged 1| after 4
 query L1 count R1 -> 0 count 2| after 4";
 
-#[test]
-fn nothing_is_read_past_what_is_needed(rt: HostRuntime) -> Result<(), Fail> {
+/// Compares how runs end after so many reads with what their rows tell: the last of them is needed, and none past it.
+pub fn reads_end<R>(rt: &R, table: &str) -> Result<(), Fail>
+where
+    R: Threads + Wait + Sync + RandomSource + AllocGlobal + Abort,
+{
     let alloc = rt.alloc();
-    for row in READS.lines() {
+    for row in table.lines() {
         let (row, reads) = row.rsplit_once(" after ").unwrap_or((row, ""));
         let reads: u64 = reads.parse().unwrap_or(0);
         let (line, status, text) = parts_of(alloc, row)?;
         // The last read that is needed fails, or else each one past it.
         let mut needed = files(alloc, &[reads.saturating_sub(1)], usize::MAX)?;
-        line_ends(&rt, &mut needed, line, 3, "")?;
+        line_ends(rt, &mut needed, line, 3, "")?;
         let mut past = files(alloc, &[reads], usize::MAX)?;
-        line_ends(&rt, &mut past, line, status, &text)?;
+        line_ends(rt, &mut past, line, status, &text)?;
     }
     Ok(())
+}
+
+#[test]
+fn nothing_is_read_past_what_is_needed(rt: HostRuntime) -> Result<(), Fail> {
+    reads_end(&rt, READS)
 }
 
 #[test]
