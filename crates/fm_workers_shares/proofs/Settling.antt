@@ -1,9 +1,7 @@
 -- Once all turns were taken back, all shares were taken.
-use Rattle.std.proofs.Common.{◌≡◌, ◌≢◌, ℕ, zero, suc, ◌+◌, ◌-◌, ◌<◌, ◌≤◌, ◌==◌, Bool, true, false, List, [], ◌∷◌, ◌++◌, length, refl, ap, ◌∙◌, arith, inl, inr, cond}
+use Rattle.std.proofs.Common.{◌≡◌, ℕ, ◌+◌, ◌-◌, ◌<◌, List, [], ◌∷◌, ◌++◌, length, refl, ap, ◌∙◌, arith}
 use Rattle.std.specs.List.{AllByRecursion, range_with_len}
-use Rattle.std.proofs.lemmas.Bool.Decides.{nat_tests}
 use Rattle.std.proofs.lemmas.List.{map-append}
-use Rattle.std.proofs.lemmas.List.Sums.{sum_by-append, sum_by-cons}
 use Rattle.fm_base_lists.specs.Among.{IsAmong}
 use Rattle.fm_workers_jobs.specs.declared.account.Account.{Account}
 use Rattle.fm_workers_jobs.specs.declared.jobs.Jobs.{Jobs}
@@ -14,53 +12,7 @@ use Rattle.fm_workers_shares.specs.Batches.{begun}
 use Rattle.fm_workers_shares.specs.Finishing.{AreAllTaken}
 use Rattle.fm_workers_shares.specs.Placing.{absorbed, all_done}
 use Rattle.fm_workers_shares.specs.Taking.{jobs_of, took}
-
--- ---- how often, and whether
-
--- what one number adds
-abbrev one_if : Bool → ℕ
-one_if b = cond b 1 0
-
--- What comes at all is there.
-times_among : (job : ℕ) (xs : List ℕ) → 0 < times job xs → IsAmong job xs
-times_among job [] some = absurd (omega (arith, some))
-times_among job (x ∷ xs) some =
-    let P : Bool → Type 0 = λ b. (x == job) ≡ b → IsAmong job (x ∷ xs) in
-    let go : (b : Bool) → P b = λ b. elim b as P [
-      | true ↦ (λ e. let same : job ≡ x = grind (arith, nat_tests) in inl same)
-      | false ↦ (λ e.
-          let one : one_if (x == job) ≡ one_if false = ap one_if e in
-          let none : one_if false ≡ 0 = refl in
-          inr (times_among job xs (let all = sum_by-cons (λ (y : ℕ). one_if (y == job)) x xs in omega (arith, all, one, none, some))))
-    ] in
-    go (x == job) refl
-
-among_times : (job : ℕ) (xs : List ℕ) → IsAmong job xs → 0 < times job xs
-among_times job [] h = absurd h
-among_times job (x ∷ xs) (inl e) =
-    let same : (x == job) ≡ true = grind (arith, nat_tests) in
-    let one : one_if (x == job) ≡ one_if true = ap one_if same in
-    let all = sum_by-cons (λ (y : ℕ). one_if (y == job)) x xs in
-    omega (arith, all, one)
-among_times job (x ∷ xs) (inr h) =
-    let rest = among_times job xs h in
-    let all = sum_by-cons (λ (y : ℕ). one_if (y == job)) x xs in
-    omega (arith, all, rest)
-
-times_append : (job : ℕ) (xs ys : List ℕ) → times job (xs ++ ys) ≡ times job xs + times job ys
-times_append job xs ys = sum_by-append (λ (x : ℕ). one_if (x == job)) xs ys
-
-in_range : (from n job : ℕ) → from ≤ job → job < from + n → IsAmong job (range_with_len from n)
-in_range from zero job above below = absurd (omega (arith, above, below))
-in_range from (suc n) job above below =
-    let P : Bool → Type 0 = λ b. (job == from) ≡ b → IsAmong job (range_with_len from (suc n)) in
-    let go : (b : Bool) → P b = λ b. elim b as P [
-      | true ↦ (λ e. let same : job ≡ from = grind (arith, nat_tests) in inl same)
-      | false ↦ (λ e.
-          let other : job ≢ from = grind (arith, nat_tests) in
-          inr (in_range (from + 1) n job (omega (arith, above, other)) (omega (arith, below))))
-    ] in
-    go (job == from) refl
+use Rattle.fm_workers_shares.proofs.Once.{once_among, times-append}
 
 -- ---- turns taken back
 
@@ -89,11 +41,11 @@ module _ (jobs : Jobs) (v : Account) where
   times_absorbed [] job h = omega arith
   times_absorbed (t ∷ ts) job h =
       let rest = times_absorbed ts job h.1 in
-      let both = times_append job (absorbed v ts).taken (account_of t.turn).taken in
+      let both = times-append job (absorbed v ts).taken (account_of t.turn).taken in
       let mine : times job (account_of t.turn).taken ≡ times job (jobs_of t.done.items) = ap (λ (a : Account). times job a.taken) h.0.is in
       let all : times job (jobs_of (t.done.items ++ all_done ts)) ≡ times job (jobs_of t.done.items ++ jobs_of (all_done ts)) =
       ap (times job) (map-append (λ (d : Done). d.job) t.done.items (all_done ts)) in
-      let parts = times_append job (jobs_of t.done.items) (jobs_of (all_done ts)) in
+      let parts = times-append job (jobs_of t.done.items) (jobs_of (all_done ts)) in
       omega (arith, rest, both, mine, all, parts)
 
 -- Each share was taken once, and nothing else.
@@ -113,7 +65,4 @@ all_taken jobs n v ts is settled some ended job =
 
 -- So an answer has each number.
 pub all_among : (n : ℕ) (ts : List Taker) → AreAllTaken n ts → (job : ℕ) → job < n → IsAmong job (jobs_of (all_done ts))
-all_among n ts all job below =
-    let some = among_times job (range_with_len 0 n) (in_range 0 n job (omega arith) (omega (arith, below))) in
-    let same = all job in
-    times_among job (jobs_of (all_done ts)) (omega (arith, some, same))
+all_among n ts all = once_among n (jobs_of (all_done ts)) all
