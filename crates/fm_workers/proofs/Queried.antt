@@ -32,7 +32,8 @@ use Rattle.fm_workers_shares.proofs.Places.{all_placed, length-nones, length-pla
 use Rattle.fm_workers_jobs.specs.Turns.{HasAccount, times}
 use Rattle.fm_workers_shares.specs.Taking.{jobs_of}
 use Rattle.fm_workers_shares.proofs.Settling.{all_among}
-use Rattle.fm_workers_shares.proofs.Sharing.{IsAnsweredAt, answered_by}
+use Rattle.fm_workers_shares.proofs.Sharing.{IsAnsweredAt}
+use Rattle.fm_workers_shares.proofs.Standing.{answered_by}
 use Rattle.fm_records.proofs.Sharing.{shares_join}
 use Rattle.fm_workers.specs.Query.{OnlyReads, HasAnswered, IsOpenToAll, EndsQuery, QueriedWith}
 use Rattle.fm_workers.specs.Taking.{Asking, CanTakeBatch, Takes}

@@ -115,7 +115,8 @@ refused r crew most wanting visits ends lasts known counts_known still_sound = r
 
 -- Nothing was drawn.
 pub tallied_none : (v : View) (p : Plan) (s counts : Region) (threads : ℕ) (r : Refusal) → IsFirst r → IsKnown (view_of_pass v) s
-    → IsKnown (view_of_pass v) counts → EndsTally (each_of (s.size / p.size) threads) v v p s counts [] [] [] (Err r) → TalliedWith threads v v p s counts (Err r)
+    → IsKnown (view_of_pass v) counts → EndsTally (each_of (s.size / p.size) threads) v v p s counts [] [] [] (Err r)
+    → TalliedWith threads v v p s counts (Err r)
 unfolding nobody
 tallied_none v p s counts threads r first known counts_known ends =
     refused r (nobody v) (omega arith) (λ is. absurd (first_not r first is)) tt ends (lasts_none v) known counts_known (λ h. h)
