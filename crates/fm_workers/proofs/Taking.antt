@@ -1,5 +1,5 @@
 -- What takers did, each as a pass of its own.
-use Rattle.std.proofs.Common.{◌≡◌, ◌≢◌, ℕ, ◌+◌, ◌-◌, ◌/◌, ◌%◌, List, [], ◌∷◌, ◌++◌, length, map, refl, sym, ap, ◌∙◌, subst, arith, inl, inr, ⊎_elim, append_assoc, Result, Ok, Err}
+use Rattle.std.proofs.Common.{◌≡◌, ◌≢◌, ℕ, ◌+◌, ◌-◌, ◌/◌, ◌%◌, List, [], ◌∷◌, ◌++◌, length, refl, sym, ap, ◌∙◌, subst, arith, inl, inr, ⊎_elim, Result, Ok, Err}
 use Rattle.std.specs.Prelude.{◌⊎◌}
 use Rattle.std.specs.List.{AllByRecursion, AllZip}
 use Rattle.std.proofs.Math.Nat.{mul-mod_left}
@@ -22,27 +22,19 @@ use Rattle.fm_records.specs.Reads.{AreReads, StopsReading}
 use Rattle.fm_records.proofs.Visiting.{StopsReading-after}
 use Rattle.fm_workers_shares.specs.declared.taker.Done.{Done}
 use Rattle.fm_workers_shares.specs.declared.taker.Taker.{Taker}
-use Rattle.fm_workers_shares.specs.Answered.{all_of}
 use Rattle.fm_workers_shares.specs.Finishing.{HasTaken}
-use Rattle.fm_workers_shares.specs.Placing.{all_done, end_of, or_later}
+use Rattle.fm_workers_shares.specs.Placing.{all_done, end_of}
 use Rattle.fm_workers_shares.specs.Shares.{share_of, start_of}
 use Rattle.fm_workers_shares.specs.Taking.{DoesEach, EndsTaking, IsReady, TakesShares}
 use Rattle.fm_workers_shares.proofs.Each.{answered_each}
-use Rattle.fm_workers_shares.proofs.Ends.{both_ended}
+use Rattle.fm_workers_shares.proofs.Ends.{both_ended, either_refused}
+use Rattle.fm_workers_shares.proofs.Settling.{dones}
 use Rattle.fm_workers_shares.proofs.Sharing.{IsAnsweredAt}
 use Rattle.fm_workers.specs.Query.{FoundClosed, HasAnswered, IsFirstRefused, OnlyReads, WantedMemory, reads, stops}
 use Rattle.fm_workers.specs.Taking.{Asking, CanTakeShares, Takes}
 use Rattle.fm_workers.proofs.Asked.{query_reads, stopped_by, stops_wider}
 use Rattle.fm_workers.proofs.Reading.{each_read, reads_after, share_lies}
 use Rattle.fm_workers_crew.proofs.Callers.{AreDoneBy}
-
--- what each of them answered
-abbrev pub dones : List Taker → List (List Done)
-dones us = map (λ u. u.done.items) us
-
-pub all_of_dones : (us : List Taker) → all_of (dones us) ≡ all_done us
-all_of_dones [] = refl
-all_of_dones (u ∷ us) = ap (λ ds. u.done.items ++ ds) (all_of_dones us)
 
 -- memory was wanting, or the first that was refused found the arena closed
 abbrev pub HaveStopped : Plan → Region → ℕ → List Caller → List Entry → Refusal → Type 0
@@ -56,7 +48,8 @@ module _ (w : Asking) (more : List Entry) where
   ends_read c t (Ok u) served last h e =
       subst (λ (es : List Entry). OnlyReads w.segment c (served ++ es)) (sym e.0) (subst (OnlyReads w.segment c) (sym (append-nil served)) (reads h))
   ends_read c t (Err r) served last h e =
-      reads_after c w.segment served last h (query_reads c w.plan (share_of w.plan w.segment w.each e.0) w.segment (Err r) last (share_lies w.plan w.segment w.each e.0) e.1)
+      reads_after c w.segment served last h
+      (query_reads c w.plan (share_of w.plan w.segment w.each e.0) w.segment (Err r) last (share_lies w.plan w.segment w.each e.0) e.1)
 
   pub takers_read : (cs : List Caller) (ts us : List Taker) → AreDoneBy (Takes w) more cs ts us
       → AllByRecursion (λ c. OnlyReads w.segment c (made_by c more)) cs
@@ -187,11 +180,7 @@ module _ (w : Asking) (more : List Entry) where
   some_refused (c ∷ cs) (t ∷ ts) (u ∷ us) r may d e =
       ⊎_elim (λ (mine : u.end ≡ Err r). first_stopped c cs u r may d.0 mine)
       (λ (later : (u.end ≡ Ok tt) × (end_of us ≡ Err r)). stopped_later (answered_all c u d.0 later.0) (some_refused cs ts us r may d.1 later.1))
-      (either u.end (end_of us) r e)
-    where
-      either : (x later : Result (Unit {0}) Refusal) (q : Refusal) → or_later x later ≡ Err q → (x ≡ Err q) ⊎ ((x ≡ Ok tt) × (later ≡ Err q))
-      either (Ok o) later q is = inr (refl, is)
-      either (Err o) later q is = inl is
+      (either_refused u.end (end_of us) r e)
   some_refused cs ts us r may d e = absurd d
 
 -- ---- before they begin

@@ -1,27 +1,17 @@
 -- Shares are runs of records, one behind the other, that callers answer.
-use Rattle.std.proofs.Common.{◌≡◌, ℕ, ◌+◌, ◌-◌, ◌*◌, ◌/◌, ◌%◌, ◌<◌, ◌≤◌, List, [], ◌∷◌, length, refl, sym, ap, ◌∙◌, subst, arith, Ok}
-use Rattle.std.specs.List.{AllByRecursion, AllZip, range_with_len}
+use Rattle.std.proofs.Common.{◌≡◌, ℕ, ◌+◌, ◌-◌, ◌*◌, ◌/◌, ◌%◌, ◌≤◌, List, sym, ap, ◌∙◌, arith, Ok}
 use Rattle.std.proofs.Math.Nat.{mul-le-mul_right, mul-mod_left}
 use Rattle.std.proofs.lemmas.Nat.{div-add-mod'}
 use Rattle.fm_base_lists.specs.Among.{IsAmong}
 use Rattle.fm_base.specs.declared.caller.Caller.{Caller}
 use Rattle.fm_base.specs.Calls.{Entry}
-use Rattle.fm_base.specs.Histories.{made_by}
-use Rattle.fm_workers_jobs.specs.Turns.{times}
 use Rattle.fm_segment.specs.Region.{Region}
 use Rattle.fm_records_query.specs.Plan.{Plan}
 use Rattle.fm_records.specs.declared.found.Found.{Found}
-use Rattle.fm_records.specs.Joined.{joined}
 use Rattle.fm_records.specs.Query.{DoesQuery}
-use Rattle.fm_records.specs.Shares.{AreCut, AreDone, IsFirst, IsRunOf, Share, all_joined, behind}
-use Rattle.fm_workers_shares.specs.declared.taker.Done.{Done}
-use Rattle.fm_workers_shares.specs.Answered.{AnsweredBy, AreNumbered, all_of}
-use Rattle.fm_workers_shares.specs.Joining.{joined_all, joined_slot}
-use Rattle.fm_workers_shares.specs.Placing.{Slot}
-use Rattle.fm_workers_shares.specs.Shares.{many_of, piece, share_of, start_of}
-use Rattle.fm_workers_shares.specs.Taking.{DoesEach, jobs_of}
-use Rattle.fm_workers_shares.proofs.Numbers.{run_ends, start_first, start_last, start_order, start_within}
-use Rattle.fm_workers_shares.proofs.Places.{AreAll}
+use Rattle.fm_records.specs.Shares.{IsFirst, IsRunOf, Share, behind}
+use Rattle.fm_workers_shares.specs.Shares.{piece, share_of}
+use Rattle.fm_workers_shares.proofs.Numbers.{run_ends}
 
 -- A run is the first share of what begins with it.
 pub first_of_piece : (p : Plan) (s : Region) (from next to : ℕ) (w : Share) → from ≤ next → next ≤ to
