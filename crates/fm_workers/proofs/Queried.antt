@@ -144,8 +144,10 @@ module _ {pool : Pool} {old new : View} {k : Asking} {threads : ℕ} {b : Batch}
 
   ends_so : (e : Refusal) → HaveStopped k.plan k.segment k.each (callers w.crew.crew) w.crew.more e
       → EndsQuery k.each old new k.plan k.segment w.crew.more w.crew.crew w.crew.draws (Err e)
-  ends_so e (inl m) = subst (λ (x : Refusal). EndsQuery k.each old new k.plan k.segment w.crew.more w.crew.crew w.crew.draws (Err x)) (sym m.0) (can.open_to_all, m.1)
-  ends_so e (inr f) = subst (λ (x : Refusal). EndsQuery k.each old new k.plan k.segment w.crew.more w.crew.crew w.crew.draws (Err x)) (sym f.0) (can.open_to_all, f.1)
+  ends_so e (inl m) = subst (λ (x : Refusal). EndsQuery k.each old new k.plan k.segment w.crew.more w.crew.crew w.crew.draws (Err x)) (sym m.0)
+      (can.open_to_all, m.1)
+  ends_so e (inr f) = subst (λ (x : Refusal). EndsQuery k.each old new k.plan k.segment w.crew.more w.crew.crew w.crew.draws (Err x)) (sym f.0)
+      (can.open_to_all, f.1)
 
   by_shares : (a : List Found) → Finishes k.plan k.segment k.each us (Ok a)
       → AnsweredBy k.plan k.segment k.each (callers w.crew.crew) w.crew.more a

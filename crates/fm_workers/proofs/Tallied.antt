@@ -1,11 +1,10 @@
 -- What a tally by a crew comes to.
-use Rattle.std.proofs.Common.{◌≡◌, ◌≢◌, ℕ, ◌/◌, ◌%◌, ◌^◌, ◌<◌, ◌≤◌, List, [], ◌∷◌, length, refl, sym, ap, ◌∙◌, subst, arith, inl, inr, ⊎_elim, Result, Ok, Err}
+use Rattle.std.proofs.Common.{◌≡◌, ℕ, ◌/◌, ◌%◌, ◌^◌, ◌<◌, ◌≤◌, List, [], length, refl, sym, ap, ◌∙◌, subst, arith, inl, inr, ⊎_elim, Result, Ok, Err}
 use Rattle.std.specs.Prelude.{◌⊎◌, ⊤, ℤ}
 use Rattle.std.specs.List.{AllByRecursion, range_with_len}
 use Rattle.fm_base_lists.specs.Among.{IsAmong}
-use Rattle.fm_base_lists.proofs.Each.{all_among, all_both, all_weaker}
+use Rattle.fm_base_lists.proofs.Each.{all_among, all_weaker}
 use Rattle.fm_base.specs.declared.arena_id.ArenaId.{ArenaId}
-use Rattle.fm_base.specs.declared.caller.Caller.{Caller}
 use Rattle.fm_base.specs.declared.kind.Kind.TheVariants.{Confined}
 use Rattle.fm_base.specs.declared.refusal.Refusal.{Refusal}
 use Rattle.fm_base.specs.declared.refusal.Refusal.TheVariants.{Unsupported, Ragged, WrongThread, Closed, NoPass, Memory}
@@ -45,37 +44,15 @@ use Rattle.fm_workers.specs.Counts.{AreCounts, IsTally, how_many, listed, number
 use Rattle.fm_workers.specs.Query.{NobodyElseWrites}
 use Rattle.fm_workers.specs.Summing.{AreTotals, CanTallyBatch, CanTotal, HaveEnded, PassTotals, Totals}
 use Rattle.fm_workers.specs.Tallies.{Tallies, Tallying, all_numbers}
-use Rattle.fm_workers.specs.Tally.{AreAllRead, AreHeld, AreTheCounts, CanBeTallied, EndsTally, LeavesWord, OnlyAddsTo, OnlyTallies, TalliedBy, TalliedWith, closed, no_more, one_add}
+use Rattle.fm_workers.specs.Tally.{AreAllRead, AreHeld, AreTheCounts, CanBeTallied, EndsTally, LeavesWord, OnlyTallies, TalliedBy, TalliedWith}
 use Rattle.fm_workers.proofs.Added.{by_crew, crew_adds}
 use Rattle.fm_workers.proofs.Counted.{listed_joined}
 use Rattle.fm_workers.proofs.CountedShares.{HaveCounted, counted_shares, have_counted, same_numbers, tallied_by}
 use Rattle.fm_workers.proofs.FewCounted.{shares_list}
 use Rattle.fm_workers.proofs.Queried.{even_of, many}
-use Rattle.fm_workers.proofs.Sparing.{by_either, reads_spare}
+use Rattle.fm_workers.proofs.Sparing.{by_either, tallies_spare}
 use Rattle.fm_workers.proofs.Totals.{passes_counted, taken_once, totals_counted}
 use Rattle.fm_workers.proofs.Touching.{HaveStopped, are_takers, crew_stops, crew_tallies, idle_tallies, talliers_count, tasks_count}
-
--- ---- what the crew spares
-
-adds_spare : (s counts : Region) (c : Caller) (own : List Entry) (place : ℕ) → counts.arena ≢ s.arena → OnlyAddsTo counts c own
-    → AllByRecursion (λ e. Spares s.arena place e.call) own
-adds_spare s counts c own place other no_more = tt
-adds_spare s counts c own place other closed = (tt, tt)
-adds_spare s counts c own place other (one_add word n found rest is h) =
-    (tt, ((λ at. other at.0), (tt, adds_spare s counts c rest place other h)))
-
-tallies_spare : (s counts : Region) (place : ℕ) (more : List Entry) (cs : List Caller) → counts.arena ≢ s.arena
-    → AllByRecursion (λ c. OnlyTallies s counts c (made_by c more)) cs
-    → AllByRecursion (λ c. AllByRecursion (λ e. Spares s.arena place e.call) (made_by c more)) cs
-tallies_spare s counts place more [] other h = tt
-tallies_spare s counts place more (c ∷ cs) other h = (
-  subst (λ (es : List Entry). AllByRecursion (λ e. Spares s.arena place e.call) es) (sym h.0.parts)
-      (all_both (λ e. Spares s.arena place e.call) h.0.reads h.0.adds (reads_spare s c h.0.reads place h.0.are_reads)
-      (adds_spare s counts c h.0.adds place other h.0.are_adds)),
-  tallies_spare s counts place more cs other h.1,
-)
-
--- ---- records
 
 -- the refusals before the first draw
 abbrev pub IsFirst : Refusal → Type 0

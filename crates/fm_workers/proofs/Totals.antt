@@ -1,5 +1,5 @@
 -- What talliers counted together, and their turns taken back.
-use Rattle.std.proofs.Common.{◌≡◌, ℕ, ◌-◌, ◌^◌, ◌<◌, ◌≤◌, List, [], ◌∷◌, length, sym, ap, ◌∙◌, subst, arith, inl, inr, Result, Ok, Err}
+use Rattle.std.proofs.Common.{◌≡◌, ℕ, ◌^◌, ◌<◌, ◌≤◌, List, [], ◌∷◌, length, sym, ap, ◌∙◌, subst, arith, inl, inr, Result, Ok, Err}
 use Rattle.std.specs.Prelude.{ℤ}
 use Rattle.std.specs.List.{AllZip, range_with_len}
 use Rattle.std.proofs.lemmas.List.{length-map}
@@ -44,7 +44,8 @@ pub taken_once : (jobs : Jobs) (n : ℕ) (v : Account) (ts : List Tallier) (take
     → (k : ℕ) → times k (jobs_of (all_of taken)) ≡ times k (range_with_len 0 n)
 taken_once jobs n v ts taken is settled some h =
     let many = length-map ts (λ (t : Tallier). t.turn) in
-    each_once jobs n v (turns_of ts) taken (is ∙ ap (λ (m : ℕ). begun n m) (sym many)) settled (omega (arith, many, some)) (turns_took jobs ts taken h)
+    each_once jobs n v (turns_of ts) taken (is ∙ ap (λ (m : ℕ). begun n m) (sym many)) settled (omega (arith, many, some))
+    (turns_took jobs ts taken h)
 
 -- ---- sums
 

@@ -46,7 +46,8 @@ fn first_end(talliers: &[Tallier]) -> Result<(), Refusal>
 fn gather(jobs: &Jobs, giver: &mut Turn, mut talliers: Vec<Tallier>) -> Result<Counts, Refusal>
     requires giver { IsGiver jobs.now giver.old }
     requires talliers { AllByRecursion (λ t. IsTaker jobs.now t.turn) talliers.items }
-    ensures account { HasAccount jobs.now giver.new (absorbed (account_of giver.old) (turns_of talliers.items)) }
+    ensures account { HasAccount jobs.now giver.new
+        (absorbed (account_of giver.old) (turns_of talliers.items)) }
     ensures sums { SumsTo talliers.items result }
 {
     let mut behind = Ok(Counts::none());

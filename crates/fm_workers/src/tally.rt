@@ -44,7 +44,8 @@ impl<'a, R: Wait + Sync, G: Gate> Work<Tallier> for Tally<'a, R, G> {
 
     ghost can = { λ w. CanTally (tallying w.jobs.now w.query.now w.segment w.each w.counts) };
 
-    ghost does = { λ w. by_caller (Tallies (tallying w.jobs.now w.query.now w.segment w.each w.counts)) };
+    ghost does = { λ w. by_caller
+        (Tallies (tallying w.jobs.now w.query.now w.segment w.each w.counts)) };
 
     fn work(&self, alloc: Global, memory: &mut Shared, tallier: &mut Tallier) {
         let calls = AtGate {
@@ -130,8 +131,10 @@ fn take_batch<R: Threads + Wait + Sync, G: Gate>(
     batch: TallyBatch,
     gate: &G,
 ) -> Result<Counts, Refusal>
-    requires { CanTallyBatch pool.now pass.old q.now s.now counts.now (talliers_in batch) each batch }
-    ensures tallied { TalliedWith (talliers_in batch) pass.old pass.new q.now s.now counts.now result }
+    requires { CanTallyBatch pool.now pass.old
+        q.now s.now counts.now (talliers_in batch) each batch }
+    ensures tallied { TalliedWith (talliers_in batch) pass.old pass.new
+        q.now s.now counts.now result }
     ensures outside { IsOutside pool.now pass.new }
 {
     let TallyBatch {

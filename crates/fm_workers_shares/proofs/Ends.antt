@@ -86,7 +86,8 @@ module _ {p : Plan} {s : Region} {each : ℕ} {jobs : Jobs} {turn : Turn} {ts : 
 
     pub are_all_taken : IsSettled (account_of home) → AreAllTaken (many_of (s.size / p.size) each) ts
     are_all_taken settled =
-        all_taken jobs (many_of (s.size / p.size) each) (account_of turn) ts can.giver.is (subst (λ (v : Account). IsSettled v) account.is settled) can.any ended
+        all_taken jobs (many_of (s.size / p.size) each) (account_of turn) ts can.giver.is (subst (λ (v : Account). IsSettled v) account.is settled)
+        can.any ended
 
     pub all_can_join : IsSettled (account_of home) → CanJoinAll p (answers_of p s each ts)
     all_can_join settled =

@@ -135,7 +135,8 @@ module _ {jobs : Jobs} {p : Plan} {s : Region} {each : ℕ} {old now : View} {t 
         ap jobs_of all ∙ map-append (λ (x : Done). x.job) t.done.items (one ∷ []) ∙ ap (λ (j : ℕ). jobs_of t.done.items ++ j ∷ []) d.does.1 in
         record {
           own = h.own ++ d.own;
-          does = subst (λ ds. DoesEach p s each old.caller ds (h.own ++ d.own)) (sym all) (DoesEach-more p s each old.caller t.done.items one h.own d.own h.does by);
+          does = subst (λ ds. DoesEach p s each old.caller ds (h.own ++ d.own)) (sym all)
+              (DoesEach-more p s each old.caller t.done.items one h.own d.own h.does by);
           makes = Makes-then old now next h.own d.own h.makes d.makes;
           outside = outside;
           account = record {

@@ -50,7 +50,8 @@ pub(crate) fn gather(
 )
     requires giver { IsGiver jobs.now giver.old }
     requires takers { AllByRecursion (λ t. IsTaker jobs.now t.turn) takers.items }
-    ensures account { HasAccount jobs.now giver.new (absorbed (account_of giver.old) (turns_of takers.items)) }
+    ensures account { HasAccount jobs.now giver.new
+        (absorbed (account_of giver.old) (turns_of takers.items)) }
     ensures slots { slots.new ≡ placed slots.old (all_done takers.items) }
 {
     while let Some(taker) = takers.pop() {
