@@ -31,14 +31,15 @@ use Rattle.fm_workers_shares.specs.Shares.{each_of, many_of}
 use Rattle.fm_workers_shares.proofs.Places.{all_placed, length-nones, length-placed}
 use Rattle.fm_workers_jobs.specs.Turns.{HasAccount, times}
 use Rattle.fm_workers_shares.specs.Taking.{jobs_of}
-use Rattle.fm_workers_shares.proofs.Settling.{all_among}
-use Rattle.fm_workers_shares.proofs.Sharing.{IsAnsweredAt, answered_by}
+use Rattle.fm_workers_shares.proofs.Settling.{all_among, all_of_dones, dones}
+use Rattle.fm_workers_shares.proofs.Sharing.{IsAnsweredAt}
+use Rattle.fm_workers_shares.proofs.Standing.{answered_by}
 use Rattle.fm_records.proofs.Sharing.{shares_join}
 use Rattle.fm_workers.specs.Query.{OnlyReads, HasAnswered, IsOpenToAll, EndsQuery, QueriedWith}
 use Rattle.fm_workers.specs.Taking.{Asking, CanTakeBatch, Takes}
 use Rattle.fm_workers_crew.proofs.Callers.{AreDoneBy, worked_by_callers}
 use Rattle.fm_workers.proofs.Asked.{idle_reads}
-use Rattle.fm_workers.proofs.Taking.{HaveStopped, all_of_dones, crew_answered, dones, each_took, none_refused, some_refused, takers_count, takers_read, takers_took}
+use Rattle.fm_workers.proofs.Taking.{HaveStopped, crew_answered, each_took, none_refused, some_refused, takers_count, takers_read, takers_took}
 use Rattle.fm_workers.proofs.Touching.{tasks_count}
 use Rattle.fm_workers_crew.proofs.Working.{nobody, lasts_none}
 use Rattle.fm_workers.proofs.Sparing.{is_answer}
@@ -143,8 +144,10 @@ module _ {pool : Pool} {old new : View} {k : Asking} {threads : ℕ} {b : Batch}
 
   ends_so : (e : Refusal) → HaveStopped k.plan k.segment k.each (callers w.crew.crew) w.crew.more e
       → EndsQuery k.each old new k.plan k.segment w.crew.more w.crew.crew w.crew.draws (Err e)
-  ends_so e (inl m) = subst (λ (x : Refusal). EndsQuery k.each old new k.plan k.segment w.crew.more w.crew.crew w.crew.draws (Err x)) (sym m.0) (can.open_to_all, m.1)
-  ends_so e (inr f) = subst (λ (x : Refusal). EndsQuery k.each old new k.plan k.segment w.crew.more w.crew.crew w.crew.draws (Err x)) (sym f.0) (can.open_to_all, f.1)
+  ends_so e (inl m) = subst (λ (x : Refusal). EndsQuery k.each old new k.plan k.segment w.crew.more w.crew.crew w.crew.draws (Err x)) (sym m.0)
+      (can.open_to_all, m.1)
+  ends_so e (inr f) = subst (λ (x : Refusal). EndsQuery k.each old new k.plan k.segment w.crew.more w.crew.crew w.crew.draws (Err x)) (sym f.0)
+      (can.open_to_all, f.1)
 
   by_shares : (a : List Found) → Finishes k.plan k.segment k.each us (Ok a)
       → AnsweredBy k.plan k.segment k.each (callers w.crew.crew) w.crew.more a

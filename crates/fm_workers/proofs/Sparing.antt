@@ -1,5 +1,5 @@
 -- What is answered where nobody else writes.
-use Rattle.std.proofs.Common.{◌≡◌, ℕ, Bool, true, false, List, [], ◌∷◌, sym, ap, ◌∙◌, subst, inl, inr, ⊎_elim}
+use Rattle.std.proofs.Common.{◌≡◌, ◌≢◌, ℕ, Bool, true, false, List, [], ◌∷◌, sym, ap, ◌∙◌, subst, inl, inr, ⊎_elim}
 use Rattle.std.specs.Prelude.{◌⊎◌, cond}
 use Rattle.std.specs.List.{AllByRecursion, flat_map}
 use Rattle.fm_base_lists.specs.Among.{IsAmong}
@@ -22,6 +22,7 @@ use Rattle.fm_records.proofs.Sharing.{shares_answer, shares_read}
 use Rattle.fm_workers_shares.specs.Answered.{AnsweredBy}
 use Rattle.fm_workers_crew.specs.Crew.{CrewGathered, callers}
 use Rattle.fm_workers.specs.Query.{OnlyReads, reads, stops, NobodyElseWrites, IsAnswer}
+use Rattle.fm_workers.specs.Tally.{OnlyAddsTo, OnlyTallies, closed, no_more, one_add}
 use Rattle.fm_workers_crew.proofs.Working.{nobody}
 use Rattle.fm_base_machine.proofs.Putting.{are_one-equal}
 
@@ -37,6 +38,24 @@ reads_spare s c own place (stops h) =
     (visits_spare c s.arena s.arena place h.reads.reads) in
     subst (λ (es : List Entry). AllByRecursion (λ e. Spares s.arena place e.call) es) (sym h.stops)
     (all_both (λ e. Spares s.arena place e.call) h.before (refused_visit c s.arena) before (tt, tt))
+
+adds_spare : (s counts : Region) (c : Caller) (own : List Entry) (place : ℕ) → counts.arena ≢ s.arena → OnlyAddsTo counts c own
+    → AllByRecursion (λ e. Spares s.arena place e.call) own
+adds_spare s counts c own place other no_more = tt
+adds_spare s counts c own place other closed = (tt, tt)
+adds_spare s counts c own place other (one_add word n found rest is h) =
+    (tt, ((λ at. other at.0), (tt, adds_spare s counts c rest place other h)))
+
+pub tallies_spare : (s counts : Region) (place : ℕ) (more : List Entry) (cs : List Caller) → counts.arena ≢ s.arena
+    → AllByRecursion (λ c. OnlyTallies s counts c (made_by c more)) cs
+    → AllByRecursion (λ c. AllByRecursion (λ e. Spares s.arena place e.call) (made_by c more)) cs
+tallies_spare s counts place more [] other h = tt
+tallies_spare s counts place more (c ∷ cs) other h = (
+  subst (λ (es : List Entry). AllByRecursion (λ e. Spares s.arena place e.call) es) (sym h.0.parts)
+      (all_both (λ e. Spares s.arena place e.call) h.0.reads h.0.adds (reads_spare s c h.0.reads place h.0.are_reads)
+      (adds_spare s counts c h.0.adds place other h.0.are_adds)),
+  tallies_spare s counts place more cs other h.1,
+)
 
 module _ (P : Entry → Type 0) where
   made_first : (c : Caller) (e : Entry) (es : List Entry) → e.caller ≡ c → AllByRecursion P (made_by c (e ∷ es)) → P e

@@ -1,5 +1,5 @@
 -- What takers did, each as a pass of its own.
-use Rattle.std.proofs.Common.{◌≡◌, ◌≢◌, ℕ, ◌+◌, ◌-◌, ◌/◌, ◌%◌, List, [], ◌∷◌, ◌++◌, length, map, refl, sym, ap, ◌∙◌, subst, arith, inl, inr, ⊎_elim, append_assoc, Result, Ok, Err}
+use Rattle.std.proofs.Common.{◌≡◌, ◌≢◌, ℕ, ◌+◌, ◌-◌, ◌/◌, ◌%◌, List, [], ◌∷◌, ◌++◌, length, refl, sym, ap, ◌∙◌, subst, arith, inl, inr, ⊎_elim, Result, Ok, Err}
 use Rattle.std.specs.Prelude.{◌⊎◌}
 use Rattle.std.specs.List.{AllByRecursion, AllZip}
 use Rattle.std.proofs.Math.Nat.{mul-mod_left}
@@ -19,67 +19,44 @@ use Rattle.fm_segment.specs.Access.{IsKnown}
 use Rattle.fm_segment.specs.Region.{Region}
 use Rattle.fm_records_query.specs.Plan.{Plan}
 use Rattle.fm_records.specs.Reads.{AreReads, StopsReading}
-use Rattle.fm_records.proofs.Visiting.{AreReads-append, AreReads-none, StopsReading-after}
+use Rattle.fm_records.proofs.Visiting.{StopsReading-after}
 use Rattle.fm_workers_shares.specs.declared.taker.Done.{Done}
 use Rattle.fm_workers_shares.specs.declared.taker.Taker.{Taker}
-use Rattle.fm_workers_shares.specs.Answered.{all_of}
 use Rattle.fm_workers_shares.specs.Finishing.{HasTaken}
-use Rattle.fm_workers_shares.specs.Placing.{all_done, end_of, or_later}
+use Rattle.fm_workers_shares.specs.Placing.{all_done, end_of}
 use Rattle.fm_workers_shares.specs.Shares.{share_of, start_of}
 use Rattle.fm_workers_shares.specs.Taking.{DoesEach, EndsTaking, IsReady, TakesShares}
-use Rattle.fm_workers_shares.proofs.Ends.{both_ended}
-use Rattle.fm_workers_shares.proofs.Numbers.{run_fits, start_order, start_within}
+use Rattle.fm_workers_shares.proofs.Each.{answered_each}
+use Rattle.fm_workers_shares.proofs.Ends.{both_ended, either_refused}
+use Rattle.fm_workers_shares.proofs.Settling.{dones}
 use Rattle.fm_workers_shares.proofs.Sharing.{IsAnsweredAt}
 use Rattle.fm_workers.specs.Query.{FoundClosed, HasAnswered, IsFirstRefused, OnlyReads, WantedMemory, reads, stops}
 use Rattle.fm_workers.specs.Taking.{Asking, CanTakeShares, Takes}
-use Rattle.fm_workers.proofs.Asked.{IsWithin, query_reads, reads_wider, stopped_by, stops_wider}
+use Rattle.fm_workers.proofs.Asked.{query_reads, stopped_by, stops_wider}
+use Rattle.fm_workers.proofs.Reading.{each_read, reads_after, share_lies}
 use Rattle.fm_workers_crew.proofs.Callers.{AreDoneBy}
-
--- Reads behind others.
-reads_behind : (c : Caller) (s : Region) (es fs : List Entry) → AreReads c s es → OnlyReads s c fs → OnlyReads s c (es ++ fs)
-reads_behind c s es fs h (reads k) = reads (AreReads-append c s es fs h k)
-reads_behind c s es fs h (stops k) = stops (StopsReading-after c s es fs h k)
-
--- what each of them answered
-abbrev pub dones : List Taker → List (List Done)
-dones us = map (λ u. u.done.items) us
-
-pub all_of_dones : (us : List Taker) → all_of (dones us) ≡ all_done us
-all_of_dones [] = refl
-all_of_dones (u ∷ us) = ap (λ ds. u.done.items ++ ds) (all_of_dones us)
 
 -- memory was wanting, or the first that was refused found the arena closed
 abbrev pub HaveStopped : Plan → Region → ℕ → List Caller → List Entry → Refusal → Type 0
 HaveStopped p s each cs more r = ((r ≡ Memory) × WantedMemory p s each cs more) ⊎ ((r ≡ Closed) × FoundClosed p s each cs more)
 
 module _ (w : Asking) (more : List Entry) where
-  share_within : (k : ℕ) → IsWithin (share_of w.plan w.segment w.each k) w.segment
-  share_within k =
-      let fits = run_fits (start_of (w.segment.size / w.plan.size) w.each k) (start_of (w.segment.size / w.plan.size) w.each (k + 1)) w.plan.size
-      w.segment.size (start_order (w.segment.size / w.plan.size) w.each k) (start_within (w.segment.size / w.plan.size) w.each (k + 1)) in
-      record { arena = refl; from = omega arith; below = omega (arith, fits) }
-
   -- ---- what was read
-
-  each_reads : (c : Caller) (ds : List Done) (own : List Entry) → DoesEach w.plan w.segment w.each c ds own → AreReads c w.segment own
-  each_reads c [] own h = subst (AreReads c w.segment) (sym h) (AreReads-none c w.segment)
-  each_reads c (d ∷ ds) own h =
-      let first = reads_wider c (share_of w.plan w.segment w.each d.job) w.segment h.0 (share_within d.job) h.3.reads in
-      subst (AreReads c w.segment) (sym h.2) (AreReads-append c w.segment h.0 h.1 first (each_reads c ds h.1 h.4))
 
   ends_read : (c : Caller) (t : Taker) (r : Result (Unit {0}) Refusal) (served last : List Entry) → AreReads c w.segment served
       → EndsTaking w.jobs w.plan w.segment w.each c t r last → OnlyReads w.segment c (served ++ last)
   ends_read c t (Ok u) served last h e =
       subst (λ (es : List Entry). OnlyReads w.segment c (served ++ es)) (sym e.0) (subst (OnlyReads w.segment c) (sym (append-nil served)) (reads h))
   ends_read c t (Err r) served last h e =
-      reads_behind c w.segment served last h (query_reads c w.plan (share_of w.plan w.segment w.each e.0) w.segment (Err r) last (share_within e.0) e.1)
+      reads_after c w.segment served last h
+      (query_reads c w.plan (share_of w.plan w.segment w.each e.0) w.segment (Err r) last (share_lies w.plan w.segment w.each e.0) e.1)
 
   pub takers_read : (cs : List Caller) (ts us : List Taker) → AreDoneBy (Takes w) more cs ts us
       → AllByRecursion (λ c. OnlyReads w.segment c (made_by c more)) cs
   takers_read [] [] [] d = tt
   takers_read (c ∷ cs) (t ∷ ts) (u ∷ us) d = (
     subst (OnlyReads w.segment c) (sym d.0.parts)
-        (ends_read c u u.end d.0.served d.0.last (each_reads c u.done.items d.0.served d.0.does) d.0.ends),
+        (ends_read c u u.end d.0.served d.0.last (each_read w.plan w.segment w.each c u.done.items d.0.served d.0.does) d.0.ends),
     takers_read cs ts us d.1,
   )
   takers_read cs ts us d = absurd d
@@ -99,23 +76,12 @@ module _ (w : Asking) (more : List Entry) where
 
   -- ---- what was answered
 
-  each_answered : (crew : List Caller) (c : Caller) (ds : List Done) (earlier own later : List Entry) → IsAmong c crew
-      → made_by c more ≡ earlier ++ (own ++ later) → DoesEach w.plan w.segment w.each c ds own
-      → AllByRecursion (λ d. IsAnsweredAt w.plan w.segment w.each crew more d.job d.answer) ds
-  each_answered crew c [] earlier own later among is h = tt
-  each_answered crew c (d ∷ ds) earlier own later among is h =
-      let split : own ++ later ≡ h.0 ++ (h.1 ++ later) = ap (λ (es : List Entry). es ++ later) h.2 ∙ append_assoc h.0 h.1 later in
-      let run : made_by c more ≡ earlier ++ (h.0 ++ (h.1 ++ later)) = is ∙ ap (λ (es : List Entry). earlier ++ es) split in (
-        record { caller = c; among = among; own = h.0; run = record { earlier = earlier; later = h.1 ++ later; run = run }; does = h.3 },
-        each_answered crew c ds (earlier ++ h.0) h.1 later among (run ∙ sym (append_assoc earlier h.0 (h.1 ++ later))) h.4,
-      )
-
   takers_answered : (crew cs : List Caller) (ts us : List Taker) → ((c : Caller) → IsAmong c cs → IsAmong c crew) → AreDoneBy (Takes w) more cs ts us
       → AllByRecursion (λ (d : Done). IsAnsweredAt w.plan w.segment w.each crew more d.job d.answer) (all_done us)
   takers_answered crew [] [] [] among d = tt
   takers_answered crew (c ∷ cs) (t ∷ ts) (u ∷ us) among d =
       all_both (λ (x : Done). IsAnsweredAt w.plan w.segment w.each crew more x.job x.answer) u.done.items (all_done us)
-      (each_answered crew c u.done.items [] d.0.served d.0.last (among c (inl refl)) d.0.parts d.0.does)
+      (answered_each w.plan w.segment w.each crew more c u.done.items [] d.0.served d.0.last (among c (inl refl)) d.0.parts d.0.does)
       (takers_answered crew cs ts us (λ x i. among x (inr i)) d.1)
   takers_answered crew cs ts us among d = absurd d
 
@@ -202,8 +168,8 @@ module _ (w : Asking) (more : List Entry) where
           caller = c;
           first = subst (λ (x : Refusal). IsFirstRefused w.plan w.segment w.each (c ∷ cs) more x c) f.0 first;
           stops = subst (StopsReading c w.segment) (sym h.parts)
-              (StopsReading-after c w.segment h.served h.last (each_reads c u.done.items h.served h.does)
-              (stops_wider c (share_of w.plan w.segment w.each ends.0) w.segment h.last (share_within ends.0) f.1));
+              (StopsReading-after c w.segment h.served h.last (each_read w.plan w.segment w.each c u.done.items h.served h.does)
+              (stops_wider c (share_of w.plan w.segment w.each ends.0) w.segment h.last (share_lies w.plan w.segment w.each ends.0) f.1));
         },
       ))
       (stopped_by c w.plan (share_of w.plan w.segment w.each ends.0) r h.last even (may c) ends.1)
@@ -214,11 +180,7 @@ module _ (w : Asking) (more : List Entry) where
   some_refused (c ∷ cs) (t ∷ ts) (u ∷ us) r may d e =
       ⊎_elim (λ (mine : u.end ≡ Err r). first_stopped c cs u r may d.0 mine)
       (λ (later : (u.end ≡ Ok tt) × (end_of us ≡ Err r)). stopped_later (answered_all c u d.0 later.0) (some_refused cs ts us r may d.1 later.1))
-      (either u.end (end_of us) r e)
-    where
-      either : (x later : Result (Unit {0}) Refusal) (q : Refusal) → or_later x later ≡ Err q → (x ≡ Err q) ⊎ ((x ≡ Ok tt) × (later ≡ Err q))
-      either (Ok o) later q is = inr (refl, is)
-      either (Err o) later q is = inl is
+      (either_refused u.end (end_of us) r e)
   some_refused cs ts us r may d e = absurd d
 
 -- ---- before they begin

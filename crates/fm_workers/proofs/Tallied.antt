@@ -1,11 +1,10 @@
 -- What a tally by a crew comes to.
-use Rattle.std.proofs.Common.{◌≡◌, ◌≢◌, ℕ, ◌/◌, ◌%◌, ◌^◌, ◌<◌, ◌≤◌, List, [], ◌∷◌, length, refl, sym, ap, ◌∙◌, subst, arith, inl, inr, ⊎_elim, Result, Ok, Err}
+use Rattle.std.proofs.Common.{◌≡◌, ℕ, ◌/◌, ◌%◌, ◌^◌, ◌<◌, ◌≤◌, List, [], length, refl, sym, ap, ◌∙◌, subst, arith, inl, inr, ⊎_elim, Result, Ok, Err}
 use Rattle.std.specs.Prelude.{◌⊎◌, ⊤, ℤ}
 use Rattle.std.specs.List.{AllByRecursion, range_with_len}
 use Rattle.fm_base_lists.specs.Among.{IsAmong}
-use Rattle.fm_base_lists.proofs.Each.{all_among, all_both, all_weaker}
+use Rattle.fm_base_lists.proofs.Each.{all_among, all_weaker}
 use Rattle.fm_base.specs.declared.arena_id.ArenaId.{ArenaId}
-use Rattle.fm_base.specs.declared.caller.Caller.{Caller}
 use Rattle.fm_base.specs.declared.kind.Kind.TheVariants.{Confined}
 use Rattle.fm_base.specs.declared.refusal.Refusal.{Refusal}
 use Rattle.fm_base.specs.declared.refusal.Refusal.TheVariants.{Unsupported, Ragged, WrongThread, Closed, NoPass, Memory}
@@ -16,17 +15,18 @@ use Rattle.fm_base.specs.Finds.{Gathered}
 use Rattle.fm_base.specs.Histories.{made_by}
 use Rattle.fm_base.specs.Untouched.{Spares}
 use Rattle.fm_base.proofs.Counting.{counted as word_counted}
+use Rattle.fm_rule.specs.declared.pool.Pool.{Pool}
 use Rattle.fm_rule_facts.specs.Views.{IsSound, View, limit_of, state_in}
 use Rattle.fm_rule_calls.proofs.Going.{reached_by}
 use Rattle.fm_rule_calls.specs.Kept.{Lasts}
 use Rattle.fm_rule_calls.specs.Told.{view_of_pass}
 use Rattle.fm_segment.specs.Access.{IsKnown}
 use Rattle.fm_segment.specs.Region.{Region}
-use Rattle.fm_records_query.specs.Plan.{IsPlan, Plan}
+use Rattle.fm_records_query.specs.Plan.{Plan}
 use Rattle.fm_records.specs.Shares.{IsSpared, Share}
 use Rattle.fm_records.proofs.Sharing.{shares_answer, shares_read}
 use Rattle.fm_workers_jobs.specs.declared.account.Account.{Account}
-use Rattle.fm_workers_jobs.specs.Turns.{HasAccount, Turn, times}
+use Rattle.fm_workers_jobs.specs.Turns.{IsOf, account_of, times}
 use Rattle.fm_workers_shares.specs.Answered.{all_of}
 use Rattle.fm_workers_shares.specs.Batches.{begun, nones}
 use Rattle.fm_workers_shares.specs.Placing.{placed}
@@ -37,43 +37,22 @@ use Rattle.fm_workers_crew.specs.Crew.{AreTooMany, CrewGathered, CrewWorked, IsW
 use Rattle.fm_workers_crew.proofs.Callers.{AreDoneBy, worked_by_callers}
 use Rattle.fm_workers_crew.proofs.Working.{lasts_none, nobody}
 use Rattle.fm_workers.specs.declared.tallier.Tallier.{Tallier}
-use Rattle.fm_workers.specs.Adding.{HasCounts, count_word}
+use Rattle.fm_workers.specs.declared.tally_batch.TallyBatch.{TallyBatch}
+use Rattle.fm_workers.specs.Adding.{count_word}
 use Rattle.fm_workers.specs.Asking.{known_later}
 use Rattle.fm_workers.specs.Counts.{AreCounts, IsTally, how_many, listed, number_of}
 use Rattle.fm_workers.specs.Query.{NobodyElseWrites}
-use Rattle.fm_workers.specs.Summing.{AreTotals, CanTotal, HaveEnded, PassTotals, Totals}
+use Rattle.fm_workers.specs.Summing.{AreTotals, CanTallyBatch, CanTotal, HaveEnded, PassTotals, Totals}
 use Rattle.fm_workers.specs.Tallies.{Tallies, Tallying, all_numbers}
-use Rattle.fm_workers.specs.Tally.{AreAllRead, AreHeld, AreTheCounts, CanBeTallied, EndsTally, LeavesWord, OnlyAddsTo, OnlyTallies, TalliedBy, TalliedWith, closed, no_more, one_add}
+use Rattle.fm_workers.specs.Tally.{AreAllRead, AreHeld, AreTheCounts, CanBeTallied, EndsTally, LeavesWord, OnlyTallies, TalliedBy, TalliedWith}
 use Rattle.fm_workers.proofs.Added.{by_crew, crew_adds}
 use Rattle.fm_workers.proofs.Counted.{listed_joined}
 use Rattle.fm_workers.proofs.CountedShares.{HaveCounted, counted_shares, have_counted, same_numbers, tallied_by}
 use Rattle.fm_workers.proofs.FewCounted.{shares_list}
 use Rattle.fm_workers.proofs.Queried.{even_of, many}
-use Rattle.fm_workers.proofs.Sparing.{by_either, reads_spare}
+use Rattle.fm_workers.proofs.Sparing.{by_either, tallies_spare}
 use Rattle.fm_workers.proofs.Totals.{passes_counted, taken_once, totals_counted}
 use Rattle.fm_workers.proofs.Touching.{HaveStopped, are_takers, crew_stops, crew_tallies, idle_tallies, talliers_count, tasks_count}
-
--- ---- what the crew spares
-
-adds_spare : (s counts : Region) (c : Caller) (own : List Entry) (place : ℕ) → counts.arena ≢ s.arena → OnlyAddsTo counts c own
-    → AllByRecursion (λ e. Spares s.arena place e.call) own
-adds_spare s counts c own place other no_more = tt
-adds_spare s counts c own place other closed = (tt, tt)
-adds_spare s counts c own place other (one_add word n found rest is h) =
-    (tt, ((λ at. other at.0), (tt, adds_spare s counts c rest place other h)))
-
-tallies_spare : (s counts : Region) (place : ℕ) (more : List Entry) (cs : List Caller) → counts.arena ≢ s.arena
-    → AllByRecursion (λ c. OnlyTallies s counts c (made_by c more)) cs
-    → AllByRecursion (λ c. AllByRecursion (λ e. Spares s.arena place e.call) (made_by c more)) cs
-tallies_spare s counts place more [] other h = tt
-tallies_spare s counts place more (c ∷ cs) other h = (
-  subst (λ (es : List Entry). AllByRecursion (λ e. Spares s.arena place e.call) es) (sym h.0.parts)
-      (all_both (λ e. Spares s.arena place e.call) h.0.reads h.0.adds (reads_spare s c h.0.reads place h.0.are_reads)
-      (adds_spare s counts c h.0.adds place other h.0.are_adds)),
-  tallies_spare s counts place more cs other h.1,
-)
-
--- ---- records
 
 -- the refusals before the first draw
 abbrev pub IsFirst : Refusal → Type 0
@@ -115,53 +94,54 @@ refused r crew most wanting visits ends lasts known counts_known still_sound = r
 
 -- Nothing was drawn.
 pub tallied_none : (v : View) (p : Plan) (s counts : Region) (threads : ℕ) (r : Refusal) → IsFirst r → IsKnown (view_of_pass v) s
-    → IsKnown (view_of_pass v) counts → EndsTally (each_of (s.size / p.size) threads) v v p s counts [] [] [] (Err r) → TalliedWith threads v v p s counts (Err r)
+    → IsKnown (view_of_pass v) counts → EndsTally (each_of (s.size / p.size) threads) v v p s counts [] [] [] (Err r)
+    → TalliedWith threads v v p s counts (Err r)
 unfolding nobody
 tallied_none v p s counts threads r first known counts_known ends =
     refused r (nobody v) (omega arith) (λ is. absurd (first_not r first is)) tt ends (lasts_none v) known counts_known (λ h. h)
 
 -- No share was taken.
-pub tallied_refused : {old new : View} {k : Tallying} {threads : ℕ} {ts us : List Tallier} (r : Refusal)
-    → CrewWorked (by_caller (Tallies k)) old new ts us (Err r) → length ts ≡ threads → CanBeTallied k.plan k.segment k.counts
-    → IsKnown (view_of_pass old) k.segment → IsKnown (view_of_pass old) k.counts → TalliedWith threads old new k.plan k.segment k.counts (Err r)
-tallied_refused {old = old} {k = k} {threads = threads} NoPass w count can known counts_known =
+pub tallied_refused : {pool : Pool} {old new : View} {k : Tallying} {threads : ℕ} {b : TallyBatch} {us : List Tallier} (r : Refusal)
+    → CrewWorked (by_caller (Tallies k)) old new b.talliers.items us (Err r) → CanTallyBatch pool old k.plan k.segment k.counts threads k.each b
+    → TalliedWith threads old new k.plan k.segment k.counts (Err r)
+tallied_refused {old = old} {k = k} NoPass w can =
     let less = w.ends.1 in
+    let count = can.begun.count in
     refused NoPass w.crew (omega (arith, count, less))
     (λ e. (omega (arith, count, less), λ x. subst (AreTooMany old) count (w.wanting x refl)))
-    (idle_tallies k.segment k.counts w.crew.more (callers w.crew.crew) w.ends.2) (can, w.ends.0) w.lasts known counts_known w.still_sound
-tallied_refused {k = k} Memory w count can known counts_known =
+    (idle_tallies k.segment k.counts w.crew.more (callers w.crew.crew) w.ends.2) (can.can, w.ends.0) w.lasts can.asked.query.known can.asked.known
+    w.still_sound
+tallied_refused {k = k} Memory w can =
     let none : length w.crew.crew ≡ 0 = ap (λ (gs : List Gathered). length gs) w.ends.1 in
     refused Memory w.crew (omega (arith, none)) (λ e. absurd (cc))
     (subst (λ (gs : List Gathered). AllByRecursion (λ c. OnlyTallies k.segment k.counts c (made_by c w.crew.more)) (callers gs)) (sym w.ends.1) tt)
-    (can, inr (ap callers w.ends.1)) w.lasts known counts_known w.still_sound
-tallied_refused r w count can known counts_known = absurd w.ends
+    (can.can, inr (ap callers w.ends.1)) w.lasts can.asked.query.known can.asked.known w.still_sound
+tallied_refused r w can = absurd w.ends
 
-module _ {old new : View} {k : Tallying} {threads : ℕ} {ts us : List Tallier} {u : Unit {0}}
-    (w : CrewWorked (by_caller (Tallies k)) old new ts us (Ok u)) (plan : IsPlan k.plan) (count : length ts ≡ threads)
-    (each : k.each ≡ each_of (k.segment.size / k.plan.size) threads) (some : 0 < k.each) (any : 0 < threads) (small : k.segment.size ≤ 2 ^ 40)
-    (can : CanBeTallied k.plan k.segment k.counts) (longs : HasCounts k.counts) (other : k.counts.arena ≢ k.segment.arena)
-    (known : IsKnown (view_of_pass old) k.segment) (counts_known : IsKnown (view_of_pass old) k.counts) where
-  done : AreDoneBy (Tallies k) w.crew.more (callers w.crew.crew) ts us
+module _ {pool : Pool} {old new : View} {k : Tallying} {threads : ℕ} {b : TallyBatch} {us : List Tallier} {u : Unit {0}}
+    (w : CrewWorked (by_caller (Tallies k)) old new b.talliers.items us (Ok u))
+    (can : CanTallyBatch pool old k.plan k.segment k.counts threads k.each b) where
+  done : AreDoneBy (Tallies k) w.crew.more (callers w.crew.crew) b.talliers.items us
   done = worked_by_callers (Tallies k) w
 
   as_many : length w.crew.crew ≡ threads
-  as_many = sym (many w.crew.crew) ∙ (tasks_count (Tallies k) w.crew.more (callers w.crew.crew) ts us done ∙ count)
+  as_many = sym (many w.crew.crew) ∙ (tasks_count (Tallies k) w.crew.more (callers w.crew.crew) b.talliers.items us done ∙ can.begun.count)
 
   so_many : length us ≡ threads
-  so_many = talliers_count k w.crew.more (callers w.crew.crew) ts us done ∙ count
+  so_many = talliers_count k w.crew.more (callers w.crew.crew) b.talliers.items us done ∙ can.begun.count
 
   visits : AllByRecursion (λ c. OnlyTallies k.segment k.counts c (made_by c w.crew.more)) (callers w.crew.crew)
-  visits = crew_tallies k w.crew.more (callers w.crew.crew) ts us longs done
+  visits = crew_tallies k w.crew.more (callers w.crew.crew) b.talliers.items us can.asked.longs done
 
   is_sound : IsSound new
   is_sound = w.sound (λ e. absurd (cc))
 
   -- The talliers' turns can be taken back.
-  pub can_total : (turn : Turn) → HasAccount k.jobs turn (begun (many_of (k.segment.size / k.plan.size) k.each) threads) → CanTotal k.jobs turn us
-  can_total turn giver = record {
-    giver = record { is_of = giver.is_of; role = ap (λ (v : Account). v.role) giver.is };
-    out = (let out = ap (λ (v : Account). v.out) giver.is in let n = so_many in omega (arith, out, n));
-    talliers = are_takers k w.crew.more (callers w.crew.crew) ts us done;
+  pub can_total : b.jobs ≡ k.jobs → CanTotal k.jobs b.giver us
+  can_total same = record {
+    giver = record { is_of = subst (λ j. IsOf j b.giver) same can.begun.giver.is_of; role = ap (λ (v : Account). v.role) can.begun.giver.is };
+    out = (let out = ap (λ (v : Account). v.out) can.begun.giver.is in let n = so_many in omega (arith, out, n));
+    talliers = are_takers k w.crew.more (callers w.crew.crew) b.talliers.items us done;
   }
 
   spared : NobodyElseWrites k.segment (callers w.crew.crew) w.crew.more → IsSpared (limit_of old.shape) (state_in old) w.crew.more k.segment
@@ -170,29 +150,30 @@ module _ {old new : View} {k : Tallying} {threads : ℕ} {ts us : List Tallier} 
       record {
         legal = r.legal;
         spared = λ place from below. by_either (λ e. Spares k.segment.arena place e.call) (callers w.crew.crew) w.crew.more
-            (nobody place from below) (tallies_spare k.segment k.counts place w.crew.more (callers w.crew.crew) other visits);
+            (nobody place from below) (tallies_spare k.segment k.counts place w.crew.more (callers w.crew.crew) can.asked.other visits);
       }
 
   -- ---- all was counted
 
-  module _ {giver : Account} (begins : giver ≡ begun (many_of (k.segment.size / k.plan.size) k.each) threads) (ended : HaveEnded giver us) where
+  module _ (ended : HaveEnded (account_of b.giver) us) where
     counted : HaveCounted k w.crew.more (callers w.crew.crew) us
-    counted = have_counted k w.crew.more (callers w.crew.crew) ts us done ended.end
+    counted = have_counted k w.crew.more (callers w.crew.crew) b.talliers.items us done ended.end
 
     once : (n : ℕ) → times n (jobs_of (all_of counted.taken)) ≡ times n (range_with_len 0 (many_of (k.segment.size / k.plan.size) k.each))
     once =
         let n = so_many in
-        taken_once k.jobs (many_of (k.segment.size / k.plan.size) k.each) giver us counted.taken
-        (begins ∙ ap (λ m. begun (many_of (k.segment.size / k.plan.size) k.each) m) (sym so_many)) ended.settled (omega (arith, n, any)) counted.took
+        let any = can.asked.query.some in
+        taken_once k.jobs (many_of (k.segment.size / k.plan.size) k.each) (account_of b.giver) us counted.taken
+        (can.begun.giver.is ∙ ap (λ m. begun (many_of (k.segment.size / k.plan.size) k.each) m) (sym so_many)) ended.settled (omega (arith, n, any)) counted.took
 
     abbrev shares : HasShares k.plan k.segment k.each (callers w.crew.crew) w.crew.more k.segment 0
         (placed (nones (many_of (k.segment.size / k.plan.size) k.each)) (all_of counted.taken))
-    shares = counted_shares k w.crew.more (callers w.crew.crew) counted.taken some can.even counted.by_each once
+    shares = counted_shares k w.crew.more (callers w.crew.crew) counted.taken can.some can.can.even counted.by_each once
 
     few : (n : ℤ) → how_many n (all_numbers (all_of counted.taken)) ≤ k.segment.size
     few n =
-        let same = same_numbers k w.crew.more (callers w.crew.crew) counted.taken some can.even counted.by_each once n in
-        let most = shares_list k.plan k.segment w.crew.more shares.shares n plan can.tally shares.cut shares.done in
+        let same = same_numbers k w.crew.more (callers w.crew.crew) counted.taken can.some can.can.even counted.by_each once n in
+        let most = shares_list k.plan k.segment w.crew.more shares.shares n can.plan can.can.tally shares.cut shares.done in
         omega (arith, same, most)
 
     -- So no sum passes 64 bits.
@@ -201,6 +182,7 @@ module _ {old new : View} {k : Tallying} {threads : ℕ} {ts us : List Tallier} 
         let often = passes_counted k.jobs us counted.taken counted.took passes in
         let most = few (number_of often.0) in
         let over = often.1 in
+        let small = can.small in
         omega (arith, most, over, small)
 
     module _ (ns : List ℕ) (totals : AreTotals us ns) where
@@ -208,17 +190,17 @@ module _ {old new : View} {k : Tallying} {threads : ℕ} {ts us : List Tallier} 
       are_counts = totals_counted k.jobs us counted.taken ns counted.took totals
 
       by_shares : TalliedBy k.plan k.segment k.counts k.each (callers w.crew.crew) w.crew.more ns
-      by_shares = tallied_by k w.crew.more (callers w.crew.crew) counted.taken some can.even counted.by_each once ns are_counts
+      by_shares = tallied_by k w.crew.more (callers w.crew.crew) counted.taken can.some can.can.even counted.by_each once ns are_counts
 
       the_counts : AreTheCounts old k.plan k.segment (callers w.crew.crew) w.crew.more ns
       the_counts nobody =
-          let is = shares_answer (limit_of old.shape) (state_in old) w.crew.more k.plan k.segment by_shares.shares plan (spared nobody) by_shares.cut
+          let is = shares_answer (limit_of old.shape) (state_in old) w.crew.more k.plan k.segment by_shares.shares can.plan (spared nobody) by_shares.cut
           by_shares.done in
-          subst (λ ms. AreCounts ms ns) (listed_joined k.plan w.crew.more by_shares.shares plan can.tally by_shares.done ∙ ap listed is) by_shares.are
+          subst (λ ms. AreCounts ms ns) (listed_joined k.plan w.crew.more by_shares.shares can.plan can.can.tally by_shares.done ∙ ap listed is) by_shares.are
 
       all_read : AreAllRead old k.plan k.segment (callers w.crew.crew) w.crew.more
       all_read nobody index path is word asked of =
-          let x = shares_read (limit_of old.shape) (state_in old) w.crew.more k.plan k.segment by_shares.shares index path is word plan (spared nobody)
+          let x = shares_read (limit_of old.shape) (state_in old) w.crew.more k.plan k.segment by_shares.shares index path is word can.plan (spared nobody)
           by_shares.cut by_shares.done asked of in
           record {
             caller = x.share.caller;
@@ -241,6 +223,7 @@ module _ {old new : View} {k : Tallying} {threads : ℕ} {ts us : List Tallier} 
           let sum = adds.sum i below in
           let mine = are_counts.each i below in
           let most = few (number_of i) in
+          let small = can.small in
           ap (λ x. word_in x k.counts.arena (count_word k.counts i)) r.state ∙ omega (arith, zero_there, now, all, sum, mine, most, small)
 
   -- ---- what comes of it
@@ -252,39 +235,39 @@ module _ {old new : View} {k : Tallying} {threads : ℕ} {ts us : List Tallier} 
   stop_ends : (e : Refusal) → HaveStopped k.plan k.segment k.counts k.each (callers w.crew.crew) w.crew.more e
       → EndsTally k.each old new k.plan k.segment k.counts w.crew.more w.crew.crew w.crew.draws (Err e)
   stop_ends e (inl m) =
-      subst (λ (x : Refusal). EndsTally k.each old new k.plan k.segment k.counts w.crew.more w.crew.crew w.crew.draws (Err x)) (sym m.0) (can, inl m.1)
+      subst (λ (x : Refusal). EndsTally k.each old new k.plan k.segment k.counts w.crew.more w.crew.crew w.crew.draws (Err x)) (sym m.0) (can.can, inl m.1)
   stop_ends e (inr f) =
-      subst (λ (x : Refusal). EndsTally k.each old new k.plan k.segment k.counts w.crew.more w.crew.crew w.crew.draws (Err x)) (sym f.0) (can, f.1)
+      subst (λ (x : Refusal). EndsTally k.each old new k.plan k.segment k.counts w.crew.more w.crew.crew w.crew.draws (Err x)) (sym f.0) (can.can, f.1)
 
-  module _ (giver : Account) (begins : giver ≡ begun (many_of (k.segment.size / k.plan.size) k.each) threads) where
-    stopped : (e : Refusal) → Totals giver us (Err e) → HaveStopped k.plan k.segment k.counts k.each (callers w.crew.crew) w.crew.more e
-    stopped e (inl refused) = crew_stops k w.crew.more (callers w.crew.crew) ts us e done refused
-    stopped e (inr passes) = absurd (never_passes begins passes.0 passes.1.1)
+  stopped : (e : Refusal) → Totals (account_of b.giver) us (Err e)
+      → HaveStopped k.plan k.segment k.counts k.each (callers w.crew.crew) w.crew.more e
+  stopped e (inl refused) = crew_stops k w.crew.more (callers w.crew.crew) b.talliers.items us e done refused
+  stopped e (inr passes) = absurd (never_passes passes.0 passes.1.1)
 
-    -- All shares were taken, or a tallier was refused.
-    pub tallied : (r : Result (List ℕ) Refusal) → Totals giver us r → TalliedWith threads old new k.plan k.segment k.counts r
-    tallied (Err e) h =
-        let n = as_many in
-        refused e w.crew (omega (arith, n)) (λ is. absurd (stop_not e (stopped e h) is)) visits
-        (subst (λ m. EndsTally m old new k.plan k.segment k.counts w.crew.more w.crew.crew w.crew.draws (Err e)) each (stop_ends e (stopped e h)))
-        w.lasts known counts_known w.still_sound
-    tallied (Ok ns) h = record {
-      crew = w.crew;
-      one_each = (let n = as_many in omega (arith, n));
-      one_less = λ e. absurd (cc);
-      visits = visits;
-      ends = subst (λ n. EndsTally n old new k.plan k.segment k.counts w.crew.more w.crew.crew w.crew.draws (Ok ns)) each
-          (can, by_shares begins h.0 ns h.1);
-      value = the_counts begins h.0 ns h.1;
-      read = all_read begins h.0 ns h.1;
-      held = are_held begins h.0 ns h.1;
-      wanting = λ v e. absurd (cc);
-      lasts = w.lasts;
-      known = known_later w.lasts known;
-      counts_known = known_later w.lasts counts_known;
-      sound = is_sound;
-      still_sound = w.still_sound;
-    }
+  -- All shares were taken, or a tallier was refused.
+  pub tallied : (r : Result (List ℕ) Refusal) → Totals (account_of b.giver) us r → TalliedWith threads old new k.plan k.segment k.counts r
+  tallied (Err e) h =
+      let n = as_many in
+      refused e w.crew (omega (arith, n)) (λ is. absurd (stop_not e (stopped e h) is)) visits
+      (subst (λ m. EndsTally m old new k.plan k.segment k.counts w.crew.more w.crew.crew w.crew.draws (Err e)) can.cut (stop_ends e (stopped e h)))
+      w.lasts can.asked.query.known can.asked.known w.still_sound
+  tallied (Ok ns) h = record {
+    crew = w.crew;
+    one_each = (let n = as_many in omega (arith, n));
+    one_less = λ e. absurd (cc);
+    visits = visits;
+    ends = subst (λ n. EndsTally n old new k.plan k.segment k.counts w.crew.more w.crew.crew w.crew.draws (Ok ns)) can.cut
+        (can.can, by_shares h.0 ns h.1);
+    value = the_counts h.0 ns h.1;
+    read = all_read h.0 ns h.1;
+    held = are_held h.0 ns h.1;
+    wanting = λ v e. absurd (cc);
+    lasts = w.lasts;
+    known = known_later w.lasts can.asked.query.known;
+    counts_known = known_later w.lasts can.asked.known;
+    sound = is_sound;
+    still_sound = w.still_sound;
+  }
 
 -- What the tests found.
 pub can_be_tallied : (p : Plan) (s counts : Region) (n m : ℕ) (a b : ArenaId) → IsTally p → n ≡ s.size → m ≡ p.size → n % m ≡ 0 → a ≡ s.arena

@@ -1,8 +1,8 @@
 -- What talliers counted together, and their turns taken back.
-use Rattle.std.proofs.Common.{◌≡◌, ℕ, ◌+◌, ◌-◌, ◌^◌, ◌<◌, ◌≤◌, List, [], ◌∷◌, ◌++◌, length, refl, sym, ap, ◌∙◌, subst, arith, inl, inr, Result, Ok, Err}
+use Rattle.std.proofs.Common.{◌≡◌, ℕ, ◌^◌, ◌<◌, ◌≤◌, List, [], ◌∷◌, length, sym, ap, ◌∙◌, subst, arith, inl, inr, Result, Ok, Err}
 use Rattle.std.specs.Prelude.{ℤ}
 use Rattle.std.specs.List.{AllZip, range_with_len}
-use Rattle.std.proofs.lemmas.List.{map-append}
+use Rattle.std.proofs.lemmas.List.{length-map}
 use Rattle.fm_base.specs.declared.refusal.Refusal.{Refusal}
 use Rattle.fm_workers_jobs.specs.declared.account.Account.{Account}
 use Rattle.fm_workers_jobs.specs.declared.jobs.Jobs.{Jobs}
@@ -11,80 +11,41 @@ use Rattle.fm_workers_shares.specs.declared.taker.Done.{Done}
 use Rattle.fm_workers_shares.specs.Answered.{all_of}
 use Rattle.fm_workers_shares.specs.Batches.{begun}
 use Rattle.fm_workers_shares.specs.Taking.{jobs_of, took}
-use Rattle.fm_workers_shares.proofs.Once.{times-append}
+use Rattle.fm_workers_shares.specs.Placing.{absorbed}
+use Rattle.fm_workers_shares.proofs.Absorbing.{TookShares, each_once, settles}
 use Rattle.fm_workers.specs.declared.tallier.Tallier.{Tallier}
 use Rattle.fm_workers.specs.Counts.{AreCounts, how_many, number_of}
-use Rattle.fm_workers.specs.Summing.{AreTotals, CanTotal, PassTotals, SumsTo, SumsWith, Totals, absorbed, end_of}
+use Rattle.fm_workers.specs.Summing.{AreTotals, CanTotal, PassTotals, SumsTo, SumsWith, Totals, end_of, turns_of}
 use Rattle.fm_workers.specs.Tallies.{all_numbers}
 use Rattle.fm_workers.proofs.Numbers.{both_counted, how_many-append}
 use Rattle.fm_workers.proofs.Talliers.{all_numbers-append}
 
 -- ---- turns taken back
 
-pub role_absorbed : (v : Account) (ts : List Tallier) → (absorbed v ts).role ≡ v.role
-role_absorbed v [] = refl
-role_absorbed v (t ∷ ts) = role_absorbed v ts
-
-out_absorbed : (v : Account) (ts : List Tallier) → (absorbed v ts).out ≡ v.out - length ts
-out_absorbed v [] = omega arith
-out_absorbed v (t ∷ ts) = let rest = out_absorbed v ts in omega (arith, rest)
-
-pushed_absorbed : (v : Account) (ts : List Tallier) → (absorbed v ts).pushed ≡ v.pushed
-pushed_absorbed v [] = refl
-pushed_absorbed v (t ∷ ts) = pushed_absorbed v ts
-
 -- Once all were taken back, it can be settled what became of the shares.
-pub can_settle : {jobs : Jobs} {turn home : Turn} {ts : List Tallier} → CanTotal jobs turn ts → HasAccount jobs home (absorbed (account_of turn) ts)
-    → CanSettle jobs home
-can_settle {turn = turn} {ts = ts} can account = record {
-  giver = record { is_of = account.is_of; role = ap (λ (v : Account). v.role) account.is ∙ role_absorbed (account_of turn) ts ∙ can.giver.role };
-  home = (
-      let out = ap (λ (v : Account). v.out) account.is in
-      let rest = out_absorbed (account_of turn) ts in
-      let many = can.out in
-      omega (arith, out, rest, many)
-      );
-}
+pub can_settle : {jobs : Jobs} {turn home : Turn} {ts : List Tallier} → CanTotal jobs turn ts
+    → HasAccount jobs home (absorbed (account_of turn) (turns_of ts)) → CanSettle jobs home
+can_settle {ts = ts} can account = settles (turns_of ts) can.giver account (can.out ∙ sym (length-map ts (λ (t : Tallier). t.turn)))
 
 -- what a tallier took and counted, which took its stop
 pub record TookAll (jobs : Jobs) (t : Tallier) (ds : List Done) : Type 0 where
   pub account : HasAccount jobs t.turn (took (jobs_of ds) 1)
   pub are : AreCounts (all_numbers ds) t.counts
 
-module _ (jobs : Jobs) (v : Account) where
-  ended_absorbed : (ts : List Tallier) (taken : List (List Done)) → AllZip (TookAll jobs) ts taken → (absorbed v ts).ended ≡ v.ended + length ts
-  ended_absorbed [] [] h = omega arith
-  ended_absorbed (t ∷ ts) (ds ∷ taken) h =
-      let rest = ended_absorbed ts taken h.1 in
-      let one : (account_of t.turn).ended ≡ 1 = ap (λ (a : Account). a.ended) h.0.account.is in
-      omega (arith, rest, one)
-  ended_absorbed ts taken h = absurd h
-
-  times_absorbed : (ts : List Tallier) (taken : List (List Done)) (k : ℕ) → AllZip (TookAll jobs) ts taken
-      → times k (absorbed v ts).taken ≡ times k v.taken + times k (jobs_of (all_of taken))
-  times_absorbed [] [] k h = omega arith
-  times_absorbed (t ∷ ts) (ds ∷ taken) k h =
-      let rest = times_absorbed ts taken k h.1 in
-      let both = times-append k (absorbed v ts).taken (account_of t.turn).taken in
-      let mine : times k (account_of t.turn).taken ≡ times k (jobs_of ds) = ap (λ (a : Account). times k a.taken) h.0.account.is in
-      let all : times k (jobs_of (ds ++ all_of taken)) ≡ times k (jobs_of ds ++ jobs_of (all_of taken)) =
-      ap (times k) (map-append (λ (d : Done). d.job) ds (all_of taken)) in
-      let parts = times-append k (jobs_of ds) (jobs_of (all_of taken)) in
-      omega (arith, rest, both, mine, all, parts)
-  times_absorbed ts taken k h = absurd h
+turns_took : (jobs : Jobs) (ts : List Tallier) (taken : List (List Done)) → AllZip (TookAll jobs) ts taken
+    → AllZip (TookShares jobs) (turns_of ts) taken
+turns_took jobs [] [] h = tt
+turns_took jobs (t ∷ ts) (ds ∷ taken) h = (h.0.account, turns_took jobs ts taken h.1)
+turns_took jobs ts taken h = absurd h
 
 -- Each share was taken once, and nothing else.
-pub taken_once : (jobs : Jobs) (n : ℕ) (v : Account) (ts : List Tallier) (taken : List (List Done)) → v ≡ begun n (length ts) → IsSettled (absorbed v ts)
-    → 0 < length ts → AllZip (TookAll jobs) ts taken → (k : ℕ) → times k (jobs_of (all_of taken)) ≡ times k (range_with_len 0 n)
-taken_once jobs n v ts taken is settled some h k =
-    let count = ended_absorbed jobs v ts taken h in
-    let whole : n - 0 ≡ n = omega arith in
-    let pushed : times k (absorbed v ts).pushed ≡ times k (range_with_len 0 n) =
-    ap (times k) (pushed_absorbed v ts) ∙ ap (λ (a : Account). times k a.pushed) is ∙ ap (λ (m : ℕ). times k (range_with_len 0 m)) whole in
-    let none : times k v.taken ≡ 0 = ap (λ (a : Account). times k a.taken) is in
-    let all = times_absorbed jobs v ts taken k h in
-    let once = settled.each_once (omega (arith, count, some)) k in
-    omega (arith, once, pushed, none, all)
+pub taken_once : (jobs : Jobs) (n : ℕ) (v : Account) (ts : List Tallier) (taken : List (List Done)) → v ≡ begun n (length ts)
+    → IsSettled (absorbed v (turns_of ts)) → 0 < length ts → AllZip (TookAll jobs) ts taken
+    → (k : ℕ) → times k (jobs_of (all_of taken)) ≡ times k (range_with_len 0 n)
+taken_once jobs n v ts taken is settled some h =
+    let many = length-map ts (λ (t : Tallier). t.turn) in
+    each_once jobs n v (turns_of ts) taken (is ∙ ap (λ (m : ℕ). begun n m) (sym many)) settled (omega (arith, many, some))
+    (turns_took jobs ts taken h)
 
 -- ---- sums
 
@@ -99,7 +60,7 @@ sums_more t gone (Err e) (Err r) h (inl q) = let same : e ≡ r = cc in (sym sam
 sums_more t gone (Err e) (Err r) h (inr w) = absurd (cc)
 
 -- What comes of it, once all was settled.
-pub totals : (v : Account) (ts : List Tallier) (r : Result (List ℕ) Refusal) → end_of ts ≡ Ok tt → IsSettled (absorbed v ts) → SumsTo ts r → Totals v ts r
+pub totals : (v : Account) (ts : List Tallier) (r : Result (List ℕ) Refusal) → end_of ts ≡ Ok tt → IsSettled (absorbed v (turns_of ts)) → SumsTo ts r → Totals v ts r
 totals v ts (Ok ns) end settled h = (record { end = end; settled = settled }, h)
 totals v ts (Err r) end settled h = inr (record { end = end; settled = settled }, h)
 

@@ -16,7 +16,6 @@ use Rattle.fm_records.specs.Reads.{IsWordOf}
 use Rattle.fm_workers_jobs.specs.declared.account.Account.{Account}
 use Rattle.fm_workers_jobs.specs.Turns.{IsTaker}
 use Rattle.fm_workers_shares.specs.declared.taker.Done.{Done}
-use Rattle.fm_workers_shares.specs.Placing.{or_later}
 use Rattle.fm_workers_shares.specs.Shares.{share_of}
 use Rattle.fm_workers.specs.declared.tallier.Tallier.{Tallier}
 use Rattle.fm_workers.specs.Adding.{AddsAt, AddsBelow, DoesAdd, HasCounts, adds, count_word, none_yet, nothing, one_more}
@@ -24,6 +23,7 @@ use Rattle.fm_workers.specs.Query.{OnlyReads, reads}
 use Rattle.fm_workers.specs.Summing.{end_of}
 use Rattle.fm_workers.specs.Tallies.{DoesCount, EndsTallying, StopsTally, Tallies, TalliesShares, Tallying, unadded, uncounted}
 use Rattle.fm_workers.specs.Tally.{FoundEitherClosed, HasCounted, IsFirstUncounted, OnlyAddsTo, OnlyTallies, closed, no_more, one_add}
+use Rattle.fm_workers_shares.proofs.Ends.{either_refused}
 use Rattle.fm_workers_crew.proofs.Callers.{AreDoneBy}
 use Rattle.fm_workers.proofs.Asked.{no_reads, stops_count}
 use Rattle.fm_workers.proofs.Reading.{each_read, reads_after, share_lies}
@@ -201,11 +201,7 @@ module _ (w : Tallying) (more : List Entry) where
       (λ (later : (u.end ≡ Ok tt) × (end_of us ≡ Err r)).
       let mine = subst (λ q. EndsTallying w.jobs c w.plan w.segment w.counts w.each u q (made_by c more)) later.0 d.0 in
       stopped_later r (mine.0, (u.counts, mine.1)) (crew_stops cs ts us r d.1 later.1))
-      (either u.end (end_of us) r e)
-    where
-      either : (x behind : Result (Unit {0}) Refusal) (q : Refusal) → or_later x behind ≡ Err q → (x ≡ Err q) ⊎ ((x ≡ Ok tt) × (behind ≡ Err q))
-      either (Ok o) behind q is = inr (refl, is)
-      either (Err o) behind q is = inl is
+      (either_refused u.end (end_of us) r e)
   crew_stops cs ts us r d e = absurd d
 
   -- ---- turns

@@ -1,18 +1,23 @@
 -- What comes of a batch of shares that are counted.
-use Rattle.std.specs.Prelude.{◌≡◌, ◌⊎◌, ℕ, List, [], ◌∷◌, length, Result, Ok, Err}
+use Rattle.std.specs.Prelude.{◌≡◌, ◌⊎◌, ℕ, ◌/◌, ◌<◌, ◌≤◌, ◌^◌, List, [], ◌∷◌, length, map, Result, Ok, Err}
 use Rattle.std.specs.List.{AllByRecursion}
 use Rattle.fm_base.specs.declared.refusal.Refusal.{Refusal}
 use Rattle.fm_base.specs.declared.refusal.Refusal.TheVariants.{Memory}
 use Rattle.fm_workers_jobs.specs.declared.account.Account.{Account}
 use Rattle.fm_workers_jobs.specs.declared.jobs.Jobs.{Jobs}
-use Rattle.fm_workers_jobs.specs.Accounts.{after_absorb}
 use Rattle.fm_workers_jobs.specs.Turns.{HasAccount, IsGiver, IsSettled, IsTaker, Turn, account_of}
+use Rattle.fm_rule.specs.declared.pool.Pool.{Pool}
+use Rattle.fm_rule_facts.specs.Views.{View}
+use Rattle.fm_segment.specs.Region.{Region}
+use Rattle.fm_records_query.specs.Plan.{IsPlan, Plan}
 use Rattle.fm_workers_shares.specs.Batches.{begun}
-use Rattle.fm_workers_shares.specs.Placing.{or_later}
+use Rattle.fm_workers_shares.specs.Placing.{absorbed, or_later}
+use Rattle.fm_workers_shares.specs.Shares.{each_of, many_of}
 use Rattle.fm_workers.specs.declared.tallier.Tallier.{Tallier}
 use Rattle.fm_workers.specs.declared.tally_batch.TallyBatch.{TallyBatch}
 use Rattle.fm_workers.specs.Counts.{AreCounts, AreSums, PassSums}
 use Rattle.fm_workers.specs.Tallies.{IsReady}
+use Rattle.fm_workers.specs.Tally.{CanBeTallied, CanTallyWith}
 
 -- no share was taken yet
 pub record IsBegun (many threads : ℕ) (b : TallyBatch) : Type 0 where
@@ -20,15 +25,26 @@ pub record IsBegun (many threads : ℕ) (b : TallyBatch) : Type 0 where
   pub talliers : AllByRecursion (IsReady b.jobs) b.talliers.items
   pub count : length b.talliers.items ≡ threads
 
+abbrev pub talliers_in : TallyBatch → ℕ
+talliers_in b = length b.talliers.items
+
+-- what can be tallied was asked for, and the batch has its shares
+pub record CanTallyBatch (pool : Pool) (v : View) (p : Plan) (s counts : Region) (threads each : ℕ) (b : TallyBatch) : Type 0 where
+  pub asked : CanTallyWith pool v p s counts threads
+  pub can : CanBeTallied p s counts
+  pub plan : IsPlan p
+  pub small : s.size ≤ 2 ^ 40
+  pub cut : each ≡ each_of (s.size / p.size) threads
+  pub some : 0 < each
+  pub begun : IsBegun (many_of (s.size / p.size) each) threads b
+
 -- the refusal of the first that was refused
 abbrev pub end_of : List Tallier → Result (Unit {0}) Refusal
 end_of [] = Ok tt
 end_of (t ∷ ts) = or_later t.end (end_of ts)
 
--- the account that took all their turns back, the last one first
-abbrev pub absorbed : Account → List Tallier → Account
-absorbed v [] = v
-absorbed v (t ∷ ts) = after_absorb (absorbed v ts) (account_of t.turn)
+abbrev pub turns_of : List Tallier → List Turn
+turns_of ts = map (λ t. t.turn) ts
 
 -- ---- the sum of what they counted
 
@@ -62,7 +78,7 @@ pub record CanTotal (jobs : Jobs) (turn : Turn) (ts : List Tallier) : Type 0 whe
 -- none was refused, and it is known what became of the shares
 pub record HaveEnded (v : Account) (ts : List Tallier) : Type 0 where
   pub end : end_of ts ≡ Ok tt
-  pub settled : IsSettled (absorbed v ts)
+  pub settled : IsSettled (absorbed v (turns_of ts))
 
 -- the counts of all together; or the first that was refused is refused so; or a sum passes 64 bits
 abbrev pub Totals : Account → List Tallier → Result (List ℕ) Refusal → Type 0

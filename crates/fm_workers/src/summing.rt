@@ -1,7 +1,8 @@
 ghost use Rattle.std.specs.Prelude.{◌≡◌};
 ghost use Rattle.std.specs.List.{AllByRecursion};
 ghost use Rattle.fm_workers_jobs.specs.Turns.{account_of, HasAccount, IsGiver, IsTaker};
-ghost use Rattle.fm_workers.specs.Summing.{CanTotal, SumsTo, SumsWith, Totals, absorbed, end_of};
+ghost use Rattle.fm_workers_shares.specs.Placing.{absorbed};
+ghost use Rattle.fm_workers.specs.Summing.{CanTotal, SumsTo, SumsWith, Totals, end_of, turns_of};
 
 use crate::counts::Counts;
 use crate::tallier::Tallier;
@@ -45,7 +46,8 @@ fn first_end(talliers: &[Tallier]) -> Result<(), Refusal>
 fn gather(jobs: &Jobs, giver: &mut Turn, mut talliers: Vec<Tallier>) -> Result<Counts, Refusal>
     requires giver { IsGiver jobs.now giver.old }
     requires talliers { AllByRecursion (λ t. IsTaker jobs.now t.turn) talliers.items }
-    ensures account { HasAccount jobs.now giver.new (absorbed (account_of giver.old) talliers.items) }
+    ensures account { HasAccount jobs.now giver.new
+        (absorbed (account_of giver.old) (turns_of talliers.items)) }
     ensures sums { SumsTo talliers.items result }
 {
     let mut behind = Ok(Counts::none());

@@ -1,6 +1,7 @@
 ghost use Rattle.std.specs.Prelude.{◌≡◌, MatchBool};
 ghost use Rattle.fm_gate.specs.Needs.{IsOutside};
 ghost use Rattle.fm_workers.specs.Counts.{IsTally, IsByteKind, ListsBytes};
+ghost use Rattle.fm_workers.specs.Summing.{CanTallyBatch, talliers_in};
 ghost use Rattle.fm_workers.specs.Tally.{CanTallyWith, TalliedWith};
 
 use crate::counts::Counts;
@@ -43,7 +44,8 @@ impl<'a, R: Wait + Sync, G: Gate> Work<Tallier> for Tally<'a, R, G> {
 
     ghost can = { λ w. CanTally (tallying w.jobs.now w.query.now w.segment w.each w.counts) };
 
-    ghost does = { λ w. by_caller (Tallies (tallying w.jobs.now w.query.now w.segment w.each w.counts)) };
+    ghost does = { λ w. by_caller
+        (Tallies (tallying w.jobs.now w.query.now w.segment w.each w.counts)) };
 
     fn work(&self, alloc: Global, memory: &mut Shared, tallier: &mut Tallier) {
         let calls = AtGate {
@@ -110,10 +112,31 @@ pub fn tally_with<R: Threads + Wait + Sync, G: Gate>(
     }
     let count = s.size() / q.record_size();
     let each = records_each(count, threads);
-    let batch = match TallyBatch::new(rt, alloc, count_shares(count, threads), threads) {
-        Ok(batch) => batch,
-        Err(refusal) => return Err(refusal),
-    };
+    match TallyBatch::new(rt, alloc, count_shares(count, threads), threads) {
+        Ok(batch) => take_batch(rt, alloc, pool, pass, q, s, counts, each, batch, gate),
+        Err(refusal) => Err(refusal),
+    }
+}
+
+/// The counts over a batch's shares, which a crew takes, a pass for each tallier.
+fn take_batch<R: Threads + Wait + Sync, G: Gate>(
+    rt: &R,
+    alloc: Global,
+    pool: &Pool,
+    pass: &mut Pass,
+    q: &Query,
+    s: &Segment,
+    counts: &Segment,
+    each: u64,
+    batch: TallyBatch,
+    gate: &G,
+) -> Result<Counts, Refusal>
+    requires { CanTallyBatch pool.now pass.old
+        q.now s.now counts.now (talliers_in batch) each batch }
+    ensures tallied { TalliedWith (talliers_in batch) pass.old pass.new
+        q.now s.now counts.now result }
+    ensures outside { IsOutside pool.now pass.new }
+{
     let TallyBatch {
         jobs,
         giver,

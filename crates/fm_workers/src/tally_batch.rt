@@ -58,7 +58,8 @@ fn call_talliers(
     requires { IsGiver jobs.now giver.old }
     ensures ready { IfOk result (λ talliers. AllByRecursion (IsReady jobs.now) talliers.items) }
     ensures count { IfOk result (λ talliers. length talliers.items ≡ count) }
-    ensures giver { IfOk result (λ _. HasAccount jobs.now giver.new (after_turns (account_of giver.old) count)) }
+    ensures giver { IfOk result
+        (λ _. HasAccount jobs.now giver.new (after_turns (account_of giver.old) count)) }
     ensures memory { IfErr result (λ refusal. refusal ≡ Refusal.Memory) }
 {
     let Ok(mut talliers) = Vec::with_capacity(alloc, count as usize) else {

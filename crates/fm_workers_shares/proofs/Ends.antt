@@ -1,8 +1,8 @@
 -- What the takers' ends say of a batch.
-use Rattle.std.proofs.Common.{◌≡◌, ℕ, ◌/◌, List, [], ◌∷◌, ◌++◌, length, take, drop, refl, ap, ◌∙◌, subst, arith, inr, Result, Ok, Err, IfOk}
-use Rattle.std.specs.Prelude.{IfErr}
+use Rattle.std.proofs.Common.{◌≡◌, ℕ, ◌/◌, List, [], ◌∷◌, ◌++◌, length, take, drop, refl, ap, ◌∙◌, subst, arith, inl, inr, Result, Ok, Err, IfOk}
+use Rattle.std.specs.Prelude.{◌⊎◌, IfErr}
 use Rattle.std.specs.List.{AllByRecursion}
-use Rattle.std.proofs.lemmas.List.{take_at}
+use Rattle.std.proofs.lemmas.List.{length-map, take_at}
 use Rattle.fm_base_lists.proofs.Each.{all_both}
 use Rattle.fm_base.specs.declared.caller.Caller.{Caller}
 use Rattle.fm_base.specs.declared.refusal.Refusal.{Refusal}
@@ -16,19 +16,24 @@ use Rattle.fm_records_query.specs.Plan.{Plan}
 use Rattle.fm_records.specs.declared.found.Found.{Found}
 use Rattle.fm_workers_shares.specs.declared.taker.Done.{Done}
 use Rattle.fm_workers_shares.specs.declared.taker.Taker.{Taker}
-use Rattle.fm_workers_shares.specs.Batches.{begun}
 use Rattle.fm_workers_shares.specs.Finishing.{AreAllTaken, CanFinish, Finishes, HasTaken, answers_of}
 use Rattle.fm_workers_shares.specs.Joining.{CanJoinAll, joined_all}
-use Rattle.fm_workers_shares.specs.Placing.{Slot, absorbed, all_done, end_of, or_later, placed}
+use Rattle.fm_workers_shares.specs.Placing.{Slot, absorbed, all_done, end_of, or_later, placed, turns_of}
 use Rattle.fm_workers_shares.specs.Shares.{many_of}
 use Rattle.fm_workers_shares.specs.Taking.{DoesEach, EndsTaking}
+use Rattle.fm_workers_shares.proofs.Absorbing.{settles}
 use Rattle.fm_workers_shares.proofs.Joins.{IsFoundAt, all_join}
-use Rattle.fm_workers_shares.proofs.Places.{all_placed, length-placed, role_absorbed}
-use Rattle.fm_workers_shares.proofs.Settling.{HasEnded, all_among, all_taken, out_absorbed}
+use Rattle.fm_workers_shares.proofs.Places.{all_placed, length-placed}
+use Rattle.fm_workers_shares.proofs.Settling.{HasEnded, all_among, all_taken}
 
 pub both_ended : (r later : Result (Unit {0}) Refusal) → or_later r later ≡ Ok tt → (r ≡ Ok tt) × (later ≡ Ok tt)
 both_ended (Ok u) later e = (refl, e)
 both_ended (Err r) later e = absurd (cc)
+
+-- The first was refused, or those behind it were.
+pub either_refused : (r later : Result (Unit {0}) Refusal) (e : Refusal) → or_later r later ≡ Err e → (r ≡ Err e) ⊎ ((r ≡ Ok tt) × (later ≡ Err e))
+either_refused (Ok u) later e is = inr (refl, is)
+either_refused (Err q) later e is = inl is
 
 module _ (jobs : Jobs) (p : Plan) (s : Region) (each : ℕ) where
   -- Where none was refused, all took their stops.
@@ -71,25 +76,18 @@ module _ {p : Plan} {s : Region} {each : ℕ} {jobs : Jobs} {turn : Turn} {ts : 
   pub ended : AllByRecursion (HasEnded jobs) ts
   ended = all_ended jobs p s each ts end can.taken
 
-  module _ {home : Turn} (account : HasAccount jobs home (absorbed (account_of turn) ts)) where
-    is_absorbed : account_of home ≡ absorbed (begun (many_of (s.size / p.size) each) (length ts)) ts
-    is_absorbed = account.is ∙ ap (λ (v : Account). absorbed v ts) can.giver.is
-
+  module _ {home : Turn} (account : HasAccount jobs home (absorbed (account_of turn) (turns_of ts))) where
     pub can_settle : CanSettle jobs home
-    can_settle = record {
-      giver = record {
-        is_of = account.is_of;
-        role = ap (λ (v : Account). v.role) is_absorbed ∙ role_absorbed (begun (many_of (s.size / p.size) each) (length ts)) ts;
-      };
-      home = (
-          let out = ap (λ (v : Account). v.out) is_absorbed in
-          let rest = out_absorbed jobs (begun (many_of (s.size / p.size) each) (length ts)) ts in
-          omega (arith, out, rest)
-          );
-    }
+    can_settle = settles (turns_of ts) (is_giver can) account (
+        let out = ap (λ (v : Account). v.out) can.giver.is in
+        let many = length-map ts (λ (t : Taker). t.turn) in
+        omega (arith, out, many)
+        )
 
     pub are_all_taken : IsSettled (account_of home) → AreAllTaken (many_of (s.size / p.size) each) ts
-    are_all_taken settled = all_taken jobs (many_of (s.size / p.size) each) (account_of home) ts is_absorbed settled can.any ended
+    are_all_taken settled =
+        all_taken jobs (many_of (s.size / p.size) each) (account_of turn) ts can.giver.is (subst (λ (v : Account). IsSettled v) account.is settled)
+        can.any ended
 
     pub all_can_join : IsSettled (account_of home) → CanJoinAll p (answers_of p s each ts)
     all_can_join settled =

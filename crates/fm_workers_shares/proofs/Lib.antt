@@ -1,3 +1,4 @@
+pub mod Absorbing
 pub mod Each
 pub mod Ends
 pub mod Joins

@@ -4,13 +4,11 @@ use Rattle.std.specs.Prelude.{⊤}
 use Rattle.std.specs.List.{AllByRecursion}
 use Rattle.std.proofs.lemmas.List.{length-set}
 use Rattle.fm_base_lists.specs.Among.{IsAmong}
-use Rattle.fm_workers_jobs.specs.declared.account.Account.{Account}
 use Rattle.fm_records.specs.declared.found.Found.{Found}
 use Rattle.fm_workers_shares.specs.declared.taker.Done.{Done}
-use Rattle.fm_workers_shares.specs.declared.taker.Taker.{Taker}
 use Rattle.fm_workers_shares.specs.Batches.{nones}
 use Rattle.fm_workers_shares.specs.Joining.{IsAnswered}
-use Rattle.fm_workers_shares.specs.Placing.{Slot, absorbed, placed}
+use Rattle.fm_workers_shares.specs.Placing.{Slot, placed}
 use Rattle.fm_workers_shares.specs.Taking.{jobs_of}
 
 pub placed-append : (slots : List Slot) (ds es : List Done) → placed slots (ds ++ es) ≡ placed (placed slots es) ds
@@ -31,11 +29,6 @@ one_none (suc n) = ap (λ (xs : List Slot). None ∷ xs) (one_none n)
 
 pub nones-more : (n : ℕ) → nones n ++ None ∷ [] ≡ nones (n + 1)
 nones-more n = let next : suc n ≡ n + 1 = omega arith in one_none n ∙ ap nones next
-
--- Who takes turns back stays who it was.
-pub role_absorbed : (v : Account) (ts : List Taker) → (absorbed v ts).role ≡ v.role
-role_absorbed v [] = refl
-role_absorbed v (t ∷ ts) = role_absorbed v ts
 
 -- ---- which answers stand there
 

@@ -1,5 +1,5 @@
 -- A taker answers a share, and then the next.
-use Rattle.std.proofs.Common.{◌≡◌, ℕ, ◌+◌, ◌-◌, ◌*◌, ◌/◌, ◌%◌, List, [], ◌∷◌, ◌++◌, None, Some, refl, sym, ap, ◌∙◌, subst, arith, inl, append_assoc, le_trans, Ok, Err}
+use Rattle.std.proofs.Common.{◌≡◌, ℕ, ◌+◌, ◌-◌, ◌*◌, ◌/◌, ◌%◌, List, [], ◌∷◌, ◌++◌, None, Some, refl, sym, ap, ◌∙◌, subst, arith, inl, le_trans, Ok, Err}
 use Rattle.std.proofs.Math.Nat.{mul-mod_left, dvd-add}
 use Rattle.std.proofs.lemmas.List.{append-nil, map-append}
 use Rattle.std.proofs.lemmas.Nat.Gcd.{dvd_of_mod-eq-zero, mod-eq-zero_of_dvd, dvd_trans}
@@ -24,6 +24,7 @@ use Rattle.fm_workers_shares.specs.declared.taker.Done.{Done}
 use Rattle.fm_workers_shares.specs.declared.taker.Taker.{Taker}
 use Rattle.fm_workers_shares.specs.Shares.{share_of, start_of}
 use Rattle.fm_workers_shares.specs.Taking.{CanServe, DoesEach, DoesShare, EndsTaking, IsReady, Serves, TakesShares, jobs_of, took}
+use Rattle.fm_workers_shares.proofs.Each.{DoesEach-more}
 use Rattle.fm_workers_shares.proofs.Numbers.{run_fits, start_order, start_within}
 
 -- ---- one share
@@ -62,17 +63,6 @@ served_wants v p s each job old new can same = record {
 }
 
 -- ---- one after the other
-
-does_more : (p : Plan) (s : Region) (each : ℕ) (c : Caller) (ds : List Done) (d : Done) (own one : List Entry) → DoesEach p s each c ds own
-    → DoesShare p s each c d one → DoesEach p s each c (ds ++ d ∷ []) (own ++ one)
-does_more p s each c [] d own one h m = (one, [], ap (λ (es : List Entry). es ++ one) h ∙ sym (append-nil one), m, refl)
-does_more p s each c (x ∷ ds) d own one h m = (
-  h.0,
-  h.1 ++ one,
-  ap (λ (es : List Entry). es ++ one) h.2 ∙ append_assoc h.0 h.1 one,
-  h.3,
-  does_more p s each c ds d h.1 one h.4 m,
-)
 
 -- what a taker did so far
 pub record HasServed (jobs : Jobs) (p : Plan) (s : Region) (each : ℕ) (old now : View) (t : Taker) : Type 0 where
@@ -145,7 +135,8 @@ module _ {jobs : Jobs} {p : Plan} {s : Region} {each : ℕ} {old now : View} {t 
         ap jobs_of all ∙ map-append (λ (x : Done). x.job) t.done.items (one ∷ []) ∙ ap (λ (j : ℕ). jobs_of t.done.items ++ j ∷ []) d.does.1 in
         record {
           own = h.own ++ d.own;
-          does = subst (λ ds. DoesEach p s each old.caller ds (h.own ++ d.own)) (sym all) (does_more p s each old.caller t.done.items one h.own d.own h.does by);
+          does = subst (λ ds. DoesEach p s each old.caller ds (h.own ++ d.own)) (sym all)
+              (DoesEach-more p s each old.caller t.done.items one h.own d.own h.does by);
           makes = Makes-then old now next h.own d.own h.makes d.makes;
           outside = outside;
           account = record {

@@ -1,27 +1,17 @@
--- Answers at their places are those of shares, one behind the other.
-use Rattle.std.proofs.Common.{◌≡◌, ℕ, ◌+◌, ◌-◌, ◌*◌, ◌/◌, ◌%◌, ◌<◌, ◌≤◌, List, [], ◌∷◌, length, refl, sym, ap, ◌∙◌, subst, arith, Ok}
-use Rattle.std.specs.List.{AllByRecursion, AllZip, range_with_len}
+-- Shares are runs of records, one behind the other, that callers answer.
+use Rattle.std.proofs.Common.{◌≡◌, ℕ, ◌+◌, ◌-◌, ◌*◌, ◌/◌, ◌%◌, ◌≤◌, List, sym, ap, ◌∙◌, arith, Ok}
 use Rattle.std.proofs.Math.Nat.{mul-le-mul_right, mul-mod_left}
 use Rattle.std.proofs.lemmas.Nat.{div-add-mod'}
 use Rattle.fm_base_lists.specs.Among.{IsAmong}
 use Rattle.fm_base.specs.declared.caller.Caller.{Caller}
 use Rattle.fm_base.specs.Calls.{Entry}
-use Rattle.fm_base.specs.Histories.{made_by}
-use Rattle.fm_workers_jobs.specs.Turns.{times}
 use Rattle.fm_segment.specs.Region.{Region}
 use Rattle.fm_records_query.specs.Plan.{Plan}
 use Rattle.fm_records.specs.declared.found.Found.{Found}
-use Rattle.fm_records.specs.Joined.{joined}
 use Rattle.fm_records.specs.Query.{DoesQuery}
-use Rattle.fm_records.specs.Shares.{AreCut, AreDone, IsFirst, IsRunOf, Share, all_joined, behind}
-use Rattle.fm_workers_shares.specs.declared.taker.Done.{Done}
-use Rattle.fm_workers_shares.specs.Answered.{AnsweredBy, AreNumbered, all_of}
-use Rattle.fm_workers_shares.specs.Joining.{joined_all, joined_slot}
-use Rattle.fm_workers_shares.specs.Placing.{Slot}
-use Rattle.fm_workers_shares.specs.Shares.{many_of, piece, share_of, start_of}
-use Rattle.fm_workers_shares.specs.Taking.{DoesEach, jobs_of}
-use Rattle.fm_workers_shares.proofs.Numbers.{run_ends, start_first, start_last, start_order, start_within}
-use Rattle.fm_workers_shares.proofs.Places.{AreAll}
+use Rattle.fm_records.specs.Shares.{IsFirst, IsRunOf, Share, behind}
+use Rattle.fm_workers_shares.specs.Shares.{piece, share_of}
+use Rattle.fm_workers_shares.proofs.Numbers.{run_ends}
 
 -- A run is the first share of what begins with it.
 pub first_of_piece : (p : Plan) (s : Region) (from next to : ℕ) (w : Share) → from ≤ next → next ≤ to
@@ -67,69 +57,3 @@ module _ (p : Plan) (s : Region) (each : ℕ) (crew : List Caller) (more : List 
     pub own : List Entry
     pub run : IsRunOf caller more own
     pub does : DoesQuery caller p (share_of p s each k) (Ok x) own
-
-  -- the shares from this number on, and what they come to
-  record Shared (k : ℕ) (us : List Slot) : Type 0 where
-    shares : List Share
-    cut : AreCut p (piece p s (start_of (s.size / p.size) each k) (s.size / p.size)) shares
-    numbered : AreNumbered p s each k shares
-    callers : AllByRecursion (λ w. IsAmong w.caller crew) shares
-    done : AreDone p more shares
-    joined : joined_all p us ≡ all_joined p shares
-
-  shared : (k : ℕ) (us : List Slot) → 0 < each → k + length us ≡ many_of (s.size / p.size) each → AreAll IsAnsweredAt k us → Shared k us
-  shared k [] some ends h =
-      let here : k ≡ many_of (s.size / p.size) each = omega (arith, ends) in
-      let all : start_of (s.size / p.size) each k ≡ s.size / p.size = ap (start_of (s.size / p.size) each) here ∙ start_last (s.size / p.size) each some in
-      record {
-        shares = [];
-        cut = (
-            let none : s.size / p.size - start_of (s.size / p.size) each k ≡ 0 = omega (arith, all) in
-            let bytes = ap (λ (n : ℕ). n * p.size) none in
-            omega (arith, bytes)
-            );
-        numbered = here;
-        callers = tt;
-        done = tt;
-        joined = refl;
-      }
-  shared k (u ∷ us) some ends h =
-      let rest = shared (k + 1) us some (omega (arith, ends)) h.1 in
-      let order = start_order (s.size / p.size) each k in
-      let within = start_within (s.size / p.size) each (k + 1) in
-      let here = h.0.2 in
-      let w : Share = record { caller = here.caller; region = share_of p s each k; found = h.0.0; own = here.own } in
-      let is_behind = behind_piece p s (share_of p s each k) (start_of (s.size / p.size) each k) (start_of (s.size / p.size) each (k + 1)) (s.size / p.size)
-      order within refl in
-      record {
-        shares = w ∷ rest.shares;
-        cut = (
-          first_of_piece p s (start_of (s.size / p.size) each k) (start_of (s.size / p.size) each (k + 1)) (s.size / p.size) w order within refl,
-          subst (λ (r : Region). AreCut p r rest.shares) is_behind rest.cut,
-        );
-        numbered = (refl, rest.numbered);
-        callers = (here.among, rest.callers);
-        done = (record { run = here.run; does = here.does }, rest.done);
-        joined = ap (λ (slot : Slot). joined_slot slot (joined_all p us)) h.0.1 ∙ ap (joined h.0.0) rest.joined;
-      }
-
-  -- All shares were answered, each once.
-  pub answered_by : (us : List Slot) (taken : List (List Done)) → 0 < each → s.size % p.size ≡ 0 → length us ≡ many_of (s.size / p.size) each
-      → AreAll IsAnsweredAt 0 us → AllZip (λ c ds. DoesEach p s each c ds (made_by c more)) crew taken
-      → ((number : ℕ) → times number (jobs_of (all_of taken)) ≡ times number (range_with_len 0 (many_of (s.size / p.size) each)))
-      → AnsweredBy p s each crew more (joined_all p us)
-  answered_by us taken some even long h by_each once =
-      let all = shared 0 us some (omega (arith, long)) h in
-      let first : piece p s (start_of (s.size / p.size) each 0) (s.size / p.size) ≡ s =
-      ap (λ (n : ℕ). piece p s n (s.size / p.size)) (start_first (s.size / p.size) each) ∙ whole_piece p s even in
-      record {
-        shares = all.shares;
-        cut = subst (λ (r : Region). AreCut p r all.shares) first all.cut;
-        numbered = all.numbered;
-        callers = all.callers;
-        done = all.done;
-        joined = all.joined;
-        taken = taken;
-        by_each = by_each;
-        once = once;
-      }

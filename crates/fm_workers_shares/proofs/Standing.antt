@@ -1,15 +1,21 @@
 -- Shares by number, whose answers stand at their places.
 use Rattle.std.proofs.Common.{◌≡◌, ℕ, ◌+◌, ◌-◌, ◌*◌, ◌/◌, ◌%◌, ◌<◌, List, [], ◌∷◌, length, map, Some, refl, ap, ◌∙◌, subst, arith}
-use Rattle.std.specs.List.{AllByRecursion}
+use Rattle.std.specs.List.{AllByRecursion, AllZip, range_with_len}
 use Rattle.fm_base.specs.declared.caller.Caller.{Caller}
 use Rattle.fm_base.specs.Calls.{Entry}
+use Rattle.fm_base.specs.Histories.{made_by}
 use Rattle.fm_base_lists.specs.Among.{IsAmong}
+use Rattle.fm_workers_jobs.specs.Turns.{times}
 use Rattle.fm_segment.specs.Region.{Region}
 use Rattle.fm_records_query.specs.Plan.{Plan}
-use Rattle.fm_records.specs.Shares.{AreCut, AreDone, Share}
-use Rattle.fm_workers_shares.specs.Answered.{AreNumbered}
+use Rattle.fm_records.specs.Joined.{joined}
+use Rattle.fm_records.specs.Shares.{AreCut, AreDone, Share, all_joined}
+use Rattle.fm_workers_shares.specs.declared.taker.Done.{Done}
+use Rattle.fm_workers_shares.specs.Answered.{AnsweredBy, AreNumbered, all_of}
+use Rattle.fm_workers_shares.specs.Joining.{joined_all}
 use Rattle.fm_workers_shares.specs.Placing.{Slot}
 use Rattle.fm_workers_shares.specs.Shares.{many_of, piece, share_of, start_of}
+use Rattle.fm_workers_shares.specs.Taking.{DoesEach, jobs_of}
 use Rattle.fm_workers_shares.proofs.Numbers.{start_first, start_last, start_order, start_within}
 use Rattle.fm_workers_shares.proofs.Places.{AreAll}
 use Rattle.fm_workers_shares.proofs.Sharing.{IsAnsweredAt, behind_piece, first_of_piece, whole_piece}
@@ -17,6 +23,11 @@ use Rattle.fm_workers_shares.proofs.Sharing.{IsAnsweredAt, behind_piece, first_o
 -- the answer stands at its place
 abbrev pub stands : Share → Slot
 stands w = Some w.found
+
+-- They come to the shares' answers, joined.
+standing_joined : (p : Plan) (ws : List Share) → joined_all p (map stands ws) ≡ all_joined p ws
+standing_joined p [] = refl
+standing_joined p (w ∷ ws) = ap (joined w.found) (standing_joined p ws)
 
 module _ (p : Plan) (s : Region) (each : ℕ) (crew : List Caller) (more : List Entry) where
   -- the shares from this number on, which are all of this part, and whose answers stand there
@@ -72,3 +83,22 @@ module _ (p : Plan) (s : Region) (each : ℕ) (crew : List Caller) (more : List 
       let first : piece p s (start_of (s.size / p.size) each 0) (s.size / p.size) ≡ s =
       ap (λ (n : ℕ). piece p s n (s.size / p.size)) (start_first (s.size / p.size) each) ∙ whole_piece p s even in
       subst (λ (r : Region). HasShares r 0 us) first (shares_from 0 us some (omega (arith, long)) h)
+
+  -- All shares were answered, each once.
+  pub answered_by : (us : List Slot) (taken : List (List Done)) → 0 < each → s.size % p.size ≡ 0 → length us ≡ many_of (s.size / p.size) each
+      → AreAll (IsAnsweredAt p s each crew more) 0 us → AllZip (λ c ds. DoesEach p s each c ds (made_by c more)) crew taken
+      → ((number : ℕ) → times number (jobs_of (all_of taken)) ≡ times number (range_with_len 0 (many_of (s.size / p.size) each)))
+      → AnsweredBy p s each crew more (joined_all p us)
+  answered_by us taken some even long h by_each once =
+      let all = all_shares us some even long h in
+      record {
+        shares = all.shares;
+        cut = all.cut;
+        numbered = all.numbered;
+        callers = all.callers;
+        done = all.done;
+        joined = ap (joined_all p) all.stand ∙ standing_joined p all.shares;
+        taken = taken;
+        by_each = by_each;
+        once = once;
+      }

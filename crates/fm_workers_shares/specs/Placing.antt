@@ -1,9 +1,9 @@
 -- Answers put at their shares' places.
-use Rattle.std.specs.Prelude.{List, [], ◌∷◌, ◌++◌, set, Option, Some, Result, Ok, Err}
+use Rattle.std.specs.Prelude.{List, [], ◌∷◌, ◌++◌, map, set, Option, Some, Result, Ok, Err}
 use Rattle.fm_base.specs.declared.refusal.Refusal.{Refusal}
 use Rattle.fm_workers_jobs.specs.declared.account.Account.{Account}
 use Rattle.fm_workers_jobs.specs.Accounts.{after_absorb}
-use Rattle.fm_workers_jobs.specs.Turns.{account_of}
+use Rattle.fm_workers_jobs.specs.Turns.{Turn, account_of}
 use Rattle.fm_records.specs.declared.found.Found.{Found}
 use Rattle.fm_workers_shares.specs.declared.taker.Done.{Done}
 use Rattle.fm_workers_shares.specs.declared.taker.Taker.{Taker}
@@ -30,7 +30,10 @@ abbrev pub all_done : List Taker → List Done
 all_done [] = []
 all_done (t ∷ ts) = t.done.items ++ all_done ts
 
--- the account that took all their turns back, the last one first
-abbrev pub absorbed : Account → List Taker → Account
+abbrev pub turns_of : List Taker → List Turn
+turns_of ts = map (λ t. t.turn) ts
+
+-- the account that took all these turns back, the last one first
+abbrev pub absorbed : Account → List Turn → Account
 absorbed v [] = v
-absorbed v (t ∷ ts) = after_absorb (absorbed v ts) (account_of t.turn)
+absorbed v (u ∷ us) = after_absorb (absorbed v us) (account_of u)

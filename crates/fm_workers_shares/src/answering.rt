@@ -3,7 +3,7 @@ ghost use Rattle.fm_base.specs.View.{Did};
 ghost use Rattle.fm_workers_shares.specs.Taking.{CanServe, IsReady, Serves, TakesShares};
 
 use crate::calls::Calls;
-use crate::share::share;
+use crate::share::numbered_share;
 use crate::taker::{Done, Taker};
 use fm_base::{Memory, Refusal};
 use fm_records::query_segment;
@@ -64,7 +64,7 @@ fn serve<M: Memory>(
         (Serves (M.view m.old).caller q.now s.now each job done.old.items done.new.items result) }
     ensures outside { (M.view m.new).inside ≡ None }
 {
-    let share = share(q, s, each, job);
+    let share = numbered_share(q, s, each, job);
     if done.reserve(1).is_err() {
         return Err(Refusal::Memory);
     }

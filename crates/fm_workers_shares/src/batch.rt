@@ -74,7 +74,8 @@ fn call_takers(
     requires { IsGiver jobs.now giver.old }
     ensures ready { IfOk result (λ takers. AllByRecursion (IsReady jobs.now) takers.items) }
     ensures count { IfOk result (λ takers. length takers.items ≡ count) }
-    ensures giver { IfOk result (λ _. HasAccount jobs.now giver.new (after_turns (account_of giver.old) count)) }
+    ensures giver { IfOk result
+        (λ _. HasAccount jobs.now giver.new (after_turns (account_of giver.old) count)) }
     ensures memory { IfErr result (λ refusal. refusal ≡ Refusal.Memory) }
 {
     let Ok(mut takers) = Vec::with_capacity(alloc, count as usize) else {

@@ -1,7 +1,7 @@
 ghost use Rattle.std.specs.Prelude.{◌≡◌, Some, set};
 ghost use Rattle.std.specs.List.{AllByRecursion};
 ghost use Rattle.fm_workers_jobs.specs.Turns.{account_of, HasAccount, IsGiver, IsTaker};
-ghost use Rattle.fm_workers_shares.specs.Placing.{absorbed, all_done, end_of, placed};
+ghost use Rattle.fm_workers_shares.specs.Placing.{absorbed, all_done, end_of, placed, turns_of};
 
 use crate::taker::{Done, Taker};
 use fm_base::Refusal;
@@ -50,7 +50,8 @@ pub(crate) fn gather(
 )
     requires giver { IsGiver jobs.now giver.old }
     requires takers { AllByRecursion (λ t. IsTaker jobs.now t.turn) takers.items }
-    ensures account { HasAccount jobs.now giver.new (absorbed (account_of giver.old) takers.items) }
+    ensures account { HasAccount jobs.now giver.new
+        (absorbed (account_of giver.old) (turns_of takers.items)) }
     ensures slots { slots.new ≡ placed slots.old (all_done takers.items) }
 {
     while let Some(taker) = takers.pop() {

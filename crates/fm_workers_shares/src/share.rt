@@ -26,12 +26,12 @@ pub fn count_shares(count: u64, threads: u32) -> u32
 }
 
 /// The records of the share of a number. Past the last share there are none.
-pub(crate) fn share(q: &Query, s: &Segment, each: u64, job: u32) -> Segment
-    ensures share { result ≡ share_of q.now s.now each job }
+pub fn numbered_share(q: &Query, s: &Segment, each: u64, number: u32) -> Segment
+    ensures share { result ≡ share_of q.now s.now each number }
     ensures plan { IsPlan q.now }
 {
     let count = s.size() / q.record_size();
-    let number = u64::from(job);
+    let number = u64::from(number);
     let from = number.saturating_mul(each).min(count);
     let to = (number + 1).saturating_mul(each).min(count);
     records_of(q, s, from, to)

@@ -3,9 +3,11 @@ use Rattle.std.proofs.lemmas.List.{append-nil}
 use Rattle.fm_workers_jobs.specs.declared.account.Account.{Account}
 use Rattle.fm_workers_jobs.specs.Accounts.{after_absorb}
 use Rattle.fm_workers_jobs.specs.Turns.{IsTaker, account_of}
+use Rattle.fm_workers_shares.proofs.Absorbing.{still_giver}
 use Rattle.fm_workers_shares.proofs.Popping.{middle, split_more}
 use Rattle.fm_workers.specs.declared.tallier.Tallier.{Tallier}
-use Rattle.fm_workers.proofs.Totals.{role_absorbed, sums_more}
+use Rattle.fm_workers.specs.Summing.{turns_of}
+use Rattle.fm_workers.proofs.Totals.{sums_more}
 use Rattle.fm_workers.proofs.summing.gather.Goals as goal
 
 pub loop-tallier-init : goal.loop-tallier-init
@@ -17,12 +19,7 @@ loop-tallier-init c = record {
 }
 
 pub absorb-requires-clause-giver : goal.absorb-requires-clause-giver
-absorb-requires-clause-giver c =
-    let i = c.loop-tallier.invariant in
-    record {
-      is_of = i.account.is_of;
-      role = ap (λ (v : Account). v.role) i.account.is ∙ role_absorbed (account_of c.args.giver.now) i.gone ∙ c.requires.giver.role;
-    }
+absorb-requires-clause-giver c = still_giver (turns_of c.loop-tallier.invariant.gone) c.requires.giver c.loop-tallier.invariant.account
 
 pub absorb-requires-clause-taker : goal.absorb-requires-clause-taker
 absorb-requires-clause-taker c =

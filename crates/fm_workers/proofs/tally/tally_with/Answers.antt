@@ -1,16 +1,12 @@
 use Rattle.std.proofs.Common.{◌≡◌, ◌%◌, ◌/◌, arith, refl, sym, ap, ◌∙◌, subst, inl, inr, Err}
-use Rattle.std.proofs.lemmas.List.Elements.{All-from_recursion}
 use Rattle.fm_base.specs.declared.arena_id.ArenaId.{ArenaId}
 use Rattle.fm_base.specs.declared.refusal.Refusal.{Refusal}
 use Rattle.fm_base.specs.declared.refusal.Refusal.TheVariants.{Memory, Ragged, Unsupported, WrongThread}
-use Rattle.fm_workers_jobs.specs.Turns.{HasAccount}
-use Rattle.fm_workers_shares.specs.Batches.{begun}
 use Rattle.fm_workers_shares.specs.Shares.{each_of, many_of}
-use Rattle.fm_workers.specs.Tallies.{CanTally, Tallying, tallying}
+use Rattle.fm_workers.specs.Summing.{CanTallyBatch, IsBegun}
 use Rattle.fm_workers.specs.Tally.{TalliedWith}
 use Rattle.fm_workers.proofs.Queried.{even_of}
-use Rattle.fm_workers.proofs.Talliers.{can_tally_all}
-use Rattle.fm_workers.proofs.Tallied.{can_be_tallied, can_total, tallied, tallied_none, tallied_refused}
+use Rattle.fm_workers.proofs.Tallied.{can_be_tallied, tallied_none}
 use Rattle.fm_workers.proofs.tally.tally_with.Goals as goal
 
 pub returns-then-not-is_tally-clause-tallied : goal.returns-then-not-is_tally-clause-tallied
@@ -48,56 +44,27 @@ returns-in-Err-clause-tallied g c =
     (sym c.in-Err.ensures.memory)
     (tallied_none c.args.pass.now c.args.q.now c.args.s.now c.args.counts.now c.args.threads Memory tt c.requires.query.known c.requires.known (can, inr refl))
 
-pub work_crew-requires-clause-can : goal.work_crew-requires-clause-can
-work_crew-requires-clause-can g c κs within =
-    let b = c.in-Ok.batch in
-    let w : Tallying = tallying b.jobs c.args.q.now c.args.s.now c.records_each-each.result c.args.counts.now in
-    let can = can_be_tallied c.args.q.now c.args.s.now c.args.counts.now c.size.result c.record_size.result c.arena.result c.arena-2.result
-    c.if-not-is_tally.ensures c.size.ensures.size c.record_size.ensures.size c.if-rest-ne0.false c.arena.ensures
-    (c.is_confined.ensures.no c.if-is_confined.false) c.arena-2.ensures (c.is_confined-2.ensures.no c.if-is_confined-2.false) in
-    All-from_recursion (CanTally w c.args.pass.now) b.talliers.items
-    (can_tally_all w c.args.pass.now b.talliers.items c.if-not-is_tally.ensures c.requires.query.known c.requires.query.aligned can.shared c.requires.known
-    can.shared_counts c.requires.longs c.in-Ok.ensures.begun.talliers)
-
-pub total_of-requires : goal.total_of-requires
-total_of-requires g c =
-    let b = c.in-Ok.batch in
+pub take_batch-requires-after_bounds : goal.take_batch-requires-after_bounds
+take_batch-requires-after_bounds g c κs within =
     let can = can_be_tallied c.args.q.now c.args.s.now c.args.counts.now c.size.result c.record_size.result c.arena.result c.arena-2.result
     c.if-not-is_tally.ensures c.size.ensures.size c.record_size.ensures.size c.if-rest-ne0.false c.arena.ensures
     (c.is_confined.ensures.no c.if-is_confined.false) c.arena-2.ensures (c.is_confined-2.ensures.no c.if-is_confined-2.false) in
     let count : c.size-2.result / c.record_size-2.result ≡ c.args.s.now.size / c.args.q.now.size =
     (λ i. c.size-2.ensures.size i / c.record_size-2.ensures.size i) in
-    let each : c.records_each-each.result ≡ each_of (c.args.s.now.size / c.args.q.now.size) c.args.threads =
-    c.records_each-each.ensures.each ∙ ap (λ n. each_of n c.args.threads) count in
     let many : c.count_shares.result ≡ many_of (c.args.s.now.size / c.args.q.now.size) c.records_each-each.result =
     c.count_shares.ensures.many ∙ (λ i. many_of (count i) (sym c.records_each-each.ensures.each i)) in
-    can_total {k = tallying b.jobs c.args.q.now c.args.s.now c.records_each-each.result c.args.counts.now} c.in-Ok-work_crew.ensures.worked
-    c.record_size.ensures.plan c.in-Ok.ensures.begun.count each c.records_each-each.ensures.some c.requires.query.some
-    (let ends = c.size.ensures.ends in omega (arith, ends)) can c.requires.longs c.requires.other c.requires.query.known c.requires.known b.giver
-    (subst (λ n. HasAccount b.jobs b.giver (begun n c.args.threads)) many c.in-Ok.ensures.begun.giver)
+    subst (λ n. CanTallyBatch c.args.pool.now c.args.pass.now c.args.q.now c.args.s.now c.args.counts.now n c.records_each-each.result c.in-Ok.batch)
+    (sym c.in-Ok.ensures.begun.count) (record {
+      asked = c.requires;
+      can = can;
+      plan = c.record_size.ensures.plan;
+      small = (let ends = c.size.ensures.ends in omega (arith, ends));
+      cut = c.records_each-each.ensures.each ∙ ap (λ n. each_of n c.args.threads) count;
+      some = c.records_each-each.ensures.some;
+      begun = subst (λ n. IsBegun n c.args.threads c.in-Ok.batch) many c.in-Ok.ensures.begun;
+    })
 
-pub returns-in-Ok-work_crew-clause-tallied : goal.returns-in-Ok-work_crew-clause-tallied
-returns-in-Ok-work_crew-clause-tallied g c =
-    let b = c.in-Ok.batch in
-    let can = can_be_tallied c.args.q.now c.args.s.now c.args.counts.now c.size.result c.record_size.result c.arena.result c.arena-2.result
-    c.if-not-is_tally.ensures c.size.ensures.size c.record_size.ensures.size c.if-rest-ne0.false c.arena.ensures
-    (c.is_confined.ensures.no c.if-is_confined.false) c.arena-2.ensures (c.is_confined-2.ensures.no c.if-is_confined-2.false) in
-    let count : c.size-2.result / c.record_size-2.result ≡ c.args.s.now.size / c.args.q.now.size =
-    (λ i. c.size-2.ensures.size i / c.record_size-2.ensures.size i) in
-    let each : c.records_each-each.result ≡ each_of (c.args.s.now.size / c.args.q.now.size) c.args.threads =
-    c.records_each-each.ensures.each ∙ ap (λ n. each_of n c.args.threads) count in
-    let many : c.count_shares.result ≡ many_of (c.args.s.now.size / c.args.q.now.size) c.records_each-each.result =
-    c.count_shares.ensures.many ∙ (λ i. many_of (count i) (sym c.records_each-each.ensures.each i)) in
-    tallied {k = tallying b.jobs c.args.q.now c.args.s.now c.records_each-each.result c.args.counts.now} c.in-Ok-work_crew.ensures.worked
-    c.record_size.ensures.plan c.in-Ok.ensures.begun.count each c.records_each-each.ensures.some c.requires.query.some
-    (let ends = c.size.ensures.ends in omega (arith, ends)) can c.requires.longs c.requires.other c.requires.query.known c.requires.known _
-    (c.in-Ok.ensures.begun.giver.is ∙ ap (λ n. begun n c.args.threads) many) c.total_of.result c.total_of.ensures
-
-pub returns-clause-tallied : goal.returns-clause-tallied
-returns-clause-tallied g c =
-    let b = c.in-Ok.batch in
-    let can = can_be_tallied c.args.q.now c.args.s.now c.args.counts.now c.size.result c.record_size.result c.arena.result c.arena-2.result
-    c.if-not-is_tally.ensures c.size.ensures.size c.record_size.ensures.size c.if-rest-ne0.false c.arena.ensures
-    (c.is_confined.ensures.no c.if-is_confined.false) c.arena-2.ensures (c.is_confined-2.ensures.no c.if-is_confined-2.false) in
-    tallied_refused {k = tallying b.jobs c.args.q.now c.args.s.now c.records_each-each.result c.args.counts.now} c.in-Err-work_crew.refusal
-    c.in-Err-work_crew.ensures.worked c.in-Ok.ensures.begun.count can c.requires.query.known c.requires.known
+pub returns-in-Ok-clause-tallied : goal.returns-in-Ok-clause-tallied
+returns-in-Ok-clause-tallied g c =
+    subst (λ n. TalliedWith n c.args.pass.now c.take_batch.new.pass c.args.q.now c.args.s.now c.args.counts.now c.take_batch.result)
+    c.in-Ok.ensures.begun.count c.take_batch.ensures.tallied

@@ -12,5 +12,5 @@ returns-then-is_err-clause-did g c =
 pub query_segment-requires : goal.query_segment-requires
 query_segment-requires g c =
     let v = g.M.Memory.view c.args.m.now in
-    subst (λ (r : Region). CanQuery v c.args.q.now r) (sym c.share-share.ensures.share)
-    (can_query_share v c.args.q.now c.args.s.now c.args.each c.args.job c.share-share.ensures.plan c.requires)
+    subst (λ (r : Region). CanQuery v c.args.q.now r) (sym c.numbered_share-share.ensures.share)
+    (can_query_share v c.args.q.now c.args.s.now c.args.each c.args.job c.numbered_share-share.ensures.plan c.requires)

@@ -4,8 +4,9 @@ use Rattle.fm_workers_jobs.specs.declared.account.Account.{Account}
 use Rattle.fm_workers_jobs.specs.Accounts.{after_absorb}
 use Rattle.fm_workers_jobs.specs.Turns.{IsTaker, account_of}
 use Rattle.fm_workers_shares.specs.declared.taker.Taker.{Taker}
-use Rattle.fm_workers_shares.specs.Placing.{Slot, all_done, placed}
-use Rattle.fm_workers_shares.proofs.Places.{placed-append, role_absorbed}
+use Rattle.fm_workers_shares.specs.Placing.{Slot, all_done, placed, turns_of}
+use Rattle.fm_workers_shares.proofs.Absorbing.{still_giver}
+use Rattle.fm_workers_shares.proofs.Places.{placed-append}
 use Rattle.fm_workers_shares.proofs.Popping.{middle, split_more}
 use Rattle.fm_workers_shares.proofs.placing.gather.Goals as goal
 
@@ -18,12 +19,7 @@ loop-taker-init c = record {
 }
 
 pub absorb-requires-clause-giver : goal.absorb-requires-clause-giver
-absorb-requires-clause-giver c =
-    let i = c.loop-taker.invariant in
-    record {
-      is_of = i.account.is_of;
-      role = ap (λ (v : Account). v.role) i.account.is ∙ role_absorbed (account_of c.args.giver.now) i.gone ∙ c.requires.giver.role;
-    }
+absorb-requires-clause-giver c = still_giver (turns_of c.loop-taker.invariant.gone) c.requires.giver c.loop-taker.invariant.account
 
 pub absorb-requires-clause-taker : goal.absorb-requires-clause-taker
 absorb-requires-clause-taker c =

@@ -1,14 +1,14 @@
 use Rattle.std.proofs.Common.{◌≡◌, ◌++◌, List}
 use Rattle.fm_workers_jobs.specs.Turns.{HasAccount, account_of}
 use Rattle.fm_workers_shares.specs.declared.taker.Taker.{Taker}
-use Rattle.fm_workers_shares.specs.Placing.{absorbed, all_done, placed}
+use Rattle.fm_workers_shares.specs.Placing.{absorbed, all_done, placed, turns_of}
 use Rattle.fm_workers_shares.proofs.placing.gather.Given as goal
 
 abbrev pub invariant-loop-taker : goal.invariant-loop-taker
 invariant-loop-taker l = record {
   gone : List Taker;
   split : l.fn.takers.items ≡ l.takers.items ++ gone;
-  account : HasAccount l.jobs l.giver (absorbed (account_of l.fn.giver) gone);
+  account : HasAccount l.jobs l.giver (absorbed (account_of l.fn.giver) (turns_of gone));
   slots : l.slots ≡ placed l.fn.slots (all_done gone);
 }
 
