@@ -23,6 +23,11 @@ filled_reads {old} {new} {name} {at} {from} {room} {end} {Goes} {Says} reads sam
     subst (λ (k : ℕ). ReadsFile old new name piece_limit end k Says) same
     (ReadsFile-wider old new name room (at + room) piece_limit end at Goes Says small within says reads)
 
+-- the same, whatever followed
+pub filled_some : {old new : Option (List Read)} {name : List ℕ} {at room end : ℕ} {Goes : Next → Type 0} → ReadsFile old new name room (at + room) at Goes
+    → room ≤ piece_limit → at + room ≤ end → ReadsFile old new name piece_limit end at (λ next. Unit {0})
+filled_some {Goes = Goes} reads small within = filled_reads {Goes = Goes} {Says = λ next. Unit {0}} reads refl small within (λ next goes. tt)
+
 -- what was read of a file from the same place on, and a weaker thing of what followed
 pub chunk_reads : {old new : Option (List Read)} {name : List ℕ} {end at from : ℕ} {Goes Says : Next → Type 0}
     → ReadsFile old new name piece_limit end at Goes → at ≡ from → ((next : Next) → Goes next → Says next)

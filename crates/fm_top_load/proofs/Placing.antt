@@ -111,29 +111,6 @@ pub record PutsPieces (old new : View) (a : ArenaId) (room : ℕ) (told : Option
   pub first : AreBytesFrom told name place (take size (bytes_of_arena new.state a))
   pub count : length (take size (bytes_of_arena new.state a)) ≡ size
 
-pub puts_pieces : {x y z : View} {a : ArenaId} {room limit most place size : ℕ} {told : Option Contents} {name buffer : List ℕ} {piece : Chunk}
-    → PutsWithin x y a room → room ≤ x.limit → size + piece.count ≤ room → length buffer ≡ piece_limit
-    → IsNextPiece limit most told name (place + size) buffer piece → AreBytes (take piece.count buffer)
-    → AreBytesFrom told name place (take size (bytes_of_arena y.state a)) → Did y z (DoesPutAll y.caller a size (take piece.count buffer) (Ok tt))
-    → PutsHeld y z a size (take piece.count buffer) → PutsPieces x z a room told name place (size + piece.count)
-puts_pieces {x} {y} {z} {a} {room} {limit} {most} {place} {size} {told} {name} {buffer} {piece} old all fits sized next are first did put =
-    let bytes = take piece.count buffer in
-    let small = next.small in
-    let long : length bytes ≡ piece.count = length-take-le piece.count buffer (omega (arith, small, sized)) in
-    let limits = old.did.makes.same_limit in
-    let before = bytes_of_arena y.state a in
-    let there : size ≤ length before = has_bytes size old.still (omega (arith, fits, all, limits)) in
-    let start : length (take size before) ≡ size = length-take-le size before there in
-    let is : take (size + piece.count) (bytes_of_arena z.state a) ≡ take size before ++ bytes =
-    ap (λ n. take (size + n) (bytes_of_arena z.state a)) (sym long) ∙ ap (take (size + length bytes)) put.stand ∙ put_behind before bytes size there in
-    record {
-      puts = puts_then size bytes old are (omega (arith, fits, long)) did put;
-      first = subst (AreBytesFrom told name place) (sym is)
-          (AreBytesFrom-append told name (take size before) bytes place first
-          (subst (λ n. AreBytesFrom told name (place + n) bytes) (sym start) next.bytes.bytes));
-      count = ap length is ∙ length-append (take size before) bytes ∙ omega (arith, start, long);
-    }
-
 -- A piece that is the first of a chunk is read behind none.
 pub next_first : {limit most place : ℕ} {told : Option Contents} {name buffer : List ℕ} {piece : Chunk} → IsNextPiece limit most told name place buffer piece
     → IsNextPiece limit (most - 0) told name (place + 0) buffer piece
@@ -157,6 +134,32 @@ module _ {limit most size : ℕ} (place : ℕ) {told : Option Contents} {name bu
   -- A piece that the file goes on behind has bytes.
   pub piece_grows : piece.ended ≡ false → 0 < piece.count
   piece_grows goes = let full = next.bytes.full goes in omega (arith, full, long, below)
+
+  -- It is put within the chunk's room.
+  pub puts_piece : {x y z : View} {a : ArenaId} → PutsWithin x y a most → AreBytes (take piece.count buffer)
+      → Did y z (DoesPutAll y.caller a size (take piece.count buffer) (Ok tt)) → PutsHeld y z a size (take piece.count buffer) → PutsWithin x z a most
+  puts_piece old are did put = let fits = piece_fits in puts_then size (take piece.count buffer) old are (omega (arith, fits, long)) did put
+
+  -- So the pieces that were put then are the file's bytes.
+  pub puts_pieces : {x y z : View} {a : ArenaId} → PutsWithin x y a most → most ≤ x.limit → AreBytes (take piece.count buffer)
+      → AreBytesFrom told name place (take size (bytes_of_arena y.state a)) → Did y z (DoesPutAll y.caller a size (take piece.count buffer) (Ok tt))
+      → PutsHeld y z a size (take piece.count buffer) → PutsPieces x z a most told name place (size + piece.count)
+  puts_pieces {x} {y} {z} {a} old all are first did put =
+      let bytes = take piece.count buffer in
+      let fits = piece_fits in
+      let limits = old.did.makes.same_limit in
+      let before = bytes_of_arena y.state a in
+      let there : size ≤ length before = has_bytes size old.still (omega (arith, fits, all, limits)) in
+      let start : length (take size before) ≡ size = length-take-le size before there in
+      let is : take (size + piece.count) (bytes_of_arena z.state a) ≡ take size before ++ bytes =
+      ap (λ n. take (size + n) (bytes_of_arena z.state a)) (sym long) ∙ ap (take (size + length bytes)) put.stand ∙ put_behind before bytes size there in
+      record {
+        puts = puts_piece old are did put;
+        first = subst (AreBytesFrom told name place) (sym is)
+            (AreBytesFrom-append told name (take size before) bytes place first
+            (subst (λ n. AreBytesFrom told name (place + n) bytes) (sym start) next.bytes.bytes));
+        count = ap length is ∙ length-append (take size before) bytes ∙ omega (arith, start, long);
+      }
 
   -- The chunk's last piece.
   pub is_cut : {x z : View} {a : ArenaId} {room : ℕ} → PutsPieces x z a room told name place (size + piece.count)

@@ -1,8 +1,9 @@
 -- Counts beside records in a pool: room for them, and what a crew counts.
-use Rattle.std.proofs.Common.{◌≡◌, ℕ, ◌+◌, ◌*◌, ◌%◌, ◌<◌, ◌≤◌, List, [], ◌∷◌, map, Result, Ok, Err, IfErr, refl, ap, sym, ◌∙◌, subst, inl, inr, arith}
+use Rattle.std.proofs.Common.{◌≡◌, ℕ, ◌+◌, ◌*◌, ◌%◌, ◌<◌, ◌≤◌, List, [], ◌∷◌, map, Result, Ok, Err, IfErr, IfOk, refl, ap, sym, ◌∙◌, subst, inl, inr, arith}
 use Rattle.std.specs.Prelude.{◌⊎◌}
 use Rattle.std.specs.List.{AllByRecursion, range_with_len}
 use Rattle.std.proofs.lemmas.Nat.{mul-le}
+use Rattle.std.proofs.lemmas.Result.{IfOk-weaker}
 use Rattle.fm_base.specs.declared.arena_id.ArenaId.{ArenaId}
 use Rattle.fm_base.specs.declared.caller.Caller.{Caller}
 use Rattle.fm_base.specs.declared.kind.Kind.TheVariants.{Confined, Shared}
@@ -216,14 +217,26 @@ module _ {pool : Pool} {p q : View} {s counts : Region} {plan : Plan} {threads :
       (λ e i. inl i) w.crew.more (w.crew.alone (is_whole h))
 
   -- the counts are those of the numbers that are listed over the bytes
-  pub counts_all : (ns : List ℕ) → TalliedWith threads p q plan s counts (Ok ns) → AreCounts (listed (answer plan (bytes_in_pool p s))) ns
+  counts_all : (ns : List ℕ) → TalliedWith threads p q plan s counts (Ok ns) → AreCounts (listed (answer plan (bytes_in_pool p s))) ns
   counts_all ns w =
       subst (λ (bs : List ℕ). AreCounts (listed (answer plan bs)) ns) (sym (pooled_is p s)) (w.value (nobody_else w))
 
-  pub was_tallied : (ns : List ℕ) → TalliedWith threads p q plan s counts (Ok ns) → IsOutside pool q → Asked threads pool p q plan s
+  was_tallied : (ns : List ℕ) → TalliedWith threads p q plan s counts (Ok ns) → IsOutside pool q → Asked threads pool p q plan s
   was_tallied ns w outside =
       asked threads plan h w.crew w.one_each (w.read (nobody_else w))
       (stocked_still (MayCount counts) h w.crew sound (touch w) outside w.known counts.arena (counts.first + counts.size) b.room.known.given
       (within counts b.room.longs))
       (bytes_stay (MayCount counts) h w.crew sound (touch w) (λ a word may is. b.other (sym may.0 ∙ is)))
       (records_spared (MayCount counts) h w.crew sound (touch w) (λ a word may is. b.other (sym may.0 ∙ is)))
+
+  -- so it is where they were handed on
+  module _ {E : Type 0} {found : Result (List ℕ) Refusal} (result : Result (List ℕ) E) (w : TalliedWith threads p q plan s counts found)
+      (handed : IfOk result (λ ns. found ≡ Ok ns)) where
+    as_found : {P : List ℕ → Type 0} → ((ns : List ℕ) → TalliedWith threads p q plan s counts (Ok ns) → P ns) → IfOk result P
+    as_found says = IfOk-weaker result _ _ (λ ns is. says ns (subst (λ r. TalliedWith threads p q plan s counts r) is w)) handed
+
+    pub hands_counts : IfOk result (AreCounts (listed (answer plan (bytes_in_pool p s))))
+    hands_counts = as_found counts_all
+
+    pub hands_asked : IsOutside pool q → IfOk result (λ _. Asked threads pool p q plan s)
+    hands_asked outside = as_found (λ ns tallied. was_tallied ns tallied outside)

@@ -7,3 +7,4 @@ pub mod Cutting
 pub mod Standing
 pub mod GoesOn
 pub mod Ends
+pub mod Chunking

@@ -7,14 +7,12 @@ use Rattle.fm_records.proofs.query.query_segment.Goals as goal
 
 pub returns-in-Err : goal.returns-in-Err
 returns-in-Err g c =
-    let may = c.if-not-may_use.ensures.yes refl in
-    let t = tested c.size.ensures.size c.record_size.ensures.size c.arena.ensures c.if-rest-ne0.false may in
+    let t = tested c.size.ensures.size c.record_size.ensures.size c.arena.ensures c.if-rest-ne0.false (c.if-not-may_use.ensures.yes refl) in
     queried c.requires c.record_size.ensures.plan (query_wants c.in-Err.refusal t c.in-Err.ensures.memory)
 
 pub returns-in-Ok-add_records : goal.returns-in-Ok-add_records
 returns-in-Ok-add_records g c =
-    let may = c.if-not-may_use.ensures.yes refl in
-    let t = tested c.size.ensures.size c.record_size.ensures.size c.arena.ensures c.if-rest-ne0.false may in
+    let t = tested c.size.ensures.size c.record_size.ensures.size c.arena.ensures c.if-rest-ne0.false (c.if-not-may_use.ensures.yes refl) in
     queried c.requires c.record_size.ensures.plan
     (query_done t c.as_mut_slice.result.now c.add_records.new.found (c.as_mut_slice.ensures.value ∙ c.into_found-found.ensures ∙ c.in-Ok.ensures.answer)
     c.of.result c.in-Ok-add_records.field-0
@@ -24,8 +22,7 @@ returns-in-Ok-add_records g c =
 
 pub returns-in-Err-add_records : goal.returns-in-Err-add_records
 returns-in-Err-add_records g c =
-    let may = c.if-not-may_use.ensures.yes refl in
-    let t = tested c.size.ensures.size c.record_size.ensures.size c.arena.ensures c.if-rest-ne0.false may in
+    let t = tested c.size.ensures.size c.record_size.ensures.size c.arena.ensures c.if-rest-ne0.false (c.if-not-may_use.ensures.yes refl) in
     queried c.requires c.record_size.ensures.plan
     (query_stopped t c.as_mut_slice.result.now c.add_records.new.found (c.as_mut_slice.ensures.value ∙ c.into_found-found.ensures ∙ c.in-Ok.ensures.answer)
     c.in-Err-add_records.refusal c.in-Err-add_records.ensures)

@@ -1,23 +1,19 @@
 use Rattle.std.proofs.Common.{ℕ, ◌+◌, arith}
 use Rattle.std.proofs.lemmas.List.{length-take}
-use Rattle.fm_top_load.proofs.Following.{filled_reads, goes_by}
+use Rattle.fm_top_load.proofs.Following.{filled_reads, filled_some, goes_by}
 use Rattle.fm_top_load.proofs.chunk.read_piece.Goals as goal
 
 pub returns-in-Err-Missing-clause-reads : goal.returns-in-Err-Missing-clause-reads
-returns-in-Err-Missing-clause-reads g c =
-    filled_reads c.fill.ensures.reads (omega arith) (omega (arith, length-take {A = ℕ})) (omega (arith, length-take {A = ℕ})) (λ next goes. tt)
+returns-in-Err-Missing-clause-reads g c = filled_some c.fill.ensures.reads (omega (arith, length-take {A = ℕ})) (omega (arith, length-take {A = ℕ}))
 
 pub returns-in-Err-Failed-clause-reads : goal.returns-in-Err-Failed-clause-reads
-returns-in-Err-Failed-clause-reads g c =
-    filled_reads c.fill.ensures.reads (omega arith) (omega (arith, length-take {A = ℕ})) (omega (arith, length-take {A = ℕ})) (λ next goes. tt)
+returns-in-Err-Failed-clause-reads g c = filled_some c.fill.ensures.reads (omega (arith, length-take {A = ℕ})) (omega (arith, length-take {A = ℕ}))
 
 pub returns-in-Err-Memory-clause-reads : goal.returns-in-Err-Memory-clause-reads
-returns-in-Err-Memory-clause-reads g c =
-    filled_reads c.fill.ensures.reads (omega arith) (omega (arith, length-take {A = ℕ})) (omega (arith, length-take {A = ℕ})) (λ next goes. tt)
+returns-in-Err-Memory-clause-reads g c = filled_some c.fill.ensures.reads (omega (arith, length-take {A = ℕ})) (omega (arith, length-take {A = ℕ}))
 
 pub returns-then-count-rest-clause-reads : goal.returns-then-count-rest-clause-reads
-returns-then-count-rest-clause-reads g c =
-    filled_reads c.fill.ensures.reads (omega arith) (omega (arith, length-take {A = ℕ})) (omega (arith, length-take {A = ℕ})) (λ next goes. tt)
+returns-then-count-rest-clause-reads g c = filled_some c.fill.ensures.reads (omega (arith, length-take {A = ℕ})) (omega (arith, length-take {A = ℕ}))
 
 pub returns-clause-reads : goal.returns-clause-reads
 returns-clause-reads g c =

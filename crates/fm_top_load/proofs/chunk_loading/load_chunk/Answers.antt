@@ -7,7 +7,7 @@ use Rattle.fm_top_load.specs.Reached.{IsNextPiece}
 use Rattle.fm_top_load.specs.Reading.{GoesBy}
 use Rattle.fm_top_load.proofs.Chunks.{no_bytes_from}
 use Rattle.fm_top_load.proofs.Following.{chunk_reads, reads_then}
-use Rattle.fm_top_load.proofs.Placing.{is_cut, next_first, none_taken, piece_fits, piece_short, puts_none, puts_pieces}
+use Rattle.fm_top_load.proofs.Placing.{is_cut, next_first, none_taken, piece_fits, piece_short, puts_none, puts_piece, puts_pieces}
 use Rattle.fm_top_load.proofs.Telling.{read_quietly}
 use Rattle.fm_top_load.proofs.chunk_loading.load_chunk.Goals as goal
 use Rattle.fm_top_load.proofs.chunk_loading.load_chunk.Goals.{then-piece-via-then-piece, then-piece-via-else-piece+then-size-most}
@@ -37,7 +37,7 @@ pieces-preserved g c =
     let step = c.in-Ok.ensures in
     let holds = (g.F.Files.view c.args.files.now).holds in
     let fits = piece_fits c.args.at old.can.room old.below old.next in
-    let pieces = puts_pieces old.puts c.requires.can.limit fits old.can.room old.next put.are old.first put.did put.puts in
+    let pieces = puts_pieces c.args.at old.can.room old.below old.next old.puts c.requires.can.limit put.are old.first put.did put.puts in
     let other = c.if-size-most.false in
     let some = old.some in
     let at : c.args.at + c.pieces.size + c.pieces.piece.count ≡ c.args.at + (c.pieces.size + c.pieces.piece.count) = omega arith in
@@ -58,8 +58,7 @@ pub returns-then-piece-clause-took : goal.returns-then-piece-clause-took
 returns-then-piece-clause-took g c =
     let old = c.pieces.invariant in
     let put = c.put_held.ensures in
-    let fits = piece_fits c.args.at old.can.room old.below old.next in
-    let pieces = puts_pieces old.puts c.requires.can.limit fits old.can.room old.next put.are old.first put.did put.puts in
+    let pieces = puts_pieces c.args.at old.can.room old.below old.next old.puts c.requires.can.limit put.are old.first put.did put.puts in
     is_cut c.args.at old.can.room old.below old.next pieces (elim c.then-piece.branch [
       | then-piece-via-then-piece w ↦ (λ goes. absurd (cc))
       | then-piece-via-else-piece+then-size-most w ↦ (λ goes. w.if-size-most.true)
@@ -68,16 +67,12 @@ returns-then-piece-clause-took g c =
 pub returns-then-piece-clause-puts : goal.returns-then-piece-clause-puts
 returns-then-piece-clause-puts g c =
     let old = c.pieces.invariant in
-    let put = c.put_held.ensures in
-    let fits = piece_fits c.args.at old.can.room old.below old.next in
-    (puts_pieces old.puts c.requires.can.limit fits old.can.room old.next put.are old.first put.did put.puts).puts
+    puts_piece c.args.at old.can.room old.below old.next old.puts c.put_held.ensures.are c.put_held.ensures.did c.put_held.ensures.puts
 
 pub returns-in-Err-clause-puts : goal.returns-in-Err-clause-puts
 returns-in-Err-clause-puts g c =
     let old = c.pieces.invariant in
-    let put = c.put_held.ensures in
-    let fits = piece_fits c.args.at old.can.room old.below old.next in
-    (puts_pieces old.puts c.requires.can.limit fits old.can.room old.next put.are old.first put.did put.puts).puts
+    puts_piece c.args.at old.can.room old.below old.next old.puts c.put_held.ensures.are c.put_held.ensures.did c.put_held.ensures.puts
 
 pub returns-in-Err-clause-reads : goal.returns-in-Err-clause-reads
 returns-in-Err-clause-reads g c before from h =

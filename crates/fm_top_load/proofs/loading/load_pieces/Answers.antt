@@ -1,26 +1,17 @@
-use Rattle.std.proofs.Common.{◌+◌, length, arith}
-use Rattle.fm_io.proofs.Followed.{ReadsFile-none}
-use Rattle.fm_io.proofs.Left.{leaves_none, leaves_then}
-use Rattle.fm_top_load.specs.Held.{loaded_in}
-use Rattle.fm_top_load.specs.Limits.{record_file_limit}
-use Rattle.fm_top_load.specs.Reading.{piece_limit}
-use Rattle.fm_top_load.proofs.Chunks.{AreBytesFrom-took, IsWhole-took}
+use Rattle.std.proofs.Common.{arith}
 use Rattle.fm_top_load.proofs.Filling.{found_since, loads_none, loads_on}
 use Rattle.fm_top_load.proofs.Following.{reads_then}
-use Rattle.fm_top_load.proofs.Telling.{read_quietly, tells_of, tells_then}
+use Rattle.fm_top_load.proofs.Further.{none_read, read_further, read_to_end}
+use Rattle.fm_top_load.proofs.Telling.{tells_of, tells_then}
 use Rattle.fm_top_load.proofs.loading.load_pieces.Goals as goal
 
 pub loop-fault-init : goal.loop-fault-init
 loop-fault-init g c =
-    let v = g.M.Memory.view c.args.m.now in
-    let files = g.F.Files.view c.args.files.now in
     let can = c.requires.can in
     record {
       can = can;
       loads = loads_none can.ready can.short;
-      bytes = c.requires.first;
-      reads = ReadsFile-none files.reads c.args.name.now piece_limit (record_file_limit + 1) (length (loaded_in v c.args.segment.now));
-      left = leaves_none files (λ e. e) (λ e. e);
+      far = none_read c.requires.first;
     }
 
 pub loop-fault-preserved : goal.loop-fault-preserved
@@ -36,20 +27,18 @@ loop-fault-preserved g c =
         short = step.loads.short;
       };
       loads = loads_on old.loads step.loads;
-      bytes = AreBytesFrom-took old.left.held old.bytes step.took;
-      reads = reads_then old.reads step.reads (λ next goes. goes.1 c.in-Ok-false.field-0-test);
-      left = leaves_then old.left (read_quietly step.tells);
+      far = read_further old.far step.took c.in-Ok-false.field-0-test step.reads step.tells;
     }
 
 pub returns-in-Ok-true-clause-whole : goal.returns-in-Ok-true-clause-whole
 returns-in-Ok-true-clause-whole g c =
-    IsWhole-took c.loop-fault.invariant.left.held c.loop-fault.invariant.bytes c.in-Ok-true.ensures.took c.in-Ok-true.field-0-test
+    read_to_end c.loop-fault.invariant.far c.in-Ok-true.ensures.took c.in-Ok-true.field-0-test
 
 pub returns-in-Ok-true-clause-reads : goal.returns-in-Ok-true-clause-reads
-returns-in-Ok-true-clause-reads g c = reads_then c.loop-fault.invariant.reads c.in-Ok-true.ensures.reads (λ next goes. tt)
+returns-in-Ok-true-clause-reads g c = reads_then c.loop-fault.invariant.far.reads c.in-Ok-true.ensures.reads (λ next goes. tt)
 
 pub returns-in-Err-clause-reads : goal.returns-in-Err-clause-reads
-returns-in-Err-clause-reads g c = reads_then c.loop-fault.invariant.reads c.in-Err.ensures.reads (λ next goes. tt)
+returns-in-Err-clause-reads g c = reads_then c.loop-fault.invariant.far.reads c.in-Err.ensures.reads (λ next goes. tt)
 
 pub returns-in-Ok-true-clause-loads : goal.returns-in-Ok-true-clause-loads
 returns-in-Ok-true-clause-loads g c = loads_on c.loop-fault.invariant.loads c.in-Ok-true.ensures.loads
@@ -60,9 +49,9 @@ returns-in-Err-clause-loads g c = loads_on c.loop-fault.invariant.loads c.in-Err
 pub returns-in-Ok-true-clause-tells : goal.returns-in-Ok-true-clause-tells
 returns-in-Ok-true-clause-tells g c =
     tells_of (found_since (g.M.Memory.view c.load_chunk.new.m) g.M.Memory.nature c.loop-fault.invariant.loads.did.makes)
-    (tells_then c.loop-fault.invariant.left c.in-Ok-true.ensures.tells)
+    (tells_then c.loop-fault.invariant.far.left c.in-Ok-true.ensures.tells)
 
 pub returns-in-Err-clause-tells : goal.returns-in-Err-clause-tells
 returns-in-Err-clause-tells g c =
     tells_of (found_since (g.M.Memory.view c.load_chunk.new.m) g.M.Memory.nature c.loop-fault.invariant.loads.did.makes)
-    (tells_then c.loop-fault.invariant.left c.in-Err.ensures.tells)
+    (tells_then c.loop-fault.invariant.far.left c.in-Err.ensures.tells)

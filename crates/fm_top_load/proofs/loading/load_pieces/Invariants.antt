@@ -1,11 +1,8 @@
-use Rattle.std.proofs.Common.{◌≡◌, ◌+◌, ◌-◌, length}
-use Rattle.fm_io.specs.Files.{AreBytesFrom}
-use Rattle.fm_io.specs.Reads.{At, ReadsFile}
-use Rattle.fm_io.specs.View.{Leaves}
+use Rattle.std.proofs.Common.{◌-◌, length}
 use Rattle.fm_top_load.specs.Held.{loaded_in}
 use Rattle.fm_top_load.specs.Limits.{record_file_limit}
 use Rattle.fm_top_load.specs.Loading.{CanLoadOn, LoadsOn}
-use Rattle.fm_top_load.specs.Reading.{piece_limit}
+use Rattle.fm_top_load.proofs.Further.{IsReadUpTo}
 use Rattle.fm_top_load.proofs.loading.load_pieces.Given as goal
 
 -- the bytes so far are the file's first ones, whole words of them
@@ -19,9 +16,7 @@ invariant-loop-fault g l =
     record {
       can : CanLoadOn l.bytes (v l.m) l.segment;
       loads : LoadsOn (v l.fn.m) (v l.m) l.fn.segment l.segment;
-      bytes : AreBytesFrom old.holds l.name 0 all;
-      reads : ReadsFile old.reads new.reads l.name piece_limit (record_file_limit + 1) (length start) (λ next. next ≡ At (length all));
-      left : Leaves ⊥ ⊥ old new;
+      far : IsReadUpTo record_file_limit old new l.name (length start) all;
     }
 
 abbrev pub decreases-loop-fault : goal.decreases-loop-fault

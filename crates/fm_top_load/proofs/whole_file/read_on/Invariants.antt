@@ -1,9 +1,6 @@
-use Rattle.std.proofs.Common.{◌≡◌, ◌+◌, ◌-◌, length}
-use Rattle.fm_io.specs.Files.{AreBytesFrom}
-use Rattle.fm_io.specs.Reads.{At, ReadsFile}
-use Rattle.fm_io.specs.View.{Leaves}
-use Rattle.fm_top_load.specs.Reading.{piece_limit}
+use Rattle.std.proofs.Common.{◌-◌, length}
 use Rattle.fm_top_load.specs.Whole.{CanRead}
+use Rattle.fm_top_load.proofs.Further.{IsReadUpTo}
 use Rattle.fm_top_load.proofs.whole_file.read_on.Given as goal
 
 -- the bytes so far are the file's first ones
@@ -13,9 +10,7 @@ invariant-loop-fault g l =
     let new = g.F.Files.view l.files in
     record {
       can : CanRead l.limit (length l.bytes.items) l.buffer;
-      bytes : AreBytesFrom old.holds l.name 0 l.bytes.items;
-      reads : ReadsFile old.reads new.reads l.name piece_limit (l.limit + 1) (length l.fn.bytes.items) (λ next. next ≡ At (length l.bytes.items));
-      left : Leaves ⊥ ⊥ old new;
+      far : IsReadUpTo l.limit old new l.name (length l.fn.bytes.items) l.bytes.items;
     }
 
 abbrev pub decreases-loop-fault : goal.decreases-loop-fault

@@ -1,7 +1,4 @@
-use Rattle.std.proofs.Common.{subst}
-use Rattle.std.proofs.lemmas.Result.{IfOk-weaker}
-use Rattle.fm_workers.specs.Tally.{TalliedWith}
-use Rattle.fm_top_pooled.proofs.Tallies.{can_tally, counts_all, only_wants, was_tallied}
+use Rattle.fm_top_pooled.proofs.Tallies.{can_tally, hands_asked, hands_counts, only_wants}
 use Rattle.fm_top_pooled.proofs.tallying.count.Goals as goal
 
 pub tally_with-found-requires-after_bounds : goal.tally_with-found-requires-after_bounds
@@ -15,18 +12,10 @@ unless_wanting-requires g c =
 
 pub returns-clause-value : goal.returns-clause-value
 returns-clause-value g c =
-    let old = c.args.pass.now in
-    IfOk-weaker c.unless_wanting.result _ _
-    (λ ns is. counts_all c.requires.can.stocked c.requires.can.beside (c.tally_with-found.ensures.tallied.still_sound c.requires.can.stocked.sound) ns
-    (subst (λ r. TalliedWith c.args.threads old c.tally_with-found.new.pass c.args.q.now c.args.s.now c.args.counts.now r) is
-    c.tally_with-found.ensures.tallied))
-    c.unless_wanting.ensures
+    hands_counts c.requires.can.stocked c.requires.can.beside (c.tally_with-found.ensures.tallied.still_sound c.requires.can.stocked.sound) c.unless_wanting.result
+    c.tally_with-found.ensures.tallied c.unless_wanting.ensures
 
 pub returns-clause-asked : goal.returns-clause-asked
 returns-clause-asked g c =
-    let old = c.args.pass.now in
-    IfOk-weaker c.unless_wanting.result _ _
-    (λ ns is. was_tallied c.requires.can.stocked c.requires.can.beside (c.tally_with-found.ensures.tallied.still_sound c.requires.can.stocked.sound) ns
-    (subst (λ r. TalliedWith c.args.threads old c.tally_with-found.new.pass c.args.q.now c.args.s.now c.args.counts.now r) is
-    c.tally_with-found.ensures.tallied) c.tally_with-found.ensures.outside)
-    c.unless_wanting.ensures
+    hands_asked c.requires.can.stocked c.requires.can.beside (c.tally_with-found.ensures.tallied.still_sound c.requires.can.stocked.sound) c.unless_wanting.result
+    c.tally_with-found.ensures.tallied c.unless_wanting.ensures c.tally_with-found.ensures.outside
