@@ -7,7 +7,7 @@ returns-in_err-enter c =
     let after = c.in_err-enter.ensures in
     works after.outside (idle_on c.a_crew_stands.ensures (idle c.requires) after.did after.lasts)
 
-pub act_inside-found-requires-clause-idle : goal.act_inside-requires-idle
+pub act_inside-found-requires-clause-idle : goal.act_inside-found-requires-clause-idle
 act_inside-found-requires-clause-idle c =
     let entered = c.in_ok-enter.ensures in
     idle_on c.a_crew_stands.ensures (idle c.requires) entered.did entered.lasts
