@@ -1,0 +1,12 @@
+pub mod Joined
+pub mod Cut
+pub mod Put
+pub mod Stand
+pub mod Alive
+pub mod Where
+pub mod Unrefused
+pub mod Own
+pub mod Apart
+pub mod Refused
+pub mod Filler
+pub mod Nothing
