@@ -7,12 +7,18 @@ use Rattle.fm_rule_facts.specs.Views.{View, In}
 use Rattle.fm_rule_facts.specs.Steps.{Stepped, none_noted, is_clear}
 use Rattle.fm_rule.specs.declared.pool.Pool.{Pool}
 use Rattle.fm_rule.specs.Passes.{IsOf}
-use Rattle.fm_rule_calls.proofs.Going.{goes_of, goes_then, no_draws}
+use Rattle.fm_base.specs.View.{inside_after}
+use Rattle.fm_rule_calls.proofs.Going.{IsOn, goes_of, goes_then, no_draws}
 use Rattle.fm_pages.specs.Claims.{Went}
 use Rattle.fm_pages.proofs.Clear.{clear_still}
 use Rattle.fm_pages.specs.Maps.{Way}
 
 -- ---- ways
+
+-- a step that changes what the pass has read, and the pages in its hand, goes on with it
+pub paged_on : {p : View} {own : List Entry} (ms : List Mapping) (ps : List ℕ) → p.inside ≡ inside_after p.inside own
+    → IsOn p (record p { reads = ms; pages = ps }) own
+paged_on ms ps inside = record { shape = refl; home = refl; caller = refl; gathered = refl; whole = refl; number = refl; inside = inside }
 
 pub way_then : {p q r : View} {es fs : List Entry} {ps qs : List ℕ} → Way p q es ps → Way q r fs qs → Way p r (es ++ fs) qs
 way_then {r = r} {qs = qs} v w = record {

@@ -14,9 +14,9 @@ exchange_as-requires-clause-can c =
 pub invariant_of-pass : goal.invariant_of-pass
 invariant_of-pass c = step_keeps c.pass.invariant c.exchange_as.ensures tt
 
-pub returns-clause-stepped : goal.returns-clause-stepped
+pub returns : goal.returns
 unfolding part entries noted
-returns-clause-stepped c = step_stepped (Draws c.args.expected) c.pass.view_is c.pass.invariant c.exchange_as.ensures (draws_steady _ _ _ _)
-
-pub returns-clause-count : goal.returns-clause-count
-returns-clause-count c = count_learnt c.pass.view_is c.exchange_as.ensures.tells.learns
+returns c = record {
+  stepped = step_stepped (Draws c.args.expected) c.pass.view_is c.pass.invariant c.exchange_as.ensures (draws_steady _ _ _ _);
+  count = count_learnt c.pass.view_is c.exchange_as.ensures.tells.learns;
+}

@@ -21,9 +21,9 @@ exchange_as-requires-clause-can c =
 pub invariant_of-pass : goal.invariant_of-pass
 invariant_of-pass c = step_keeps c.pass.invariant c.exchange_as.ensures tt
 
-pub returns-clause-stepped : goal.returns-clause-stepped
+pub returns : goal.returns
 unfolding part entries noted
-returns-clause-stepped c = step_stepped (Backs c.args.id c.args.word) c.pass.view_is c.pass.invariant c.exchange_as.ensures refl
-
-pub returns-clause-alive : goal.returns-clause-alive
-returns-clause-alive c = c.exchange_as.ensures.tells.learns
+returns c = record {
+  alive = c.exchange_as.ensures.tells.learns;
+  stepped = step_stepped (Backs c.args.id c.args.word) c.pass.view_is c.pass.invariant c.exchange_as.ensures refl;
+}

@@ -24,10 +24,9 @@ exchange_as-requires-clause-can c =
 pub invariant_of-pass : goal.invariant_of-pass
 invariant_of-pass c = step_keeps c.pass.invariant c.exchange_as.ensures tt
 
-pub returns-clause-stepped : goal.returns-clause-stepped
+pub returns : goal.returns
 unfolding part entries noted
-returns-clause-stepped c = step_stepped (Holds c.args.id c.args.word) c.pass.view_is c.pass.invariant c.exchange_as.ensures refl
-
-pub returns-clause-alive : goal.returns-clause-alive
-returns-clause-alive c =
-    subst (λ (x : View). In c.args.id (grips c.args.id x) → alive_holds c.args.id c.exchange_as.result ≢ None) c.pass.view_is c.exchange_as.ensures.tells.learns
+returns c = record {
+  alive = subst (λ (x : View). In c.args.id (grips c.args.id x) → alive_holds c.args.id c.exchange_as.result ≢ None) c.pass.view_is c.exchange_as.ensures.tells.learns;
+  stepped = step_stepped (Holds c.args.id c.args.word) c.pass.view_is c.pass.invariant c.exchange_as.ensures refl;
+}

@@ -15,9 +15,9 @@ load_as-requires-clause-can c =
 pub invariant_of-pass : goal.invariant_of-pass
 invariant_of-pass c = step_keeps c.pass.invariant c.load_as.ensures tt
 
-pub returns-clause-stepped : goal.returns-clause-stepped
+pub returns : goal.returns
 unfolding part entries noted
-returns-clause-stepped c = step_stepped (LearnsTerm c.args.number) c.pass.view_is c.pass.invariant c.load_as.ensures refl
-
-pub returns-clause-term : goal.returns-clause-term
-returns-clause-term c = c.load_as.ensures.tells.learns
+returns c = record {
+  stepped = step_stepped (LearnsTerm c.args.number) c.pass.view_is c.pass.invariant c.load_as.ensures refl;
+  term = c.load_as.ensures.tells.learns;
+}

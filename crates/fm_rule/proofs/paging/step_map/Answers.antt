@@ -8,9 +8,6 @@ use Rattle.fm_rule.proofs.Keeping.{step_keeps}
 use Rattle.fm_rule.proofs.Stepping.{step_stepped}
 use Rattle.fm_rule.proofs.paging.step_map.Goals as goal
 
-pub map_place-place-requires-clause-valid : goal.map_place-place-requires-clause-valid
-map_place-place-requires-clause-valid c = valid (sees c.pass.view_is c.requires.of.1 c.pass.invariant)
-
 pub map_place-place-requires-clause-place : goal.map_place-place-requires-clause-place
 map_place-place-requires-clause-place c = (inside_slot (sees c.pass.view_is c.requires.of.1 c.pass.invariant) c.requires.inside, c.requires.low)
 
@@ -28,9 +25,9 @@ exchange_as-requires-clause-can c =
 pub invariant_of-pass : goal.invariant_of-pass
 invariant_of-pass c = step_keeps c.pass.invariant c.exchange_as.ensures tt
 
-pub returns-clause-stepped : goal.returns-clause-stepped
+pub returns : goal.returns
 unfolding part entries noted
-returns-clause-stepped c = step_stepped (Maps c.args.id c.args.index c.args.page) c.pass.view_is c.pass.invariant c.exchange_as.ensures refl
-
-pub returns-clause-low : goal.returns-clause-low
-returns-clause-low c = subst (λ (x : View). c.exchange_as.result ≤ x.shape.pages) c.pass.view_is c.exchange_as.ensures.tells.learns
+returns c = record {
+  low = subst (λ (x : View). c.exchange_as.result ≤ x.shape.pages) c.pass.view_is c.exchange_as.ensures.tells.learns;
+  stepped = step_stepped (Maps c.args.id c.args.index c.args.page) c.pass.view_is c.pass.invariant c.exchange_as.ensures refl;
+}

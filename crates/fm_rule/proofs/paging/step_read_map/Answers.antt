@@ -2,14 +2,11 @@ use Rattle.std.proofs.Common.{ap, refl, arith}
 use Rattle.fm_words.specs.declared.shape.Shape.{Shape}
 use Rattle.fm_rule_facts.specs.declared.step.Step.TheVariants.{ReadsMap}
 use Rattle.fm_rule_facts.specs.Steps.{part, entries, noted}
-use Rattle.fm_rule.proofs.Knowing.{opened, sees, inside_slot, valid, shape_is}
+use Rattle.fm_rule.proofs.Knowing.{opened, sees, inside_slot, shape_is}
 use Rattle.fm_rule.proofs.Making.{can_read_map}
 use Rattle.fm_rule.proofs.Keeping.{read_map_keeps}
 use Rattle.fm_rule.proofs.Stepping.{step_stepped, map_learnt}
 use Rattle.fm_rule.proofs.paging.step_read_map.Goals as goal
-
-pub map_place-place-requires-clause-valid : goal.map_place-place-requires-clause-valid
-map_place-place-requires-clause-valid c = valid (sees c.pass.view_is c.requires.of.1 c.pass.invariant)
 
 pub map_place-place-requires-clause-place : goal.map_place-place-requires-clause-place
 map_place-place-requires-clause-place c = (inside_slot (sees c.pass.view_is c.requires.of.1 c.pass.invariant) c.requires.inside, c.requires.low)
@@ -23,15 +20,15 @@ pub invariant_of-pass : goal.invariant_of-pass
 invariant_of-pass c = read_map_keeps c.pass.invariant _ _ c.load_as-word.ensures (shape_is (sees c.pass.view_is c.requires.of.1 c.pass.invariant)) c.part_of-pass-inside.ensures.none
     c.part_of-pass-inside.ensures.some
 
-pub returns-clause-stepped : goal.returns-clause-stepped
+pub returns : goal.returns
 unfolding part entries noted
-returns-clause-stepped c = step_stepped (ReadsMap c.args.id c.args.index) c.pass.view_is c.pass.invariant c.load_as-word.ensures refl
+returns c = record {
+  map = map_learnt c.pass.view_is c.load_as-word.ensures.tells.learns;
+  stepped = step_stepped (ReadsMap c.args.id c.args.index) c.pass.view_is c.pass.invariant c.load_as-word.ensures refl;
+}
 
 pub part_of-pass-inside-requires : goal.part_of-pass-inside-requires
 part_of-pass-inside-requires c =
     let low = c.load_as-word.ensures.tells.learns.low in
     let sh = ap (λ (x : Shape). x.pages) (shape_is (sees c.pass.view_is c.requires.of.1 c.pass.invariant)) in
     omega arith
-
-pub returns-clause-map : goal.returns-clause-map
-returns-clause-map c = map_learnt c.pass.view_is c.load_as-word.ensures.tells.learns

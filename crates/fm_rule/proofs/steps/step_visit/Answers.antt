@@ -15,9 +15,9 @@ load_as-requires-clause-can c = can_visit (opened c.pass.view_is c.requires.of c
 pub invariant_of-pass : goal.invariant_of-pass
 invariant_of-pass c = step_keeps c.pass.invariant c.load_as.ensures tt
 
-pub returns-clause-stepped : goal.returns-clause-stepped
+pub returns : goal.returns
 unfolding part entries noted
-returns-clause-stepped c = step_stepped (Visits c.args.id c.args.k) c.pass.view_is c.pass.invariant c.load_as.ensures refl
-
-pub returns-clause-own : goal.returns-clause-own
-returns-clause-own c = subst (λ (x : View). c.args.k ≡ x.caller.number → c.load_as.result ≡ own_word x.mark) c.pass.view_is c.load_as.ensures.tells.learns
+returns c = record {
+  own = subst (λ (x : View). c.args.k ≡ x.caller.number → c.load_as.result ≡ own_word x.mark) c.pass.view_is c.load_as.ensures.tells.learns;
+  stepped = step_stepped (Visits c.args.id c.args.k) c.pass.view_is c.pass.invariant c.load_as.ensures refl;
+}

@@ -18,9 +18,9 @@ load_as-requires-clause-can c =
 pub invariant_of-pass : goal.invariant_of-pass
 invariant_of-pass c = step_keeps c.pass.invariant c.load_as.ensures tt
 
-pub returns-clause-stepped : goal.returns-clause-stepped
+pub returns : goal.returns
 unfolding part entries noted
-returns-clause-stepped c = step_stepped (SweepsGiven c.args.id) c.pass.view_is c.pass.invariant c.load_as.ensures refl
-
-pub returns-clause-count : goal.returns-clause-count
-returns-clause-count c = c.load_as.ensures.tells.learns
+returns c = record {
+  count = c.load_as.ensures.tells.learns;
+  stepped = step_stepped (SweepsGiven c.args.id) c.pass.view_is c.pass.invariant c.load_as.ensures refl;
+}

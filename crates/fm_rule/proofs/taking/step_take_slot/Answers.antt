@@ -18,9 +18,9 @@ exchange_as-requires-clause-can c =
 pub invariant_of-pass : goal.invariant_of-pass
 invariant_of-pass c = step_keeps c.pass.invariant c.exchange_as.ensures tt
 
-pub returns-clause-stepped : goal.returns-clause-stepped
+pub returns : goal.returns
 unfolding part entries noted
-returns-clause-stepped c = step_stepped (TakesSlot c.args.expected c.args.bit) c.pass.view_is c.pass.invariant c.exchange_as.ensures refl
-
-pub returns-clause-slots : goal.returns-clause-slots
-returns-clause-slots c = slots_learnt c.pass.view_is c.exchange_as.ensures.tells.learns
+returns c = record {
+  stepped = step_stepped (TakesSlot c.args.expected c.args.bit) c.pass.view_is c.pass.invariant c.exchange_as.ensures refl;
+  slots = slots_learnt c.pass.view_is c.exchange_as.ensures.tells.learns;
+}

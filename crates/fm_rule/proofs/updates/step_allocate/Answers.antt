@@ -23,10 +23,9 @@ exchange_as-requires-clause-can c =
 pub invariant_of-pass : goal.invariant_of-pass
 invariant_of-pass c = step_keeps c.pass.invariant c.exchange_as.ensures tt
 
-pub returns-clause-stepped : goal.returns-clause-stepped
+pub returns : goal.returns
 unfolding part entries noted
-returns-clause-stepped c = step_stepped (Allocates c.args.given c.args.size c.args.align) c.pass.view_is c.pass.invariant c.exchange_as.ensures refl
-
-pub returns-clause-count : goal.returns-clause-count
-returns-clause-count c =
-    c.exchange_as.ensures.tells.learns c.args.id (inner (sees c.pass.view_is c.requires.of.1 c.pass.invariant) (λ (x : View). x.inside ≡ Some c.args.id) c.requires.inside)
+returns c = record {
+  count = c.exchange_as.ensures.tells.learns c.args.id (inner (sees c.pass.view_is c.requires.of.1 c.pass.invariant) (λ (x : View). x.inside ≡ Some c.args.id) c.requires.inside);
+  stepped = step_stepped (Allocates c.args.given c.args.size c.args.align) c.pass.view_is c.pass.invariant c.exchange_as.ensures refl;
+}
