@@ -1,8 +1,9 @@
 ghost use Rattle.std.specs.Prelude.{◌≡◌, ◌<◌, ◌≤◌, ◌*◌, bit_and};
-ghost use Rattle.fm_rule_facts.specs.Views.{IsKnown, given_of, span};
+ghost use Rattle.fm_rule_facts.specs.Views.{given_of, span};
 ghost use Rattle.fm_rule_calls.specs.Kept.{Lasts};
-ghost use Rattle.fm_gate.specs.Needs.{CanAllocate, CanVisit, IsInside, IsOutside};
+ghost use Rattle.fm_gate.specs.Needs.{CanAllocate, CanVisit, IsOutside};
 ghost use Rattle.fm_arena.specs.Shares.{CanShare};
+ghost use Rattle.fm_arena_tests.specs.Ready.{CanAct};
 
 mod crews;
 mod finishing;
@@ -32,48 +33,32 @@ fn made<R: Abort + AllocGlobal>(rt: &R, slots: u32) -> (Pool, Pass)
 /// Reads a word of an arena that has given 64 bytes, and can still act in it. So do the next four.
 fn read(pool: &Pool, pass: &mut Pass, a: ArenaId, word: u64) -> u64
     requires low { word < 8 }
-    requires inside { IsInside pool.now pass.old a }
-    requires given { 64 ≤ given_of pass.old a }
-    requires known { IsKnown pass.old a }
-    ensures inside { IsInside pool.now pass.new a }
-    ensures given { 64 ≤ given_of pass.new a }
-    ensures known { IsKnown pass.new a }
+    requires can { CanAct pool.now pass.old a }
+    ensures { CanAct pool.now pass.new a }
 {
     load(pool, pass, word)
 }
 
 fn write(pool: &Pool, pass: &mut Pass, a: ArenaId, word: u64, v: u64)
     requires low { word < 8 }
-    requires inside { IsInside pool.now pass.old a }
-    requires given { 64 ≤ given_of pass.old a }
-    requires known { IsKnown pass.old a }
-    ensures inside { IsInside pool.now pass.new a }
-    ensures given { 64 ≤ given_of pass.new a }
-    ensures known { IsKnown pass.new a }
+    requires can { CanAct pool.now pass.old a }
+    ensures { CanAct pool.now pass.new a }
 {
     store(pool, pass, word, v);
 }
 
 fn swap(pool: &Pool, pass: &mut Pass, a: ArenaId, word: u64, old: u64, new: u64) -> u64
     requires low { word < 8 }
-    requires inside { IsInside pool.now pass.old a }
-    requires given { 64 ≤ given_of pass.old a }
-    requires known { IsKnown pass.old a }
-    ensures inside { IsInside pool.now pass.new a }
-    ensures given { 64 ≤ given_of pass.new a }
-    ensures known { IsKnown pass.new a }
+    requires can { CanAct pool.now pass.old a }
+    ensures { CanAct pool.now pass.new a }
 {
     swap_if(pool, pass, word, old, new)
 }
 
 fn sum(pool: &Pool, pass: &mut Pass, a: ArenaId, word: u64, n: u64) -> u64
     requires low { word < 8 }
-    requires inside { IsInside pool.now pass.old a }
-    requires given { 64 ≤ given_of pass.old a }
-    requires known { IsKnown pass.old a }
-    ensures inside { IsInside pool.now pass.new a }
-    ensures given { 64 ≤ given_of pass.new a }
-    ensures known { IsKnown pass.new a }
+    requires can { CanAct pool.now pass.old a }
+    ensures { CanAct pool.now pass.new a }
 {
     add(pool, pass, word, n)
 }
@@ -121,12 +106,8 @@ fn put_bits<R: Wait>(
 ) -> u64
     requires under { bit_and bits mask ≡ bits }
     requires low { word < 8 }
-    requires inside { IsInside pool.now pass.old a }
-    requires given { 64 ≤ given_of pass.old a }
-    requires known { IsKnown pass.old a }
-    ensures inside { IsInside pool.now pass.new a }
-    ensures given { 64 ≤ given_of pass.new a }
-    ensures known { IsKnown pass.new a }
+    requires can { CanAct pool.now pass.old a }
+    ensures { CanAct pool.now pass.new a }
 {
     patch(rt, pool, pass, word, mask, bits)
 }
