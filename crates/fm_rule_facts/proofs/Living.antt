@@ -11,7 +11,7 @@ use Rattle.fm_rule_facts.specs.Loans.{Loan}
 use Rattle.fm_rule_facts.specs.Facts.{Session, free, live, shut, IsShown, IsStanding, Sessions}
 use Rattle.fm_rule_facts.proofs.Sessions.{standing_known, unstanding, standing_shown, shown_one, one_standing}
 use Rattle.fm_rule_facts.specs.Berths.{Berth, loose, claimed, mapped, unmapped}
-use Rattle.fm_rule_facts.specs.Pages.{IsBlank, IsBeyond, IsMapped, IsUnmapped, Pages}
+use Rattle.fm_rule_facts.specs.Pages.{IsBlank, IsBeyond, IsMapped, IsUnmapped, Pages, Says}
 use Rattle.fm_rule_facts.proofs.Lending.{mapped_over}
 use Rattle.fm_rule_facts.proofs.Putting.{two_cases}
 
@@ -255,7 +255,7 @@ module _ (z : Shape) (loans : List Loan) (bits : ℕ → ℕ) (maps : ℕ → �
   -- more bytes are given where each of their words has a page
   pub pages_given : (a : ArenaId) (n : ℕ) → IsStanding (life a) → given a ≤ n → ((w : ℕ) → 8 * w < n → maps a.slot (w / z.page_words) ≢ None)
       → Pages z loans bits maps cells berth sessions life word (put_at given a n)
-  pages_given a n st more has = let u = r.says in record {
+  pages_given a n st more has = record {
     bit_is = r.bit_is;
     is_bit = r.is_bit;
     map_is = r.map_is;
@@ -271,14 +271,17 @@ module _ (z : Shape) (loans : List Loan) (bits : ℕ → ℕ) (maps : ℕ → �
     loose_is = r.loose_is;
     lent_is = r.lent_is;
     only_loan = r.only_loan;
-    says = record {
-      empty = u.empty;
-      words = u.words;
-      bare = u.bare;
-      covered = λ b w sb. at_cases given a n b (λ (x : ℕ). 8 * w < x → maps b.slot (w / z.page_words) ≢ None)
-          (λ e h. subst (λ (c : ArenaId). maps c.slot (w / z.page_words) ≢ None) (sym e) (has w h))
-          (λ ne h. u.covered b w sb h);
-      new_words = u.new_words;
-      new_given = λ b f. at_cases given a n b (λ (x : ℕ). x ≡ 0) (λ e. absurd (standing_known (life a) st (ap life (sym e) ∙ f))) (λ ne. u.new_given b f);
-    };
+    says = saying;
   }
+    where
+      saying : Says z maps cells sessions life word (put_at given a n)
+      saying = record {
+        empty = r.says.empty;
+        words = r.says.words;
+        bare = r.says.bare;
+        covered = λ b w sb. at_cases given a n b (λ (x : ℕ). 8 * w < x → maps b.slot (w / z.page_words) ≢ None)
+            (λ e h. subst (λ (c : ArenaId). maps c.slot (w / z.page_words) ≢ None) (sym e) (has w h))
+            (λ ne h. r.says.covered b w sb h);
+        new_words = r.says.new_words;
+        new_given = λ b f. at_cases given a n b (λ (x : ℕ). x ≡ 0) (λ e. absurd (standing_known (life a) st (ap life (sym e) ∙ f))) (λ ne. r.says.new_given b f);
+      }

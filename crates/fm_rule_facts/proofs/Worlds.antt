@@ -127,9 +127,10 @@ module _ (z : Shape) (m : Memory) (t : Machine) (r : World z m t) where
     givens = r.givens;
   }
 
-  -- words don't matter
-  pub world_word : (cells : ℕ → ℕ → ℕ) (f : ArenaId → ℕ → ℕ) → World z (record m { cells = cells }) (record t { word = f })
-  world_word cells f = record {
+  -- pages and words don't matter
+  world_beside : (bits : ℕ → ℕ) (maps : ℕ → ℕ → Option ℕ) (cells : ℕ → ℕ → ℕ) {f : ArenaId → ℕ → ℕ}
+      → World z (record m { page_bits = bits; maps = maps; cells = cells }) (record t { word = f })
+  world_beside bits maps cells = record {
     marked = r.marked;
     sessions = r.sessions;
     slots = r.slots;
@@ -137,15 +138,11 @@ module _ (z : Shape) (m : Memory) (t : Machine) (r : World z m t) where
     givens = r.givens;
   }
 
-  -- nor do pages
+  pub world_word : (cells : ℕ → ℕ → ℕ) (f : ArenaId → ℕ → ℕ) → World z (record m { cells = cells }) (record t { word = f })
+  world_word cells f = world_beside m.page_bits m.maps cells
+
   pub world_pages : (bits : ℕ → ℕ) (maps : ℕ → ℕ → Option ℕ) (cells : ℕ → ℕ → ℕ) → World z (record m { page_bits = bits; maps = maps; cells = cells }) t
-  world_pages bits maps cells = record {
-    marked = r.marked;
-    sessions = r.sessions;
-    slots = r.slots;
-    counts = r.counts;
-    givens = r.givens;
-  }
+  world_pages bits maps cells = world_beside bits maps cells
 
   pub world_shut : (a : ArenaId) → t.life a ≡ Lives → t.holds a ≡ 0
       → World z (record m { sessions = put m.sessions a.slot (shut a); counts = put m.counts a.slot 0 }) (record t { life = put_at t.life a Closes })
