@@ -32,8 +32,7 @@ unmoved can s shuts = record {
   sweeps = refl;
   walks = tt;
   outside = can.outside;
-  wrong_thread = λ e. refl;
-  cannot_close = λ k e. refl;
+  as_was = record { wrong_thread = λ e. refl; cannot_close = λ k e. refl };
   lasts = lasts_on (goes_none s);
 }
 
@@ -78,8 +77,7 @@ module _ {pool : Pool} {p q : View} {a : ArenaId} (word : ℕ) (can : CanVisit p
         sweeps = sweeps_is s;
         walks = tt;
         outside = still_outside Closed r;
-        wrong_thread = λ e. absurd (cc);
-        cannot_close = λ k e. absurd (cc);
+        as_was = record { wrong_thread = λ e. absurd (cc); cannot_close = λ k e. absurd (cc) };
         lasts = lasts_on (shut_goes Closed r);
       }
 
@@ -97,8 +95,7 @@ module _ {pool : Pool} {p q : View} {a : ArenaId} (word : ℕ) (can : CanVisit p
         sweeps = sweeps_is s;
         walks = tt;
         outside = still_outside (Held holds) r;
-        wrong_thread = λ e. absurd (cc);
-        cannot_close = λ k e. absurd (cc);
+        as_was = record { wrong_thread = λ e. absurd (cc); cannot_close = λ k e. absurd (cc) };
         lasts = lasts_on (shut_goes (Held holds) r);
       }
 
@@ -124,7 +121,6 @@ module _ {pool : Pool} {p q : View} {a : ArenaId} (word : ℕ) (can : CanVisit p
           low = (let n = g.sound.number in omega arith);
         };
         outside = still_outside Fine r;
-        wrong_thread = λ e. absurd (cc);
-        cannot_close = λ k e. absurd (cc);
+        as_was = record { wrong_thread = λ e. absurd (cc); cannot_close = λ k e. absurd (cc) };
         lasts = lasts_on g;
       }
