@@ -23,7 +23,7 @@ pub not_fresh : (b : Bool) (l : Life) → stage_of b l ≢ Fresh → b ≡ true
 not_fresh false l n = absurd (n refl)
 not_fresh true l n = refl
 
-is_alive : (b : Bool) (l : Life) → Lives ≡ stage_of b l → l ≡ Alive
+pub is_alive : (b : Bool) (l : Life) → Lives ≡ stage_of b l → l ≡ Alive
 is_alive false l e = absurd (cc)
 is_alive true Alive e = refl
 is_alive true Closing e = absurd (cc)

@@ -1,5 +1,5 @@
 -- A legal history counts the handles of each arena.
-use Rattle.std.proofs.Common.{◌≡◌, ◌≢◌, ℕ, ◌+◌, ◌<◌, Bool, true, false, List, [], ◌∷◌, ◌++◌, refl, ap, sym, ◌∙◌, subst, arith}
+use Rattle.std.proofs.Common.{◌≡◌, ◌≢◌, ℕ, ◌+◌, ◌<◌, Bool, true, List, [], ◌∷◌, ◌++◌, refl, ap, sym, ◌∙◌, subst, arith}
 use Rattle.fm_base.specs.declared.caller.Caller.{Caller}
 use Rattle.fm_base.specs.declared.arena_id.ArenaId.{ArenaId}
 use Rattle.fm_base.specs.Arenas.{Life, Alive, Closing, Ended, State, arena_of, has_arena}
@@ -11,6 +11,7 @@ use Rattle.fm_base.proofs.Making.{IsLegal-split}
 use Rattle.fm_base_machine.specs.Functions.{Stage, Fresh, Lives, Closes, Over, stage_of, Machine, Depicts, moved}
 use Rattle.fm_base_machine.specs.Steps.{opening, moved_by}
 use Rattle.fm_base_machine.specs.Handles.{one_alive, handles_of, all_taken, all_given, AreLeft, HandlesAreCounted, LastHandleEnds}
+use Rattle.fm_base_machine.proofs.Allowing.{is_alive}
 use Rattle.fm_base_machine.proofs.Depicting.{always, depicts_none, depicts_by}
 use Rattle.fm_base_machine.proofs.Handling.{hold_alive, shut_alive, Counts, handled, OnlyAlive, only_alive}
 
@@ -83,14 +84,8 @@ module _ (limit : ℕ) (h : List Entry) (id : ArenaId) (l : IsLegal limit [] h) 
   left_none : (arena_of now id).life ≢ Alive → AreLeft id h 0
   left_none n = go (t.life id) refl
     where
-      alive : (b : Bool) (x : Life) → stage_of b x ≡ Lives → x ≡ Alive
-      alive true Alive e = refl
-      alive true Closing e = absurd (cc)
-      alive true Ended e = absurd (cc)
-      alive false x e = absurd (cc)
-
       dead : t.life id ≢ Lives
-      dead e = n (alive (has_arena now id) (arena_of now id).life (sym ((always limit h l).life id) ∙ e))
+      dead e = n (is_alive (has_arena now id) (arena_of now id).life (sym e ∙ (always limit h l).life id))
 
       nothing : one_alive (t.life id) ≡ 0 → AreLeft id h 0
       nothing z =

@@ -15,8 +15,7 @@ use Rattle.fm_rule_facts.specs.Closes.{walk_of, passed_of, dropped}
 use Rattle.fm_rule_facts.specs.Steps.{Stepped, none_noted}
 use Rattle.fm_rule.specs.declared.pool.Pool.{Pool}
 use Rattle.fm_rule_calls.specs.Kept.{Goes, rest_of, HasEnded, HasNoWords}
-use Rattle.fm_rule_calls.proofs.Going.{goes_then, no_draws, made_by-one, rest_is, hand_is, inside_is, mark_is, known_on, lasts_on}
-use Rattle.fm_rule_calls.proofs.Onward.{goes_step}
+use Rattle.fm_rule_calls.proofs.Going.{no_draws, made_by-one, rest_is, hand_is, inside_is, mark_is, known_on, lasts_on, goes_step}
 use Rattle.fm_rule_calls.proofs.Waiting.{Waited, waits_by, waits_on}
 use Rattle.fm_gate.specs.Makers.{Made, made_by_pass}
 use Rattle.fm_gate.specs.Needs.{IsOutside}
@@ -26,7 +25,7 @@ use Rattle.fm_close.specs.declared.gave_back.GaveBack.TheVariants as gave
 use Rattle.fm_close.specs.declared.shutting.Shutting.{Shutting}
 use Rattle.fm_close.specs.Does.{begun}
 use Rattle.fm_close.specs.Learnt.{CanGiveBack, AfterBack, AfterSpend, AfterGiveBack}
-use Rattle.fm_close.proofs.Closes.{passed_of-begun, dropped-begun}
+use Rattle.fm_close.proofs.Closes.{passed_of-begun}
 use Rattle.fm_close.proofs.Walks.{Finished, ends_so, closed_goes, closed_left}
 
 -- ---- the exchanges

@@ -16,8 +16,7 @@ use Rattle.fm_rule_facts.specs.Steps.{Stepped, note_of, is_clear}
 use Rattle.fm_rule.specs.declared.pool.Pool.{Pool}
 use Rattle.fm_rule_calls.specs.Kept.{Goes, HasEnded}
 use Rattle.fm_rule_calls.specs.Told.{silent_view}
-use Rattle.fm_rule_calls.proofs.Going.{made_by-one, NoDraws, rest_is, hand_is, inside_is, mark_is, closes_is, sweeps_is, known_on, lasts_on}
-use Rattle.fm_rule_calls.proofs.Onward.{goes_step}
+use Rattle.fm_rule_calls.proofs.Going.{made_by-one, NoDraws, rest_is, hand_is, inside_is, mark_is, closes_is, sweeps_is, known_on, lasts_on, goes_step}
 use Rattle.fm_rule_calls.proofs.Telling.{silent_makes}
 use Rattle.fm_gate.specs.Needs.{IsOutside}
 use Rattle.fm_gate.proofs.Outside.{made_on, stands_outside, swept_is}

@@ -16,8 +16,7 @@ use Rattle.fm_rule_facts.proofs.Ending.{all_given}
 use Rattle.fm_rule_steps.proofs.Closes.{passed_of-found}
 use Rattle.fm_rule.specs.declared.pool.Pool.{Pool}
 use Rattle.fm_rule.specs.Passes.{IsOf}
-use Rattle.fm_rule_calls.proofs.Going.{goes_none, goes_then, no_draws, made_by-one}
-use Rattle.fm_rule_calls.proofs.Onward.{goes_step}
+use Rattle.fm_rule_calls.proofs.Going.{goes_none, goes_then, no_draws, made_by-one, goes_step}
 use Rattle.fm_rule_calls.proofs.Unlent.{given_on}
 use Rattle.fm_close.specs.Does.{IsBack, AreBacks}
 use Rattle.fm_close.specs.Sweeps.{SweepsOn, SweepsPart, PartTaken, PartsTaken}

@@ -16,8 +16,7 @@ use Rattle.fm_rule_facts.specs.Steps.{Stepped, none_noted}
 use Rattle.fm_rule.specs.declared.pool.Pool.{Pool}
 use Rattle.fm_rule.specs.Passes.{IsOf}
 use Rattle.fm_rule_calls.specs.Kept.{Goes}
-use Rattle.fm_rule_calls.proofs.Going.{goes_none, kept_none, made_by-one, no_draws, rest_is, hand_is, inside_is, mark_is, closes_is, sweeps_is, known_on, lasts_on}
-use Rattle.fm_rule_calls.proofs.Onward.{goes_step}
+use Rattle.fm_rule_calls.proofs.Going.{goes_none, kept_none, made_by-one, no_draws, rest_is, hand_is, inside_is, mark_is, closes_is, sweeps_is, known_on, lasts_on, goes_step}
 use Rattle.fm_gate.specs.Makers.{Made, made_by_pass}
 use Rattle.fm_gate.specs.Needs.{IsOutside, CanVisit}
 use Rattle.fm_gate.proofs.Outside.{made_on, stands_outside, swept_is}
@@ -33,8 +32,7 @@ unmoved can s shuts = record {
   sweeps = refl;
   walks = tt;
   outside = can.outside;
-  wrong_thread = λ e. refl;
-  cannot_close = λ k e. refl;
+  as_was = record { wrong_thread = λ e. refl; cannot_close = λ k e. refl };
   lasts = lasts_on (goes_none s);
 }
 
@@ -79,8 +77,7 @@ module _ {pool : Pool} {p q : View} {a : ArenaId} (word : ℕ) (can : CanVisit p
         sweeps = sweeps_is s;
         walks = tt;
         outside = still_outside Closed r;
-        wrong_thread = λ e. absurd (cc);
-        cannot_close = λ k e. absurd (cc);
+        as_was = record { wrong_thread = λ e. absurd (cc); cannot_close = λ k e. absurd (cc) };
         lasts = lasts_on (shut_goes Closed r);
       }
 
@@ -98,8 +95,7 @@ module _ {pool : Pool} {p q : View} {a : ArenaId} (word : ℕ) (can : CanVisit p
         sweeps = sweeps_is s;
         walks = tt;
         outside = still_outside (Held holds) r;
-        wrong_thread = λ e. absurd (cc);
-        cannot_close = λ k e. absurd (cc);
+        as_was = record { wrong_thread = λ e. absurd (cc); cannot_close = λ k e. absurd (cc) };
         lasts = lasts_on (shut_goes (Held holds) r);
       }
 
@@ -125,7 +121,6 @@ module _ {pool : Pool} {p q : View} {a : ArenaId} (word : ℕ) (can : CanVisit p
           low = (let n = g.sound.number in omega arith);
         };
         outside = still_outside Fine r;
-        wrong_thread = λ e. absurd (cc);
-        cannot_close = λ k e. absurd (cc);
+        as_was = record { wrong_thread = λ e. absurd (cc); cannot_close = λ k e. absurd (cc) };
         lasts = lasts_on g;
       }

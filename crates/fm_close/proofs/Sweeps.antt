@@ -14,8 +14,7 @@ use Rattle.fm_rule_facts.specs.Steps.{Stepped, none_noted}
 use Rattle.fm_rule_steps.proofs.Closes.{passed_of-found}
 use Rattle.fm_rule.specs.declared.pool.Pool.{Pool}
 use Rattle.fm_rule_calls.specs.Kept.{Goes, rest_of, slots_told, HasNoWords}
-use Rattle.fm_rule_calls.proofs.Going.{goes_then, no_draws, lasts_on}
-use Rattle.fm_rule_calls.proofs.Onward.{goes_step}
+use Rattle.fm_rule_calls.proofs.Going.{goes_then, no_draws, lasts_on, goes_step}
 use Rattle.fm_rule_calls.proofs.Unlent.{over_on, no_words_on, no_words_swept, has_ended}
 use Rattle.fm_gate.proofs.Outside.{stands_outside}
 use Rattle.fm_close.specs.declared.shutting.Shutting.{Shutting}

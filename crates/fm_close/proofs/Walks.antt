@@ -169,8 +169,7 @@ after_walk {p = p} {q = q} {r = r} {a = a} {s = s} u h w =
       ended = subst (HasEnded r) arena w.over;
       no_words = subst (HasNoWords r) arena w.no_words;
       outside = w.outside;
-      wrong_thread = λ e. absurd (cc);
-      cannot_close = λ k e. absurd (cc);
+      as_was = record { wrong_thread = λ e. absurd (cc); cannot_close = λ k e. absurd (cc) };
       lasts = lasts_on goes;
     }
 
@@ -189,7 +188,9 @@ after_refused {p = p} {a = a} why h = record {
   ended = tt;
   no_words = tt;
   outside = h.outside;
-  wrong_thread = λ e. let same : why ≡ refusal.WrongThread = cc in h.wrong_thread (ap (λ (r : Refusal). Err r) same);
-  cannot_close = λ k e. let same : why ≡ refusal.CannotClose k = cc in h.cannot_close k (ap (λ (r : Refusal). Err r) same);
+  as_was = record {
+    wrong_thread = λ e. let same : why ≡ refusal.WrongThread = cc in h.as_was.wrong_thread (ap (λ (r : Refusal). Err r) same);
+    cannot_close = λ k e. let same : why ≡ refusal.CannotClose k = cc in h.as_was.cannot_close k (ap (λ (r : Refusal). Err r) same);
+  };
   lasts = h.lasts;
 }

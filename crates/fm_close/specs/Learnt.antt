@@ -61,15 +61,18 @@ abbrev pub closes_shut : ArenaId → Result Shutting Refusal → List Close → 
 closes_shut id (Ok s) cs = walk_of id 0 ∷ cs
 closes_shut id (Err r) cs = cs
 
+-- refused for its caller or the arena's kind, the pass is as it was
+pub record IsAsItWas {A : Type 0} (old new : View) (result : Result A Refusal) : Type 0 where
+  pub wrong_thread : result ≡ Err WrongThread → new ≡ old
+  pub cannot_close : (kind : Kind) → result ≡ Err (CannotClose kind) → new ≡ old
+
 -- of `shut`
 pub record AfterShut (pool : Pool) (old new : View) (id : ArenaId) (result : Result Shutting Refusal) : Type 0 where
   pub did : KeptBut old new (closes_shut id result old.closes) (DoesShut (made_by_pass old) id result)
   pub sweeps : new.sweeps ≡ old.sweeps
   pub walks : IfOk result (λ s. IsUnderWay new s)
   pub outside : IsOutside pool new
-  -- then the pass is as it was
-  pub wrong_thread : result ≡ Err WrongThread → new ≡ old
-  pub cannot_close : (kind : Kind) → result ≡ Err (CannotClose kind) → new ≡ old
+  pub as_was : IsAsItWas old new result
   pub lasts : Lasts old new
 
 -- the closes of a pass after a visit
@@ -141,9 +144,7 @@ pub record AfterClose (pool : Pool) (old new : View) (id : ArenaId) (result : Re
   pub ended : IfOk result (λ _. HasEnded new id)
   pub no_words : IfOk result (λ _. HasNoWords new id)
   pub outside : IsOutside pool new
-  -- then the pass is as it was
-  pub wrong_thread : result ≡ Err WrongThread → new ≡ old
-  pub cannot_close : (kind : Kind) → result ≡ Err (CannotClose kind) → new ≡ old
+  pub as_was : IsAsItWas old new result
   pub lasts : Lasts old new
 
 -- ---- handles of automatic arenas

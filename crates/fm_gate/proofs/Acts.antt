@@ -13,8 +13,7 @@ use Rattle.fm_rule_facts.specs.Steps.{Stepped, HasPlace, none_noted, acted}
 use Rattle.fm_rule.specs.declared.pool.Pool.{Pool}
 use Rattle.fm_rule.specs.Passes.{IsOf}
 use Rattle.fm_rule_calls.specs.Kept.{Goes, rest_of}
-use Rattle.fm_rule_calls.proofs.Going.{goes_then, made_by-acted, no_draws, rest_is, hand_is, inside_is, mark_is, lasts_on}
-use Rattle.fm_rule_calls.proofs.Onward.{goes_step}
+use Rattle.fm_rule_calls.proofs.Going.{goes_then, made_by-acted, no_draws, rest_is, hand_is, inside_is, mark_is, lasts_on, goes_step}
 use Rattle.fm_pages.specs.Places.{CanFind, Placed}
 use Rattle.fm_gate.specs.Needs.{CanReach, CanLeave}
 use Rattle.fm_gate.specs.Learnt.{AfterAct, AfterLeave}

@@ -25,8 +25,7 @@ use Rattle.fm_rule_steps.proofs.Reading.{eqb_true}
 use Rattle.fm_rule.specs.declared.pool.Pool.{Pool}
 use Rattle.fm_rule.specs.Passes.{IsOf}
 use Rattle.fm_rule_calls.specs.Kept.{Goes}
-use Rattle.fm_rule_calls.proofs.Going.{NoDraws, goes_then, no_draws, made_by-one}
-use Rattle.fm_rule_calls.proofs.Onward.{goes_step}
+use Rattle.fm_rule_calls.proofs.Going.{NoDraws, goes_then, no_draws, made_by-one, goes_step}
 use Rattle.fm_gate.specs.Slots.{Went, SlotTaken, NoneTaken, OpenedIn}
 
 -- ---- the exchanges

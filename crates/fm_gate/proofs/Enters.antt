@@ -14,8 +14,7 @@ use Rattle.fm_rule_facts.specs.Words.{alive_holds, enter_found, inside_found}
 use Rattle.fm_rule_facts.specs.Steps.{Stepped, none_noted, acted}
 use Rattle.fm_rule.specs.declared.pool.Pool.{Pool}
 use Rattle.fm_rule_calls.specs.Kept.{Goes, rest_of}
-use Rattle.fm_rule_calls.proofs.Going.{goes_then, goes_none, kept_none, made_by-one, no_draws, rest_is, hand_is, inside_is, mark_is, lasts_on}
-use Rattle.fm_rule_calls.proofs.Onward.{goes_step}
+use Rattle.fm_rule_calls.proofs.Going.{goes_then, goes_none, kept_none, made_by-one, no_draws, rest_is, hand_is, inside_is, mark_is, lasts_on, goes_step}
 use Rattle.fm_gate.specs.Needs.{CanVisit}
 use Rattle.fm_gate.specs.Learnt.{AfterEnter}
 use Rattle.fm_gate.proofs.Outside.{swept_is, stands_outside, stands_inside}

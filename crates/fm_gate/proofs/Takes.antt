@@ -13,8 +13,7 @@ use Rattle.fm_rule_facts.specs.Holds.{grips, with_grips, holds_after}
 use Rattle.fm_rule_facts.specs.Steps.{Stepped, none_noted, where_found}
 use Rattle.fm_rule_facts.proofs.Gripping.{with_same}
 use Rattle.fm_rule_calls.specs.Kept.{Goes, rest_of}
-use Rattle.fm_rule_calls.proofs.Going.{no_draws, made_by-one, rest_is, hand_is, inside_is, mark_is}
-use Rattle.fm_rule_calls.proofs.Onward.{goes_step}
+use Rattle.fm_rule_calls.proofs.Going.{no_draws, made_by-one, rest_is, hand_is, inside_is, mark_is, goes_step}
 use Rattle.fm_rule_calls.proofs.Waiting.{Waited, waits_on}
 use Rattle.fm_gate.specs.Learnt.{AfterTake}
 use Rattle.fm_gate.proofs.Outside.{swept_is}

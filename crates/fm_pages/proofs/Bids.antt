@@ -11,7 +11,7 @@ use Rattle.fm_rule_facts.specs.Views.{View}
 use Rattle.fm_rule_facts.specs.Steps.{Stepped, none_noted, note_of, is_clear}
 use Rattle.fm_rule.specs.declared.pool.Pool.{Pool}
 use Rattle.fm_rule.specs.Passes.{IsOf}
-use Rattle.fm_rule_calls.proofs.Going.{NoDraws, IsOn, goes_of, goes_then, no_draws}
+use Rattle.fm_rule_calls.proofs.Going.{NoDraws, goes_step, goes_then, no_draws}
 use Rattle.fm_pages.specs.Claims.{Went, PageClaimed, TryOutcome}
 use Rattle.fm_pages.proofs.Clear.{clear_still}
 
@@ -22,10 +22,6 @@ Takes p q group word bit found =
 -- What such a step notes is no draw.
 no_draw : (p : View) (group word bit found : ℕ) → NoDraws (note_of (TakesPage group word bit) found p)
 no_draw p group word bit found n = All-cons (λ f. is_draw f.step ≡ false) _ [] refl (All-nil (λ f. is_draw f.step ≡ false))
-
--- It leaves all else of the pass.
-pages_on : (p : View) (pages : List ℕ) → IsOn p (record p { pages = pages }) []
-pages_on p pages = record { shape = refl; home = refl; caller = refl; gathered = refl; whole = refl; number = refl; inside = refl }
 
 -- ---- one exchange
 
@@ -38,7 +34,7 @@ module _ {p q : View} (group word bit found : ℕ) (none : p.pages ≡ []) (s : 
       let t : Stepped p q (record p { pages = pages }) [] (note_of (TakesPage group word bit) found p) =
       subst (λ (ps : List ℕ). Stepped p q (record p { pages = ps }) [] (note_of (TakesPage group word bit) found p)) hand s in
       record {
-        goes = goes_of t (pages_on p pages) refl (no_draw p group word bit found);
+        goes = goes_step t refl refl refl (no_draw p group word bit found);
         is = t.is_part ∙ ap (λ (fs : List Find). record p { seen = q.seen; finds = fs; pages = pages }) (sym (ap (λ (x : View). x.finds) t.is_part));
       }
 
@@ -96,6 +92,6 @@ module _ {pool : Pool} {o p : View} (b : Bidding pool o p) where
 
 pub page_freed : {p q : View} → Stepped p q (record p { pages = [] }) [] none_noted → Went p q []
 page_freed {p = p} {q = q} s = record {
-  goes = goes_of s (pages_on p []) refl no_draws;
+  goes = goes_step s refl refl refl no_draws;
   is = s.is_part ∙ ap (λ (fs : List Find). record p { seen = q.seen; finds = fs; pages = [] }) (sym (ap (λ (x : View). x.finds) s.is_part));
 }

@@ -13,7 +13,7 @@ use Rattle.fm_base.specs.View.{inside_after}
 use Rattle.fm_rule_facts.specs.Parts.{Mapping}
 use Rattle.fm_rule_facts.specs.Views.{View, In, limit_of, given_of}
 use Rattle.fm_rule_facts.specs.Steps.{Stepped, none_noted, where_found, acted, room}
-use Rattle.fm_rule_calls.proofs.Going.{goes_of, no_draws, made_by-one}
+use Rattle.fm_rule_calls.proofs.Going.{goes_step, no_draws, made_by-one}
 use Rattle.fm_pages.specs.Maps.{Way}
 use Rattle.fm_pages.specs.Covers.{Covered, LendsIn}
 use Rattle.fm_pages.specs.Gives.{Tried, Unpaged, allocates}
@@ -66,15 +66,8 @@ module _ {p q : View} (a : ArenaId) (count size align found : ℕ) (ins : p.insi
       let t : Stepped p q p (allocates p a count size align found) none_noted =
       subst (λ (i : Option ArenaId). Stepped p q p (where_found (found == count) (acted i p.caller (λ b. Allocate b size align) reply)) none_noted) ins s in
       record {
-        goes = goes_of t (record {
-          shape = refl;
-          home = refl;
-          caller = refl;
-          gathered = refl;
-          whole = refl;
-          number = refl;
-          inside = inside_same (found == count) p.inside p.caller a size align reply;
-        }) (made_same (found == count) p.caller a size align reply) no_draws;
+        goes = goes_step t refl (inside_same (found == count) p.inside p.caller a size align reply)
+            (made_same (found == count) p.caller a size align reply) no_draws;
         is = t.is_part ∙ (λ j. record p {
           seen = q.seen;
           finds = sym (ap (λ (v : View). v.finds) t.is_part) j;

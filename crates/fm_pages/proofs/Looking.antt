@@ -7,7 +7,8 @@ use Rattle.std.proofs.lemmas.List.Elements.{Contains-append_left, Contains-appen
 use Rattle.fm_words.specs.declared.shape.Shape.{Shape}
 use Rattle.fm_words.specs.Places.{page_groups}
 use Rattle.fm_base.specs.Calls.{Entry}
-use Rattle.fm_base.specs.Finds.{Find, TakesPage}
+use Rattle.fm_base.specs.Finds.{Find, FindsMore, TakesPage}
+use Rattle.fm_base.proofs.Making.{FindsMore-none}
 use Rattle.fm_rule_facts.specs.Loans.{loans_of}
 use Rattle.fm_rule_facts.specs.Views.{View, In, FewLeft, unlent_in}
 use Rattle.fm_rule_facts.specs.Steps.{is_clear}
@@ -29,51 +30,45 @@ grows {p = p} {q = q} g =
     let l : length q.seen ≡ length p.seen + length g.more = ap (λ (es : List Entry). length es) g.seen ∙ length-append p.seen g.more in
     omega arith
 
-pub found_earlier : {o p q : View} {es : List Entry} {group : ℕ} → Goes o p es → FoundEmpty p q group → FoundEmpty o q group
-found_earlier {o = o} w f =
-    let up = grows w in let low = f.early in
+-- so is one between two other parts
+found_between : {o p q r : View} {group : ℕ} → FindsMore o.finds p.finds → length o.seen ≤ length p.seen → (f : FoundEmpty p q group)
+    → FindsMore q.finds r.finds → length q.seen ≤ length r.seen → FewLeft r.shape r.seen f.found.find → FoundEmpty o r group
+found_between {o = o} {p = p} a up f b on left =
+    let low = f.early in let high = f.late in
     record {
       found = record {
-        more = w.finds.more ++ f.found.more;
-        grown = f.found.grown ∙ (ap (λ (fs : List Find). fs ++ f.found.more) w.finds.grown ∙ append_assoc o.finds w.finds.more f.found.more);
+        more = a.more ++ (f.found.more ++ b.more);
+        grown = b.grown ∙ (ap (λ (fs : List Find). fs ++ b.more) f.found.grown ∙ (append_assoc p.finds f.found.more b.more
+            ∙ (ap (λ (fs : List Find). fs ++ (f.found.more ++ b.more)) a.grown ∙ append_assoc o.finds a.more (f.found.more ++ b.more))));
         find = f.found.find;
-        among = Contains-append_right w.finds.more f.found.more f.found.find f.found.among;
+        among = Contains-append_right a.more (f.found.more ++ b.more) f.found.find
+            (Contains-append_left f.found.more b.more f.found.find f.found.among);
         step = f.found.step;
         nothing = f.found.nothing;
       };
       of = f.of;
       early = omega arith;
-      late = f.late;
-      left = f.left;
+      late = omega arith;
+      left = left;
     }
+
+pub found_earlier : {o p q : View} {es : List Entry} {group : ℕ} → Goes o p es → FoundEmpty p q group → FoundEmpty o q group
+found_earlier {q = q} w f = found_between w.finds (grows w) f (FindsMore-none q.finds) (omega arith) f.left
 
 pub found_later : {o p q : View} {es : List Entry} {group : ℕ} → FoundEmpty o p group → Goes p q es → FoundEmpty o q group
 found_later {o = o} {q = q} f w =
     let l = f.left in
-    let up = grows w in let high = f.late in
-    record {
-      found = record {
-        more = f.found.more ++ w.finds.more;
-        grown = w.finds.grown ∙ (ap (λ (fs : List Find). fs ++ w.finds.more) f.found.grown ∙ append_assoc o.finds f.found.more w.finds.more);
-        find = f.found.find;
-        among = Contains-append_left f.found.more w.finds.more f.found.find f.found.among;
-        step = f.found.step;
-        nothing = f.found.nothing;
-      };
-      of = f.of;
-      early = f.early;
-      late = omega arith;
-      left = subst (λ (z : Shape). FewLeft z q.seen f.found.find) (sym w.same_shape) (record {
-        before = l.before;
-        begins = (
-          l.begins.0 ++ w.more,
-          w.seen ∙ (ap (λ (es : List Entry). es ++ w.more) l.begins.1 ∙ append_assoc l.before l.begins.0 w.more),
-        );
-        long = l.long;
-        few = l.few;
-        none = l.none;
-      });
-    }
+    found_between (FindsMore-none o.finds) (omega arith) f w.finds (grows w)
+    (subst (λ (z : Shape). FewLeft z q.seen f.found.find) (sym w.same_shape) (record {
+      before = l.before;
+      begins = (
+        l.begins.0 ++ w.more,
+        w.seen ∙ (ap (λ (es : List Entry). es ++ w.more) l.begins.1 ∙ append_assoc l.before l.begins.0 w.more),
+      );
+      long = l.long;
+      few = l.few;
+      none = l.none;
+    }))
 
 pub all_earlier : {o p q : View} {es : List Entry} → Goes o p es → AllFoundEmpty p q → AllFoundEmpty o q
 all_earlier w a group low = found_earlier w (a group (subst (λ (z : Shape). group < page_groups z) (sym w.same_shape) low))

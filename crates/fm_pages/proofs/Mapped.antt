@@ -10,7 +10,7 @@ use Rattle.fm_base.specs.Finds.{Maps, is_draw}
 use Rattle.fm_rule_facts.specs.Parts.{Mapping, mapping_of, reads_mapped, pages_mapped}
 use Rattle.fm_rule_facts.specs.Views.{View, In}
 use Rattle.fm_rule_facts.specs.Steps.{Stepped, note_of, where_found}
-use Rattle.fm_rule_calls.proofs.Going.{NoDraws, goes_of, made_by-one}
+use Rattle.fm_rule_calls.proofs.Going.{NoDraws, goes_step, made_by-one}
 use Rattle.fm_pages.specs.Maps.{Way}
 use Rattle.fm_pages.specs.Maps.{PageMapped, PartTaken}
 
@@ -40,15 +40,7 @@ way_map : {q r : View} (a : ArenaId) (i page y : ℕ) → MapsTo q r a i page y
 way_map {q = q} {r = r} a i page y s =
     let reads : reads_mapped i page y q.reads ≡ r.reads = sym (ap (λ (v : View). v.reads) s.is_part) in
     record {
-      goes = goes_of s (record {
-        shape = refl;
-        home = refl;
-        caller = refl;
-        gathered = refl;
-        whole = refl;
-        number = refl;
-        inside = inside_lent (y == 0) q.inside q.caller a i page;
-      }) (made_lent (y == 0) q.caller a i page) (draws_none q a i page y);
+      goes = goes_step s refl (inside_lent (y == 0) q.inside q.caller a i page) (made_lent (y == 0) q.caller a i page) (draws_none q a i page y);
       is = s.is_part ∙ (λ j. record q {
         seen = r.seen;
         finds = sym (ap (λ (v : View). v.finds) s.is_part) j;

@@ -7,7 +7,7 @@ use Rattle.fm_rule_facts.specs.Views.{View, In}
 use Rattle.fm_rule_facts.specs.Steps.{Stepped, none_noted, is_clear}
 use Rattle.fm_rule.specs.declared.pool.Pool.{Pool}
 use Rattle.fm_rule.specs.Passes.{IsOf}
-use Rattle.fm_rule_calls.proofs.Going.{goes_of, goes_then, no_draws}
+use Rattle.fm_rule_calls.proofs.Going.{goes_step, goes_then, no_draws}
 use Rattle.fm_pages.specs.Claims.{Went}
 use Rattle.fm_pages.proofs.Clear.{clear_still}
 use Rattle.fm_pages.specs.Maps.{Way}
@@ -54,7 +54,7 @@ way_read {p = p} {q = q} i x none s =
     let finds : p.finds ++ [] ≡ q.finds = sym (ap (λ (v : View). v.finds) s.is_part) in
     let reads : reads_after i x p.reads ≡ q.reads = sym (ap (λ (v : View). v.reads) s.is_part) in
     record {
-      goes = goes_of s (record { shape = refl; home = refl; caller = refl; gathered = refl; whole = refl; number = refl; inside = refl }) refl no_draws;
+      goes = goes_step s refl refl refl no_draws;
       is = s.is_part ∙ (λ j. record p { seen = q.seen; finds = finds j; reads = reads j; pages = none j });
       keeps = λ m k. subst (In m) reads (read_keeps (x == 0) m (mapping_of i (x - 1)) p.reads k);
     }

@@ -1,5 +1,5 @@
 -- Steps put together into calls.
-use Rattle.std.proofs.Common.{◌≡◌, ◌≤◌, ℕ, false, List, [], ◌∷◌, ◌++◌, refl, ap, sym, ◌∙◌, subst, append_assoc, length, Option, Some, None, eq-eqb, All, get_or}
+use Rattle.std.proofs.Common.{◌≡◌, ◌≤◌, ℕ, Bool, false, List, [], ◌∷◌, ◌++◌, refl, ap, sym, ◌∙◌, subst, append_assoc, length, Option, Some, None, eq-eqb, All, get_or}
 use Rattle.std.proofs.lemmas.List.{append-nil}
 use Rattle.std.proofs.lemmas.List.Elements.{filter-append, All-nil}
 use Rattle.fm_base.specs.declared.caller.Caller.{Caller}
@@ -13,6 +13,7 @@ use Rattle.fm_base.proofs.Making.{state_after-append, IsLegal-split, inside_afte
 use Rattle.fm_base.proofs.Growing.{Grows-state_after}
 use Rattle.fm_words.specs.declared.shape.Shape.{Shape}
 use Rattle.fm_rule_facts.specs.Views.{View, IsKnown, given_of, limit_of, state_in, IsSound}
+use Rattle.fm_rule_facts.specs.Hands.{Number}
 use Rattle.fm_rule_facts.specs.Steps.{Stepped, none_noted, acted}
 use Rattle.fm_rule_calls.specs.Kept.{Goes, rest_of, Kept, Lasts}
 use Rattle.fm_rule_calls.proofs.Lasting.{ended_after}
@@ -35,35 +36,31 @@ NoDraws noted = (n : ℕ) → All (λ f. is_draw f.step ≡ false) (noted n)
 pub no_draws : NoDraws none_noted
 no_draws n = All-nil (λ f. is_draw f.step ≡ false)
 
--- what a step leaves of the pass
-pub record IsOn (p part : View) (own : List Entry) : Type 0 where
-  pub shape : part.shape ≡ p.shape
-  pub home : part.home ≡ p.home
-  pub caller : part.caller ≡ p.caller
-  pub gathered : part.gathered ≡ p.gathered
-  pub whole : part.whole ≡ p.whole
-  pub number : part.number ≡ p.number
-  pub inside : part.inside ≡ inside_after p.inside own
+-- which pass it is, its number, and who is gathered into it
+abbrev pub self_of : View → Shape × List ℕ × Caller × List Gathered × Bool × Number
+self_of v = (v.shape, v.home, v.caller, v.gathered, v.whole, v.number)
 
--- A step is the pass's way by the step's own entries.
-pub goes_of : {p q part : View} {own : List Entry} {noted : ℕ → List Find} → Stepped p q part own noted → IsOn p part own
-    → made_by p.caller own ≡ own → NoDraws noted → Goes p q own
-goes_of {p = p} {q = q} {part = part} {own = own} {noted = noted} s on m d = record {
-  more = s.others ++ own;
-  seen = s.seen ∙ append_assoc p.seen s.others own;
-  by_pass = filter-append _ s.others own ∙ (ap (λ (xs : List Entry). xs ++ made_by p.caller own) s.quiet ∙ m);
-  apart = s.apart;
-  alone = λ w. ap (λ (xs : List Entry). xs ++ own) (s.alone w);
-  inside = ap (λ (x : View). x.inside) s.is_part ∙ on.inside;
-  finds = record { more = noted (length (p.seen ++ s.others)); grown = ap (λ (x : View). x.finds) s.is_part; no_draw = d (length (p.seen ++ s.others)) };
-  same_shape = ap (λ (x : View). x.shape) s.is_part ∙ on.shape;
-  same_home = ap (λ (x : View). x.home) s.is_part ∙ on.home;
-  same_caller = ap (λ (x : View). x.caller) s.is_part ∙ on.caller;
-  same_gathered = ap (λ (x : View). x.gathered) s.is_part ∙ on.gathered;
-  same_whole = ap (λ (x : View). x.whole) s.is_part ∙ on.whole;
-  same_number = ap (λ (x : View). x.number) s.is_part ∙ on.number;
-  sound = s.sound;
-}
+-- A step that leaves these is the pass's way by the step's own entries.
+pub goes_step : {p q part : View} {own : List Entry} {noted : ℕ → List Find} → Stepped p q part own noted → self_of part ≡ self_of p
+    → part.inside ≡ inside_after p.inside own → made_by p.caller own ≡ own → NoDraws noted → Goes p q own
+goes_step {p = p} {q = q} {part = part} {own = own} {noted = noted} s same inside made none =
+    let still : self_of q ≡ self_of p = ap self_of s.is_part ∙ same in
+    record {
+      more = s.others ++ own;
+      seen = s.seen ∙ append_assoc p.seen s.others own;
+      by_pass = filter-append _ s.others own ∙ (ap (λ (xs : List Entry). xs ++ made_by p.caller own) s.quiet ∙ made);
+      apart = s.apart;
+      alone = λ w. ap (λ (xs : List Entry). xs ++ own) (s.alone w);
+      inside = ap (λ (x : View). x.inside) s.is_part ∙ inside;
+      finds = record { more = noted (length (p.seen ++ s.others)); grown = ap (λ (x : View). x.finds) s.is_part; no_draw = none (length (p.seen ++ s.others)) };
+      same_shape = λ j. (still j).0;
+      same_home = λ j. (still j).1;
+      same_caller = λ j. (still j).2;
+      same_gathered = λ j. (still j).3;
+      same_whole = λ j. (still j).4;
+      same_number = λ j. (still j).5;
+      sound = s.sound;
+    }
 
 -- What the pass has after a step is what its new part has.
 pub rest_is : {p q part : View} {own : List Entry} {noted : ℕ → List Find} → Stepped p q part own noted → rest_of q ≡ rest_of part

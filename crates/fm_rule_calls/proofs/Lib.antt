@@ -6,4 +6,3 @@ pub mod Sweeps
 pub mod Unlent
 pub mod Waiting
 pub mod Telling
-pub mod Onward

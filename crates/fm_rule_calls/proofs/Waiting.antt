@@ -5,7 +5,7 @@ use Rattle.fm_base.specs.Calls.{Entry}
 use Rattle.fm_rule_facts.specs.Views.{View, IsKnown}
 use Rattle.fm_rule_facts.specs.Steps.{Stepped, none_noted}
 use Rattle.fm_rule_calls.specs.Kept.{Goes}
-use Rattle.fm_rule_calls.proofs.Going.{goes_of, goes_then, no_draws, known_on}
+use Rattle.fm_rule_calls.proofs.Going.{goes_step, goes_then, no_draws, known_on}
 
 -- The pass has come from o to p by steps that left it as it was, but for what it has seen: where it goes from there it goes from o
 pub record Waited (o p : View) : Type 0 where
@@ -19,15 +19,7 @@ waits = record { onward = λ q own g. g; known = λ a h. h; is = refl }
 
 -- A step that makes no entry and leaves the pass as it was.
 pub waits_by : {p q : View} → Stepped p q p [] none_noted → Goes p q []
-waits_by s = goes_of s (record {
-  shape = refl;
-  home = refl;
-  caller = refl;
-  gathered = refl;
-  whole = refl;
-  number = refl;
-  inside = refl;
-}) refl no_draws
+waits_by s = goes_step s refl refl refl no_draws
 
 -- It has made one more.
 pub waits_on : {o p q : View} → Waited o p → Stepped p q p [] none_noted → Waited o q

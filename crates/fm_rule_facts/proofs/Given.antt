@@ -44,5 +44,5 @@ module _ (z : Shape) (ws : List ℕ) (vs : List View) (r : Rule z ws vs) where
       st = subst IsStanding (sym (r.depicts.life a)) (stands_now (has_arena s a) (arena_of s a).life (there_by_life s a n) n)
 
       go : (o : Option ℕ) → r.memory.maps a.slot (w / z.page_words) ≡ o → HasPart (loans_of r.history) a (w / z.page_words)
-      go None e = absurd (r.pages.covered a w st (subst (λ (x : ℕ). 8 * w < x) (sym (r.depicts.given a)) g) e)
+      go None e = absurd (r.pages.says.covered a w st (subst (λ (x : ℕ). 8 * w < x) (sym (r.depicts.given a)) g) e)
       go (Some p) e = (p, standing_part a (w / z.page_words) p st e)

@@ -32,6 +32,10 @@ pub none_added : {A : Type 0} (xs ys : List A) → xs ++ ys ≡ xs → ys ≡ []
 none_added [] ys e = e
 none_added (x ∷ xs) ys e = none_added xs ys (cc)
 
+-- who made nothing but what was seen made nothing of what came
+pub silent_since : (c : Caller) (seen zs : List Entry) {h : List Entry} → h ≡ seen ++ zs → made_by c h ≡ made_by c seen → made_by c zs ≡ []
+silent_since c seen zs is same = none_added (made_by c seen) (made_by c zs) (sym (filter-append _ seen zs) ∙ (ap (made_by c) (sym is) ∙ same))
+
 pub set_there : {A : Type 0} (l : List A) (i : ℕ) (a b : A) → get_elem? l i ≡ some a → get_elem? (set l i b) i ≡ some b
 set_there [] i a b e = absurd (some-ne-none a (sym e))
 set_there (x ∷ xs) zero a b e = refl

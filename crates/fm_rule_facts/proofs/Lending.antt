@@ -1,13 +1,17 @@
 -- Loans of a history that goes on.
-use Rattle.std.proofs.Common.{◌≡◌, ◌≢◌, ◌⊎◌, ℕ, ◌==◌, Bool, true, false, not, cond, filter, List, [], ◌∷◌, ◌++◌, sym, refl, ap, ◌∙◌, subst, inl, inr, ⊎_elim, arith, eq-eqb}
+use Rattle.std.proofs.Common.{◌≡◌, ◌≢◌, ◌⊎◌, ℕ, ◌==◌, Bool, true, false, not, cond, filter, List, [], ◌∷◌, ◌++◌, sym, refl, ap, ◌∙◌, subst, inl, inr, ⊎_elim, arith, eq-eqb, Option, Some}
 use Rattle.std.proofs.lemmas.List.Elements.{All-contains, All-contains_itself, All-filter, Contains-append_left, Contains-append_right, Contains-append_cases, Contains-push, Contains-push_cases}
 use Rattle.std.specs.Prelude.{Contains}
 use Rattle.fm_base.specs.declared.caller.Caller.{Caller}
+use Rattle.fm_base.specs.declared.arena_id.ArenaId.{ArenaId}
+use Rattle.fm_words.specs.declared.shape.Shape.{Shape}
+use Rattle.fm_rule_facts.specs.Memory.{Session, IsShown}
+use Rattle.fm_rule_facts.specs.Pages.{IsBeyond, IsMapped}
 use Rattle.fm_base.specs.Arenas.{Life, Alive, Closing, Ended, State, has_arena, arena_of}
 use Rattle.fm_base.specs.Calls.{Call, Open, Enter, Read, Write, SwapIf, Add, Allocate, Leave, Hold, Unhold, Shut, End, Lend, Back, Entry}
 use Rattle.fm_base.specs.Machine.{after}
 use Rattle.fm_base.specs.Histories.{IsLegal, state_after}
-use Rattle.fm_rule_facts.specs.Loans.{Loan, loans_by, loans_after, IsRightlyLentIn, IsRightlyLentFrom}
+use Rattle.fm_rule_facts.specs.Loans.{Loan, loan_of, loans_by, loans_after, IsRightlyLentIn, IsRightlyLentFrom}
 use Rattle.fm_base.proofs.Making.{state_after-append}
 use Rattle.fm_base_machine.specs.Functions.{Fresh, Over, stage_of, Machine, Depicts, moved}
 use Rattle.fm_rule_facts.specs.Moves.{LendsBy, MayLend, MayMake}
@@ -106,3 +110,12 @@ which_loan l x loans h n = ⊎_elim (λ (e : l ≡ x). absurd (n e)) (λ (more :
 
 other_block : (m n : ℕ) → not (m == n) ≡ true → m ≢ n
 other_block m n h e = let q : (m == n) ≡ true = eq-eqb m n e in let f : not true ≡ true = ap not (sym q) ∙ h in absurd (cc)
+
+-- ---- parts with a page
+
+-- A page that is mapped is so beside other facts, where it is named, shown and lent there, and 0 beyond what is given.
+pub mapped_over : {z : Shape} {loans loans' : List Loan} {maps maps' : ℕ → ℕ → Option ℕ} {cells cells' : ℕ → ℕ → ℕ} {sessions sessions' : ℕ → Session}
+    {given given' : ArenaId → ℕ} {p k i : ℕ} (y : IsMapped z loans maps cells sessions given p k i) → maps' k i ≡ Some p → IsShown sessions' y.arena
+    → Contains loans' (loan_of p y.arena i) → IsBeyond z cells' (given' y.arena) p i → IsMapped z loans' maps' cells' sessions' given' p k i
+mapped_over y named shown lent beyond =
+    record { page = y.page; part = y.part; named = named; arena = y.arena; slot = y.slot; shown = shown; lent = lent; beyond = beyond }

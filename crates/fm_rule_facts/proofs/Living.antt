@@ -11,7 +11,8 @@ use Rattle.fm_rule_facts.specs.Loans.{Loan}
 use Rattle.fm_rule_facts.specs.Facts.{Session, free, live, shut, IsShown, IsStanding, Sessions}
 use Rattle.fm_rule_facts.proofs.Sessions.{standing_known, unstanding, standing_shown, shown_one, one_standing}
 use Rattle.fm_rule_facts.specs.Berths.{Berth, loose, claimed, mapped, unmapped}
-use Rattle.fm_rule_facts.specs.Pages.{IsBlank, IsBeyond, IsMapped, IsUnmapped, Pages}
+use Rattle.fm_rule_facts.specs.Pages.{IsBlank, IsBeyond, IsMapped, IsUnmapped, Pages, Says}
+use Rattle.fm_rule_facts.proofs.Lending.{mapped_over}
 use Rattle.fm_rule_facts.proofs.Putting.{two_cases}
 
 module _ (z : Shape) (loans : List Loan) (bits : ℕ → ℕ) (maps : ℕ → ℕ → Option ℕ) (cells : ℕ → ℕ → ℕ) (berth : ℕ → Berth) (sessions : ℕ → Session)
@@ -53,13 +54,15 @@ module _ (z : Shape) (loans : List Loan) (bits : ℕ → ℕ) (maps : ℕ → �
     loose_is = λ q h. blank_still p o 0 q (λ w. let u : loose ≡ unmapped j a i = sym h ∙ (ap berth w ∙ e) in absurd (cc)) (r.loose_is q h);
     lent_is = r.lent_is;
     only_loan = r.only_loan;
-    empty = r.empty;
-    words = λ c w q sc h. r.words c w q sc h ∙ sym (other_cell p o 0 q (w % z.page_words) (λ u.
-        let k : mapped c.slot (w / z.page_words) ≡ unmapped j a i = sym (r.map_is c.slot (w / z.page_words) q h) ∙ (ap berth u ∙ e) in absurd (cc)));
-    bare = r.bare;
-    covered = r.covered;
-    new_words = r.new_words;
-    new_given = r.new_given;
+    says = record {
+      empty = r.says.empty;
+      words = λ c w q sc h. r.says.words c w q sc h ∙ sym (other_cell p o 0 q (w % z.page_words) (λ u.
+          let k : mapped c.slot (w / z.page_words) ≡ unmapped j a i = sym (r.map_is c.slot (w / z.page_words) q h) ∙ (ap berth u ∙ e) in absurd (cc)));
+      bare = r.says.bare;
+      covered = r.says.covered;
+      new_words = r.says.new_words;
+      new_given = r.says.new_given;
+    };
   }
 
   -- a word of an arena that stands is written
@@ -80,18 +83,20 @@ module _ (z : Shape) (loans : List Loan) (bits : ℕ → ℕ) (maps : ℕ → �
     loose_is = λ q h. blank_still p o x q (λ u. let n : loose ≡ mapped a.slot i = sym h ∙ (ap berth u ∙ here) in absurd (cc)) (r.loose_is q h);
     lent_is = r.lent_is;
     only_loan = r.only_loan;
-    empty = r.empty;
-    words = λ c v q sc h. dite (ℕ_discrete q p) (same c v q sc h) (λ n. apart c v q sc h n);
-    bare = λ c v sc h. at_cases word a (put (word a) w x) c (λ (f : ℕ → ℕ). f v ≡ 0)
-        (λ u. put_cases (word a) w x v (λ (y : ℕ). y ≡ 0)
-        (λ k. absurd (let n : None ≡ Some p = sym h ∙ ((λ j. maps (u j).slot (k j / z.page_words)) ∙ e) in cc))
-        (λ k. ap (λ (b : ArenaId). word b v) (sym u) ∙ r.bare c v sc h))
-        (λ u. r.bare c v sc h);
-    covered = r.covered;
-    new_words = λ c v f. at_cases word a (put (word a) w x) c (λ (g : ℕ → ℕ). g v ≡ 0)
-        (λ u. absurd (standing_known (life a) st (ap life (sym u) ∙ f)))
-        (λ u. r.new_words c v f);
-    new_given = r.new_given;
+    says = record {
+      empty = r.says.empty;
+      words = λ c v q sc h. dite (ℕ_discrete q p) (same c v q sc h) (λ n. apart c v q sc h n);
+      bare = λ c v sc h. at_cases word a (put (word a) w x) c (λ (f : ℕ → ℕ). f v ≡ 0)
+          (λ u. put_cases (word a) w x v (λ (y : ℕ). y ≡ 0)
+          (λ k. absurd (let n : None ≡ Some p = sym h ∙ ((λ j. maps (u j).slot (k j / z.page_words)) ∙ e) in cc))
+          (λ k. ap (λ (b : ArenaId). word b v) (sym u) ∙ r.says.bare c v sc h))
+          (λ u. r.says.bare c v sc h);
+      covered = r.says.covered;
+      new_words = λ c v f. at_cases word a (put (word a) w x) c (λ (g : ℕ → ℕ). g v ≡ 0)
+          (λ u. absurd (standing_known (life a) st (ap life (sym u) ∙ f)))
+          (λ u. r.says.new_words c v f);
+      new_given = r.says.new_given;
+    };
   }
     where
       i : ℕ
@@ -125,8 +130,8 @@ module _ (z : Shape) (loans : List Loan) (bits : ℕ → ℕ) (maps : ℕ → �
       apart c v q sc h n = at_cases word a (put (word a) w x) c (λ (f : ℕ → ℕ). f v ≡ put cells p (put (cells p) o x) q (v % z.page_words))
           (λ u. put_cases (word a) w x v (λ (y : ℕ). y ≡ put cells p (put (cells p) o x) q (v % z.page_words))
           (λ k. absurd (let m : Some q ≡ Some p = sym h ∙ ((λ j. maps (u j).slot (k j / z.page_words)) ∙ e) in let f : q ≡ p = cc in n f))
-          (λ k. ap (λ (b : ArenaId). word b v) (sym u) ∙ (r.words c v q sc h ∙ sym (other_cell p o x q (v % z.page_words) n))))
-          (λ u. r.words c v q sc h ∙ sym (other_cell p o x q (v % z.page_words) n))
+          (λ k. ap (λ (b : ArenaId). word b v) (sym u) ∙ (r.says.words c v q sc h ∙ sym (other_cell p o x q (v % z.page_words) n))))
+          (λ u. r.says.words c v q sc h ∙ sym (other_cell p o x q (v % z.page_words) n))
 
       -- a word of the same page is one of the same arena and part
       same : (c : ArenaId) (v q : ℕ) → IsStanding (life c) → maps c.slot (v / z.page_words) ≡ Some q → q ≡ p
@@ -141,7 +146,7 @@ module _ (z : Shape) (loans : List Loan) (bits : ℕ → ℕ) (maps : ℕ → �
           at_cases word a (put (word a) w x) c (λ (f : ℕ → ℕ). f v ≡ put cells p (put (cells p) o x) q (v % z.page_words))
           (λ g. put_cases (word a) w x v (λ (y : ℕ). y ≡ put cells p (put (cells p) o x) q (v % z.page_words))
           (λ n. sym (now ∙ (ap (λ (y : ℕ). put (cells p) o x (y % z.page_words)) n ∙ put_here (cells p) o x)))
-          (λ n. ap (λ (b : ArenaId). word b v) (sym g) ∙ (r.words c v q sc h ∙ (ap (λ (y : ℕ). cells y (v % z.page_words)) u
+          (λ n. ap (λ (b : ArenaId). word b v) (sym g) ∙ (r.says.words c v q sc h ∙ (ap (λ (y : ℕ). cells y (v % z.page_words)) u
           ∙ sym (now ∙ put_else (cells p) o x (v % z.page_words) (λ m. n (one v parts m)))))))
           (λ g. absurd (g is))
 
@@ -163,39 +168,31 @@ module _ (z : Shape) (loans : List Loan) (bits : ℕ → ℕ) (maps : ℕ → �
     bit_is = r.bit_is;
     is_bit = r.is_bit;
     map_is = r.map_is;
-    mapped_is = λ p k i e.
-        let y = r.mapped_is p k i e in
-        record {
-          page = y.page;
-          part = y.part;
-          named = y.named;
-          arena = y.arena;
-          slot = y.slot;
-          shown = c.shown y.arena i p (ap (λ (x : ℕ). maps x i) y.slot ∙ y.named) y.shown;
-          lent = y.lent;
-          beyond = y.beyond;
-        };
+    mapped_is = λ p k i e. let y = r.mapped_is p k i e in
+        mapped_over y y.named (c.shown y.arena i p (ap (λ (x : ℕ). maps x i) y.slot ∙ y.named) y.shown) y.lent y.beyond;
     unmapped_is = λ p j i a e. let y = r.unmapped_is p j i a e in
         record { page = y.page; part = y.part; lent = y.lent; over = c.over a y.over; beyond = y.beyond };
     claimed_is = r.claimed_is;
     loose_is = r.loose_is;
     lent_is = r.lent_is;
     only_loan = r.only_loan;
-    empty = c.none;
-    words = λ b w p st e. ⊎_elim
-        (λ q. r.words b w p q e)
-        (λ (q : (life b ≡ Fresh) × ((i : ℕ) → maps b.slot i ≡ None)). absurd (let u : None ≡ Some p = sym (q.1 (w / z.page_words)) ∙ e in cc))
-        (c.stood b st);
-    bare = λ b w st e. ⊎_elim
-        (λ q. r.bare b w q e)
-        (λ (q : (life b ≡ Fresh) × ((i : ℕ) → maps b.slot i ≡ None)). r.new_words b w q.0)
-        (c.stood b st);
-    covered = λ b w st h. ⊎_elim
-        (λ q. r.covered b w q h)
-        (λ (q : (life b ≡ Fresh) × ((i : ℕ) → maps b.slot i ≡ None)). absurd (let e = r.new_given b q.0 in omega arith))
-        (c.stood b st);
-    new_words = λ b w f. r.new_words b w (c.fresh b f);
-    new_given = λ b f. r.new_given b (c.fresh b f);
+    says = record {
+      empty = c.none;
+      words = λ b w p st e. ⊎_elim
+          (λ q. r.says.words b w p q e)
+          (λ (q : (life b ≡ Fresh) × ((i : ℕ) → maps b.slot i ≡ None)). absurd (let u : None ≡ Some p = sym (q.1 (w / z.page_words)) ∙ e in cc))
+          (c.stood b st);
+      bare = λ b w st e. ⊎_elim
+          (λ q. r.says.bare b w q e)
+          (λ (q : (life b ≡ Fresh) × ((i : ℕ) → maps b.slot i ≡ None)). r.says.new_words b w q.0)
+          (c.stood b st);
+      covered = λ b w st h. ⊎_elim
+          (λ q. r.says.covered b w q h)
+          (λ (q : (life b ≡ Fresh) × ((i : ℕ) → maps b.slot i ≡ None)). absurd (let e = r.says.new_given b q.0 in omega arith))
+          (c.stood b st);
+      new_words = λ b w f. r.says.new_words b w (c.fresh b f);
+      new_given = λ b f. r.says.new_given b (c.fresh b f);
+    };
   }
 
   -- an arena is shut
@@ -206,7 +203,7 @@ module _ (z : Shape) (loans : List Loan) (bits : ℕ → ℕ) (maps : ℕ → �
         inr (ap shut (⊎_elim (λ (w : sessions b.slot ≡ live b). cc) (λ (w : sessions b.slot ≡ shut b). absurd (cc)) h)))
         (λ n. h);
     over = λ b o. at_cases life a Closes b (λ (x : Stage). x ≡ Over) (λ e. absurd (let q : life a ≡ Over = ap life (sym e) ∙ o in cc)) (λ n. o);
-    none = λ k g i. put_cases sessions a.slot (shut a) k (λ (x : Session). x ≡ free g → maps k i ≡ None) (λ e q. absurd (cc)) (λ n q. r.empty k g i q);
+    none = λ k g i. put_cases sessions a.slot (shut a) k (λ (x : Session). x ≡ free g → maps k i ≡ None) (λ e q. absurd (cc)) (λ n q. r.says.empty k g i q);
     stood = λ b. at_cases life a Closes b (λ (x : Stage). IsStanding x → IsStanding (life b) ⊎ ((life b ≡ Fresh) × ((i : ℕ) → maps b.slot i ≡ None)))
         (λ e q. inl (inl (ap life e ∙ l)))
         (λ n q. inl q);
@@ -218,7 +215,7 @@ module _ (z : Shape) (loans : List Loan) (bits : ℕ → ℕ) (maps : ℕ → �
   pages_end a l = pages_alter sessions (put_at life a Over) (record {
     shown = λ b i p e h. h;
     over = λ b o. at_cases life a Over b (λ (x : Stage). x ≡ Over) (λ e. refl) (λ n. o);
-    none = r.empty;
+    none = r.says.empty;
     stood = λ b. at_cases life a Over b (λ (x : Stage). IsStanding x → IsStanding (life b) ⊎ ((life b ≡ Fresh) × ((i : ℕ) → maps b.slot i ≡ None)))
         (λ e q. absurd (unstanding Over refl q))
         (λ n q. inl q);
@@ -230,12 +227,12 @@ module _ (z : Shape) (loans : List Loan) (bits : ℕ → ℕ) (maps : ℕ → �
       → Pages z loans bits maps cells berth (put sessions a.slot (live a)) (put_at life a Lives) word given
   pages_open a f new = pages_alter (put sessions a.slot (live a)) (put_at life a Lives) (record {
     shown = λ b i p e h. put_cases sessions a.slot (live a) b.slot (λ (x : Session). (x ≡ live b) ⊎ (x ≡ shut b))
-        (λ q. absurd (let y : None ≡ Some p = sym (r.empty a.slot a.generation i f) ∙ (ap (λ (x : ℕ). maps x i) (sym q) ∙ e) in cc))
+        (λ q. absurd (let y : None ≡ Some p = sym (r.says.empty a.slot a.generation i f) ∙ (ap (λ (x : ℕ). maps x i) (sym q) ∙ e) in cc))
         (λ n. h);
     over = λ b o. at_cases life a Lives b (λ (x : Stage). x ≡ Over) (λ e. absurd (let q : life a ≡ Over = ap life (sym e) ∙ o in cc)) (λ n. o);
-    none = λ k g i. put_cases sessions a.slot (live a) k (λ (x : Session). x ≡ free g → maps k i ≡ None) (λ e q. absurd (cc)) (λ n q. r.empty k g i q);
+    none = λ k g i. put_cases sessions a.slot (live a) k (λ (x : Session). x ≡ free g → maps k i ≡ None) (λ e q. absurd (cc)) (λ n q. r.says.empty k g i q);
     stood = λ b. at_cases life a Lives b (λ (x : Stage). IsStanding x → IsStanding (life b) ⊎ ((life b ≡ Fresh) × ((i : ℕ) → maps b.slot i ≡ None)))
-        (λ e q. inr (ap life e ∙ new, λ i. ap (λ (x : ArenaId). maps x.slot i) e ∙ r.empty a.slot a.generation i f))
+        (λ e q. inr (ap life e ∙ new, λ i. ap (λ (x : ArenaId). maps x.slot i) e ∙ r.says.empty a.slot a.generation i f))
         (λ n q. inl q);
     fresh = λ b. at_cases life a Lives b (λ (x : Stage). x ≡ Fresh → life b ≡ Fresh) (λ e q. absurd (cc)) (λ n q. q);
   })
@@ -250,7 +247,7 @@ module _ (z : Shape) (loans : List Loan) (bits : ℕ → ℕ) (maps : ℕ → �
     over = λ b o. o;
     none = λ k c i. put_cases sessions a.slot (free g) k (λ (x : Session). x ≡ free c → maps k i ≡ None)
         (λ e q. ap (λ (x : ℕ). maps x i) e ∙ none i)
-        (λ n q. r.empty k c i q);
+        (λ n q. r.says.empty k c i q);
     stood = λ b q. inl q;
     fresh = λ b q. q;
   })
@@ -274,12 +271,17 @@ module _ (z : Shape) (loans : List Loan) (bits : ℕ → ℕ) (maps : ℕ → �
     loose_is = r.loose_is;
     lent_is = r.lent_is;
     only_loan = r.only_loan;
-    empty = r.empty;
-    words = r.words;
-    bare = r.bare;
-    covered = λ b w sb. at_cases given a n b (λ (x : ℕ). 8 * w < x → maps b.slot (w / z.page_words) ≢ None)
-        (λ e h. subst (λ (c : ArenaId). maps c.slot (w / z.page_words) ≢ None) (sym e) (has w h))
-        (λ ne h. r.covered b w sb h);
-    new_words = r.new_words;
-    new_given = λ b f. at_cases given a n b (λ (x : ℕ). x ≡ 0) (λ e. absurd (standing_known (life a) st (ap life (sym e) ∙ f))) (λ ne. r.new_given b f);
+    says = saying;
   }
+    where
+      saying : Says z maps cells sessions life word (put_at given a n)
+      saying = record {
+        empty = r.says.empty;
+        words = r.says.words;
+        bare = r.says.bare;
+        covered = λ b w sb. at_cases given a n b (λ (x : ℕ). 8 * w < x → maps b.slot (w / z.page_words) ≢ None)
+            (λ e h. subst (λ (c : ArenaId). maps c.slot (w / z.page_words) ≢ None) (sym e) (has w h))
+            (λ ne h. r.says.covered b w sb h);
+        new_words = r.says.new_words;
+        new_given = λ b f. at_cases given a n b (λ (x : ℕ). x ≡ 0) (λ e. absurd (standing_known (life a) st (ap life (sym e) ∙ f))) (λ ne. r.says.new_given b f);
+      }

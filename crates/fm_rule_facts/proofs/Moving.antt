@@ -14,7 +14,7 @@ use Rattle.fm_base_machine.proofs.Putting.{put_here, put_else, put_cases}
 use Rattle.fm_rule_facts.proofs.Putting.{two_cases}
 use Rattle.fm_rule_facts.specs.Loans.{Loan, loan_of, loans_by, IsFree, HasPart}
 use Rattle.fm_rule_facts.specs.Facts.{Session, free, live, shut, IsShown, IsStanding, Sessions}
-use Rattle.fm_rule_facts.proofs.Lending.{loan_cases, first_loan, more_loans}
+use Rattle.fm_rule_facts.proofs.Lending.{loan_cases, first_loan, more_loans, mapped_over}
 use Rattle.fm_rule_facts.proofs.Sessions.{standing_shown, shown_one, ended_apart}
 use Rattle.fm_rule_facts.specs.Berths.{Berth, loose, claimed, mapped, unmapped, LentAt}
 use Rattle.fm_rule_facts.specs.Pages.{IsBlank, IsBeyond, IsMapped, IsUnmapped, Pages}
@@ -90,12 +90,7 @@ module _ (z : Shape) (loans : List Loan) (bits : ℕ → ℕ) (maps : ℕ → �
             (λ q. subst (λ (b : Berth). LentAt b l) (ap berth q ∙ was.0) (r.lent_is l h))
             (λ n. r.lent_is l h);
         only_loan = r.only_loan;
-        empty = r.empty;
-        words = r.words;
-        bare = r.bare;
-        covered = r.covered;
-        new_words = r.new_words;
-        new_given = r.new_given;
+        says = r.says;
       }
 
   -- ---- a page in a hand is mapped
@@ -115,17 +110,9 @@ module _ (z : Shape) (loans : List Loan) (bits : ℕ → ℕ) (maps : ℕ → �
         (λ e x. let f : a.slot ≡ k = cc in let g : i ≡ c = cc in new q k c e f g)
         (λ ne x.
         let y = r.mapped_is q k c x in
-        record {
-          page = y.page;
-          part = y.part;
-          named = two_cases maps a.slot i (Some p) k c (λ (o : Option ℕ). o ≡ Some q)
-              (λ e f. absurd (let u : None ≡ Some q = sym none ∙ ((λ j. maps (sym e j) (sym f j)) ∙ y.named) in cc)) (λ n. y.named);
-          arena = y.arena;
-          slot = y.slot;
-          shown = y.shown;
-          lent = more_loans (loan_of p a i) (loan_of q y.arena c) loans y.lent;
-          beyond = y.beyond;
-        });
+        mapped_over y (two_cases maps a.slot i (Some p) k c (λ (o : Option ℕ). o ≡ Some q)
+        (λ e f. absurd (let u : None ≡ Some q = sym none ∙ ((λ j. maps (sym e j) (sym f j)) ∙ y.named) in cc)) (λ n. y.named))
+        y.shown (more_loans (loan_of p a i) (loan_of q y.arena c) loans y.lent) y.beyond);
     unmapped_is = λ q j c b. put_cases berth p here q (λ (x : Berth). x ≡ unmapped j b c → IsUnmapped z loans' cells life given q b c)
         (λ e x. absurd (cc))
         (λ ne x. let y = r.unmapped_is q j c b x in
@@ -150,20 +137,22 @@ module _ (z : Shape) (loans : List Loan) (bits : ℕ → ℕ) (maps : ℕ → �
         (λ (w : Contains loans x). r.only_loan l x u w e)
         (loan_cases (loan_of p a i) x loans k))
         (loan_cases (loan_of p a i) l loans h);
-    empty = λ k g c f. two_cases maps a.slot i (Some p) k c (λ (x : Option ℕ). x ≡ None)
-        (λ e q. absurd (unfree k g f e))
-        (λ n. r.empty k g c f);
-    words = λ c w q sc. two_cases maps a.slot i (Some p) c.slot (w / z.page_words) (λ (x : Option ℕ). x ≡ Some q → word c w ≡ cells q (w % z.page_words))
-        (λ e f x. let same : p ≡ q = cc in
-        r.bare c w sc ((λ j. maps (e j) (f j)) ∙ none)
-        ∙ sym (ap (λ (y : ℕ). cells y (w % z.page_words)) (sym same) ∙ (r.claimed_is p me mine).1 (w % z.page_words) (mod-lt w some_words)))
-        (λ n x. r.words c w q sc x);
-    bare = λ c w sc. two_cases maps a.slot i (Some p) c.slot (w / z.page_words) (λ (x : Option ℕ). x ≡ None → word c w ≡ 0) (λ e f x. absurd (cc))
-        (λ n x. r.bare c w sc x);
-    covered = λ c w sc h. two_cases maps a.slot i (Some p) c.slot (w / z.page_words) (λ (x : Option ℕ). x ≢ None) (λ e f x. absurd (cc))
-        (λ n. r.covered c w sc h);
-    new_words = r.new_words;
-    new_given = r.new_given;
+    says = record {
+      empty = λ k g c f. two_cases maps a.slot i (Some p) k c (λ (x : Option ℕ). x ≡ None)
+          (λ e q. absurd (unfree k g f e))
+          (λ n. r.says.empty k g c f);
+      words = λ c w q sc. two_cases maps a.slot i (Some p) c.slot (w / z.page_words) (λ (x : Option ℕ). x ≡ Some q → word c w ≡ cells q (w % z.page_words))
+          (λ e f x. let same : p ≡ q = cc in
+          r.says.bare c w sc ((λ j. maps (e j) (f j)) ∙ none)
+          ∙ sym (ap (λ (y : ℕ). cells y (w % z.page_words)) (sym same) ∙ (r.claimed_is p me mine).1 (w % z.page_words) (mod-lt w some_words)))
+          (λ n x. r.says.words c w q sc x);
+      bare = λ c w sc. two_cases maps a.slot i (Some p) c.slot (w / z.page_words) (λ (x : Option ℕ). x ≡ None → word c w ≡ 0) (λ e f x. absurd (cc))
+          (λ n x. r.says.bare c w sc x);
+      covered = λ c w sc h. two_cases maps a.slot i (Some p) c.slot (w / z.page_words) (λ (x : Option ℕ). x ≢ None) (λ e f x. absurd (cc))
+          (λ n. r.says.covered c w sc h);
+      new_words = r.says.new_words;
+      new_given = r.says.new_given;
+    };
   }
     where
       here : Berth
@@ -214,17 +203,9 @@ module _ (z : Shape) (loans : List Loan) (bits : ℕ → ℕ) (maps : ℕ → �
         (λ e x. absurd (cc))
         (λ ne x.
         let y = r.mapped_is q k c x in
-        record {
-          page = y.page;
-          part = y.part;
-          named = two_cases maps a.slot i None k c (λ (o : Option ℕ). o ≡ Some q)
-              (λ e f. absurd (let u : Some p ≡ Some q = sym named ∙ ((λ j. maps (sym e j) (sym f j)) ∙ y.named) in let w : q ≡ p = cc in ne w)) (λ n. y.named);
-          arena = y.arena;
-          slot = y.slot;
-          shown = y.shown;
-          lent = y.lent;
-          beyond = y.beyond;
-        });
+        mapped_over y (two_cases maps a.slot i None k c (λ (o : Option ℕ). o ≡ Some q)
+        (λ e f. absurd (let u : Some p ≡ Some q = sym named ∙ ((λ j. maps (sym e j) (sym f j)) ∙ y.named) in let w : q ≡ p = cc in ne w)) (λ n. y.named))
+        y.shown y.lent y.beyond);
     unmapped_is = λ q j c b. put_cases berth p gone q (λ (x : Berth). x ≡ unmapped j b c → IsUnmapped z loans cells life given q b c)
         (λ e x. let f : a ≡ b = cc in let g : i ≡ c = cc in
         subst (λ (y : ℕ × ArenaId × ℕ). IsUnmapped z loans cells life given y.0 y.1 y.2) (λ n. (sym e n, f n, g n)) (record {
@@ -242,18 +223,20 @@ module _ (z : Shape) (loans : List Loan) (bits : ℕ → ℕ) (maps : ℕ → �
         (λ q. let x = subst (λ (b : Berth). LentAt b l) (ap berth q ∙ here) (r.lent_is l h) in (only l h q x.0 x.1, x.1))
         (λ n. r.lent_is l h);
     only_loan = r.only_loan;
-    empty = λ k g c f. two_cases maps a.slot i None k c (λ (x : Option ℕ). x ≡ None) (λ e q. refl) (λ n. r.empty k g c f);
-    words = λ c w q sc. two_cases maps a.slot i None c.slot (w / z.page_words) (λ (x : Option ℕ). x ≡ Some q → word c w ≡ cells q (w % z.page_words))
-        (λ e f x. absurd (cc))
-        (λ n x. r.words c w q sc x);
-    bare = λ c w sc. two_cases maps a.slot i None c.slot (w / z.page_words) (λ (x : Option ℕ). x ≡ None → word c w ≡ 0)
-        (λ e f x. absurd (ended_apart z sessions life s a c sh over sc e))
-        (λ n x. r.bare c w sc x);
-    covered = λ c w sc h. two_cases maps a.slot i None c.slot (w / z.page_words) (λ (x : Option ℕ). x ≢ None)
-        (λ e f x. ended_apart z sessions life s a c sh over sc e)
-        (λ n. r.covered c w sc h);
-    new_words = r.new_words;
-    new_given = r.new_given;
+    says = record {
+      empty = λ k g c f. two_cases maps a.slot i None k c (λ (x : Option ℕ). x ≡ None) (λ e q. refl) (λ n. r.says.empty k g c f);
+      words = λ c w q sc. two_cases maps a.slot i None c.slot (w / z.page_words) (λ (x : Option ℕ). x ≡ Some q → word c w ≡ cells q (w % z.page_words))
+          (λ e f x. absurd (cc))
+          (λ n x. r.says.words c w q sc x);
+      bare = λ c w sc. two_cases maps a.slot i None c.slot (w / z.page_words) (λ (x : Option ℕ). x ≡ None → word c w ≡ 0)
+          (λ e f x. absurd (ended_apart z sessions life s a c sh over sc e))
+          (λ n x. r.says.bare c w sc x);
+      covered = λ c w sc h. two_cases maps a.slot i None c.slot (w / z.page_words) (λ (x : Option ℕ). x ≢ None)
+          (λ e f x. ended_apart z sessions life s a c sh over sc e)
+          (λ n. r.says.covered c w sc h);
+      new_words = r.says.new_words;
+      new_given = r.says.new_given;
+    };
   }
     where
       here : berth p ≡ mapped a.slot i

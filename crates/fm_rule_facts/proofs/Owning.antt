@@ -14,7 +14,7 @@ use Rattle.fm_rule_facts.specs.Facts.{Memory, Owners, IsOnce, Work, Knows, WasDr
 use Rattle.fm_rule_facts.specs.Moves.{Moved, Same, KeepsHand, told, Gives}
 use Rattle.fm_rule_facts.proofs.Frame.{others_stay, made_by-other}
 use Rattle.fm_rule_facts.proofs.Handing.{hand_view}
-use Rattle.fm_rule_facts.proofs.Keeping.{none_added, begins_on, gathered_all, made_by-on, drawn_still, drawn_before}
+use Rattle.fm_rule_facts.proofs.Keeping.{none_added, silent_since, begins_on, gathered_all, made_by-on, drawn_still, drawn_before}
 use Rattle.fm_rule_facts.proofs.Working.{work_as}
 
 module _ (z : Shape) (h zs : List Entry) (me : ℕ) (m m' : Memory) (t : Machine) (o o' : Owners) (es : List Entry) (fs : ℕ → List Find) (v p : View)
@@ -77,12 +77,11 @@ module _ (z : Shape) (h zs : List Entry) (me : ℕ) (m m' : Memory) (t : Machine
       record {
         others = zs;
         is = refl;
-        quiet = none_added (made_by v.caller v.seen) (made_by v.caller zs) (sym (filter-append _ v.seen zs) ∙ (ap (made_by v.caller) (sym is) ∙ u.mine));
+        quiet = silent_since v.caller v.seen zs is u.mine;
         apart = λ g i.
             let y = u.gathered g i in
             let far : g.caller ≢ v.caller = y.apart in
-            let none =
-            none_added (made_by g.caller v.seen) (made_by g.caller zs) (sym (filter-append _ v.seen zs) ∙ (ap (made_by g.caller) (sym is) ∙ y.quiet)) in
+            let none = silent_since g.caller v.seen zs is y.quiet in
             filter-append _ zs es ∙ (λ j. none j ++ made_by-other (limit_of z) v.caller g.caller es t far d.allowed j);
         alone = λ e. none_added v.seen zs (sym is ∙ sym (u.seen_all e));
         met = λ x i.

@@ -12,7 +12,7 @@ use Rattle.fm_base_machine.specs.Functions.{Stage, put}
 use Rattle.fm_base_machine.proofs.Putting.{put_here, put_else, put_cases}
 use Rattle.fm_rule_facts.specs.Loans.{Loan, loan_of, loans_by}
 use Rattle.fm_rule_facts.specs.Facts.{Session, Sessions}
-use Rattle.fm_rule_facts.proofs.Lending.{loan_kept, loan_was}
+use Rattle.fm_rule_facts.proofs.Lending.{loan_kept, loan_was, mapped_over}
 use Rattle.fm_rule_facts.specs.Berths.{Berth, loose, claimed, mapped, unmapped, LentAt}
 use Rattle.fm_rule_facts.specs.Pages.{IsBlank, IsMapped, IsUnmapped, Pages}
 
@@ -44,12 +44,7 @@ module _ (z : Shape) (loans : List Loan) (bits : ℕ → ℕ) (maps : ℕ → �
           (λ w. subst (λ (b : Berth). LentAt b l) (ap berth w ∙ mine) (r.lent_is l h))
           (λ n. r.lent_is l h);
       only_loan = r.only_loan;
-      empty = r.empty;
-      words = r.words;
-      bare = r.bare;
-      covered = r.covered;
-      new_words = r.new_words;
-      new_given = r.new_given;
+      says = r.says;
     }
 
     -- a page of a sweep that was wiped: its loan is taken back
@@ -65,18 +60,7 @@ module _ (z : Shape) (loans : List Loan) (bits : ℕ → ℕ) (maps : ℕ → �
       map_is = λ k c q e. put_else berth p loose q (far k c q e) ∙ r.map_is k c q e;
       mapped_is = λ q k c. put_cases berth p loose q (λ (b : Berth). b ≡ mapped k c → IsMapped z loans' maps cells sessions given q k c)
           (λ w e. absurd (cc))
-          (λ n e. let y = r.mapped_is q k c e in
-          record {
-            page = y.page;
-            part = y.part;
-            named = y.named;
-            arena = y.arena;
-            slot = y.slot;
-            shown = y.shown;
-            lent = stays
-                (loan_of q y.arena c) y.lent n;
-            beyond = y.beyond;
-          });
+          (λ n e. let y = r.mapped_is q k c e in mapped_over y y.named y.shown (stays (loan_of q y.arena c) y.lent n) y.beyond);
       unmapped_is = λ q j c b. put_cases berth p loose q (λ (x : Berth). x ≡ unmapped j b c → IsUnmapped z loans' cells life given q b c)
           (λ w e. absurd (cc))
           (λ n e. let y = r.unmapped_is q j c b e in
@@ -90,12 +74,7 @@ module _ (z : Shape) (loans : List Loan) (bits : ℕ → ℕ) (maps : ℕ → �
           (λ w. absurd (gone l h w))
           (λ n. r.lent_is l (loan_was keep loans l h));
       only_loan = λ l x h k e. r.only_loan l x (loan_was keep loans l h) (loan_was keep loans x k) e;
-      empty = r.empty;
-      words = r.words;
-      bare = r.bare;
-      covered = r.covered;
-      new_words = r.new_words;
-      new_given = r.new_given;
+      says = r.says;
     }
       where
         keep : Loan → Bool

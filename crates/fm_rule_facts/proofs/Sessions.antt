@@ -57,6 +57,14 @@ module _ (z : Shape) (sessions : ℕ → Session) (life : ArenaId → Stage) (r 
   was_opened : (a : ArenaId) (x : Stage) (s g : ℕ) → x ≢ Fresh → WasOpened life s g → WasOpened (put_at life a x) s g
   was_opened a x s g n y = (y.0, y.1, y.2, at_cases life a x y.0 (λ l. l ≢ Fresh) (λ e. n) (λ e. y.3))
 
+  -- what a free slot says stays where another slot is free no more
+  free_else : (a : ArenaId) (x : Session) (y : Stage) → ((g : ℕ) → x ≢ free g) → (s g : ℕ) → put sessions a.slot x s ≡ free g
+      → (b : ArenaId) → b.slot ≡ s → g ≤ b.generation → put_at life a y b ≡ Fresh
+  free_else a x y full s g = put_cases sessions a.slot x s
+      (λ (u : Session). u ≡ free g → (b : ArenaId) → b.slot ≡ s → g ≤ b.generation → put_at life a y b ≡ Fresh)
+      (λ e q. absurd (full g q))
+      (λ n q b e h. at_other life a y b (λ p. n (sym e ∙ (λ j. (p j).slot))) ∙ r.free_is s g q b e h)
+
   pub sessions_shut : (a : ArenaId) → life a ≡ Lives → Sessions z (put sessions a.slot (shut a)) (put_at life a Closes)
   sessions_shut a l = record {
     alive_shown = λ b. at_cases life a Closes b (λ (x : Stage). x ≡ Lives → put sessions a.slot (shut a) b.slot ≡ live b)
@@ -71,11 +79,7 @@ module _ (z : Shape) (sessions : ℕ → Session) (life : ArenaId → Stage) (r 
     shut_is = λ s b. put_cases sessions a.slot (shut a) s (λ (x : Session). x ≡ shut b → (b.slot ≡ s) × (put_at life a Closes b ≢ Fresh))
         (λ e q. let y : a ≡ b = cc in ((λ j. (sym y j).slot) ∙ sym e, at_cases life a Closes b (λ x. x ≢ Fresh) (λ p f. absurd (cc)) (λ p. absurd (p (sym y)))))
         (λ n q. let y = r.shut_is s b q in (y.0, at_cases life a Closes b (λ x. x ≢ Fresh) (λ p f. absurd (cc)) (λ p. y.1)));
-    free_is =
-        λ s g. put_cases sessions a.slot (shut a) s
-        (λ (x : Session). x ≡ free g → (b : ArenaId) → b.slot ≡ s → g ≤ b.generation → put_at life a Closes b ≡ Fresh)
-        (λ e q. absurd (cc))
-        (λ n q b e h. at_other life a Closes b (λ p. n (sym e ∙ (λ j. (p j).slot))) ∙ r.free_is s g q b e h);
+    free_is = free_else a (shut a) Closes (λ g q. absurd (cc));
     newest =
         λ s c. put_cases sessions a.slot (shut a) s
         (λ (x : Session). (x ≡ live c) ⊎ (x ≡ shut c) → (b : ArenaId) → b.slot ≡ s → c.generation ≤ b.generation → b ≢ c → put_at life a Closes b ≡ Fresh)
@@ -164,11 +168,7 @@ module _ (z : Shape) (sessions : ℕ → Session) (life : ArenaId → Stage) (r 
       shut_is = λ s b. put_cases sessions a.slot (live a) s (λ (x : Session). x ≡ shut b → (b.slot ≡ s) × (put_at life a Lives b ≢ Fresh))
           (λ e q. absurd (cc))
           (λ n q. let y = r.shut_is s b q in (y.0, at_cases life a Lives b (λ x. x ≢ Fresh) (λ p f. absurd (cc)) (λ p. y.1)));
-      free_is =
-          λ s g. put_cases sessions a.slot (live a) s
-          (λ (x : Session). x ≡ free g → (b : ArenaId) → b.slot ≡ s → g ≤ b.generation → put_at life a Lives b ≡ Fresh)
-          (λ e q. absurd (cc))
-          (λ n q b e h. at_other life a Lives b (λ p. n (sym e ∙ (λ j. (p j).slot))) ∙ r.free_is s g q b e h);
+      free_is = free_else a (live a) Lives (λ g q. absurd (cc));
       newest =
           λ s c. put_cases sessions a.slot (live a) s
           (λ (x : Session). (x ≡ live c) ⊎ (x ≡ shut c) → (b : ArenaId) → b.slot ≡ s → c.generation ≤ b.generation → b ≢ c → put_at life a Lives b ≡ Fresh)

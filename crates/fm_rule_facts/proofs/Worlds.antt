@@ -12,6 +12,13 @@ use Rattle.fm_rule_facts.proofs.Sessions.{caller_is, standing_known, one_standin
 
 -- ---- holds, given bytes and words
 
+-- A slot's word shows the number of its arena after both were changed.
+slot_put : (f : ℕ → ℕ) (g : ArenaId → ℕ) (a : ArenaId) (n : ℕ) (b : ArenaId) → (b.slot ≡ a.slot → b ≡ a) → f b.slot ≡ g b
+    → put f a.slot n b.slot ≡ put_at g a n b
+slot_put f g a n b one same = at_cases g a n b (λ (x : ℕ). put f a.slot n b.slot ≡ x)
+    (λ e. (λ j. put f a.slot n (e j).slot) ∙ put_here f a.slot n)
+    (λ ne. put_else f a.slot n b.slot (λ e. ne (one e)) ∙ same)
+
 -- an arena that was shut, apart from those that stand
 module _ (counts : ℕ → ℕ) (life : ArenaId → Stage) (holds : ArenaId → ℕ) (r : Counts counts life holds) (a : ArenaId) where
   pub counts_shut : holds a ≡ 0 → ((b : ArenaId) → life b ≡ Lives → b ≢ a → b.slot ≢ a.slot) → Counts (put counts a.slot 0) (put_at life a Closes) holds
@@ -120,9 +127,10 @@ module _ (z : Shape) (m : Memory) (t : Machine) (r : World z m t) where
     givens = r.givens;
   }
 
-  -- words don't matter
-  pub world_word : (cells : ℕ → ℕ → ℕ) (f : ArenaId → ℕ → ℕ) → World z (record m { cells = cells }) (record t { word = f })
-  world_word cells f = record {
+  -- pages and words don't matter
+  world_beside : (bits : ℕ → ℕ) (maps : ℕ → ℕ → Option ℕ) (cells : ℕ → ℕ → ℕ) {f : ArenaId → ℕ → ℕ}
+      → World z (record m { page_bits = bits; maps = maps; cells = cells }) (record t { word = f })
+  world_beside bits maps cells = record {
     marked = r.marked;
     sessions = r.sessions;
     slots = r.slots;
@@ -130,15 +138,11 @@ module _ (z : Shape) (m : Memory) (t : Machine) (r : World z m t) where
     givens = r.givens;
   }
 
-  -- nor do pages
+  pub world_word : (cells : ℕ → ℕ → ℕ) (f : ArenaId → ℕ → ℕ) → World z (record m { cells = cells }) (record t { word = f })
+  world_word cells f = world_beside m.page_bits m.maps cells
+
   pub world_pages : (bits : ℕ → ℕ) (maps : ℕ → ℕ → Option ℕ) (cells : ℕ → ℕ → ℕ) → World z (record m { page_bits = bits; maps = maps; cells = cells }) t
-  world_pages bits maps cells = record {
-    marked = r.marked;
-    sessions = r.sessions;
-    slots = r.slots;
-    counts = r.counts;
-    givens = r.givens;
-  }
+  world_pages bits maps cells = world_beside bits maps cells
 
   pub world_shut : (a : ArenaId) → t.life a ≡ Lives → t.holds a ≡ 0
       → World z (record m { sessions = put m.sessions a.slot (shut a); counts = put m.counts a.slot 0 }) (record t { life = put_at t.life a Closes })
@@ -181,9 +185,7 @@ module _ (z : Shape) (m : Memory) (t : Machine) (r : World z m t) where
     sessions = r.sessions;
     slots = r.slots;
     counts = record {
-      shown = λ b q. at_cases t.holds a n b (λ (x : ℕ). put m.counts a.slot n b.slot ≡ x)
-          (λ e. (λ j. put m.counts a.slot n (e j).slot) ∙ put_here m.counts a.slot n)
-          (λ ne. put_else m.counts a.slot n b.slot (λ e. ne (one_standing z m.sessions t.life r.sessions b a (inl q) (inl l) e)) ∙ r.counts.shown b q);
+      shown = λ b q. slot_put m.counts t.holds a n b (one_standing z m.sessions t.life r.sessions b a (inl q) (inl l)) (r.counts.shown b q);
       only = λ b q. at_cases t.holds a n b (λ (x : ℕ). x ≡ 0) (λ e. absurd (q (ap t.life e ∙ l))) (λ ne. r.counts.only b q);
       few = λ b. at_cases t.holds a n b (λ (x : ℕ). x ≤ 65535) (λ e. few) (λ ne. r.counts.few b);
     };
@@ -199,9 +201,7 @@ module _ (z : Shape) (m : Memory) (t : Machine) (r : World z m t) where
     slots = r.slots;
     counts = r.counts;
     givens = record {
-      shown = λ b q. at_cases t.given a n b (λ (x : ℕ). put m.given a.slot n b.slot ≡ x)
-          (λ e. (λ j. put m.given a.slot n (e j).slot) ∙ put_here m.given a.slot n)
-          (λ ne. put_else m.given a.slot n b.slot (λ e. ne (one_standing z m.sessions t.life r.sessions b a q s e)) ∙ r.givens.shown b q);
+      shown = λ b q. slot_put m.given t.given a n b (one_standing z m.sessions t.life r.sessions b a q s) (r.givens.shown b q);
       none = λ b q. at_cases t.given a n b (λ (x : ℕ). x ≡ 0)
           (λ e. absurd (standing_known (t.life a) s (ap t.life (sym e) ∙ q)))
           (λ ne. r.givens.none b q);

@@ -37,9 +37,19 @@ pub record IsUnmapped (z : Shape) (loans : List Loan) (cells : ℕ → ℕ → �
   pub over : life a ≡ Over
   pub beyond : IsBeyond z cells (given a) p i
 
+-- What the words of arenas say, by map words and the words of pages
+pub record Says (z : Shape) (maps : ℕ → ℕ → Option ℕ) (cells : ℕ → ℕ → ℕ) (sessions : ℕ → Session) (life : ArenaId → Stage) (word : ArenaId → ℕ → ℕ)
+    (given : ArenaId → ℕ) : Type 0 where
+  pub empty : (k g i : ℕ) → sessions k ≡ free g → maps k i ≡ None
+  -- of an arena that stands: a word in a part with a page is the page's, one in a part without is 0, and each word with a given byte has a page
+  pub words : (a : ArenaId) (w p : ℕ) → IsStanding (life a) → maps a.slot (w / z.page_words) ≡ Some p → word a w ≡ cells p (w % z.page_words)
+  pub bare : (a : ArenaId) (w : ℕ) → IsStanding (life a) → maps a.slot (w / z.page_words) ≡ None → word a w ≡ 0
+  pub covered : (a : ArenaId) (w : ℕ) → IsStanding (life a) → 8 * w < given a → maps a.slot (w / z.page_words) ≢ None
+  pub new_words : (a : ArenaId) (w : ℕ) → life a ≡ Fresh → word a w ≡ 0
+  pub new_given : (a : ArenaId) → life a ≡ Fresh → given a ≡ 0
+
 pub record Pages (z : Shape) (loans : List Loan) (bits : ℕ → ℕ) (maps : ℕ → ℕ → Option ℕ) (cells : ℕ → ℕ → ℕ) (berth : ℕ → Berth)
     (sessions : ℕ → Session) (life : ArenaId → Stage) (word : ArenaId → ℕ → ℕ) (given : ArenaId → ℕ) : Type 0 where
-  -- ---- where each page is
   pub bit_is : (p : ℕ) → bit_of bits p ≡ 1 → (berth p ≡ loose) × (p < z.pages)
   pub is_bit : (p : ℕ) → p < z.pages → berth p ≡ loose → bit_of bits p ≡ 1
   pub map_is : (k i p : ℕ) → maps k i ≡ Some p → berth p ≡ mapped k i
@@ -49,11 +59,4 @@ pub record Pages (z : Shape) (loans : List Loan) (bits : ℕ → ℕ) (maps : �
   pub loose_is : (p : ℕ) → berth p ≡ loose → IsBlank z cells p
   pub lent_is : (l : Loan) → Contains loans l → LentAt (berth l.block) l
   pub only_loan : (l x : Loan) → Contains loans l → Contains loans x → l.block ≡ x.block → l ≡ x
-  pub empty : (k g i : ℕ) → sessions k ≡ free g → maps k i ≡ None
-  -- ---- what the words say
-  -- of an arena that stands: a word in a part with a page is the page's, one in a part without is 0, and each word with a given byte has a page
-  pub words : (a : ArenaId) (w p : ℕ) → IsStanding (life a) → maps a.slot (w / z.page_words) ≡ Some p → word a w ≡ cells p (w % z.page_words)
-  pub bare : (a : ArenaId) (w : ℕ) → IsStanding (life a) → maps a.slot (w / z.page_words) ≡ None → word a w ≡ 0
-  pub covered : (a : ArenaId) (w : ℕ) → IsStanding (life a) → 8 * w < given a → maps a.slot (w / z.page_words) ≢ None
-  pub new_words : (a : ArenaId) (w : ℕ) → life a ≡ Fresh → word a w ≡ 0
-  pub new_given : (a : ArenaId) → life a ≡ Fresh → given a ≡ 0
+  pub says : Says z maps cells sessions life word given

@@ -21,7 +21,7 @@ use Rattle.fm_rule_steps.proofs.Reading.{Says, says, enter_says}
 use Rattle.fm_rule_facts.proofs.Founds.{no_draw}
 use Rattle.fm_rule_steps.proofs.Quiet.{looks_on}
 use Rattle.fm_rule_steps.proofs.Knowing.{own, low, known_now}
-use Rattle.fm_rule_steps.proofs.Plain.{Made, plain, Calls, no_calls, memory_left, view_left, words_left}
+use Rattle.fm_rule_steps.proofs.Plain.{Made, plain, Calls, no_calls, all_left}
 use Rattle.fm_base.specs.declared.caller.Caller.{Caller}
 
 module _ (z : Shape) (me : ℕ) (v : View) (l : v.live ≡ true) where
@@ -35,9 +35,7 @@ module _ (z : Shape) (me : ℕ) (v : View) (l : v.live ≡ true) where
         let m' : Memory = record r.memory { marks = put r.memory.marks n (Some a) } in
         let g = plain z ws vs r me v at l (place_at z (mark n)) (mark_of a) (record v { mark = Some a }) [] none_noted no_draw m' r.machine (record {
           calls = no_calls;
-          memory = memory_left;
-          view = view_left;
-          words = words_left;
+          leaves = all_left;
           pages = r.pages;
           marks = put_else r.memory.marks n (Some a);
           reads = λ a e x i. (e, i);
@@ -83,9 +81,7 @@ module _ (z : Shape) (me : ℕ) (v : View) (l : v.live ≡ true) where
               moves = moves;
               life = refl;
             };
-            memory = memory_left;
-            view = view_left;
-            words = words_left;
+            leaves = all_left;
             pages = r.pages;
             marks = λ k h. refl;
             reads = λ b e x i. absurd i;
@@ -121,9 +117,7 @@ module _ (z : Shape) (me : ℕ) (v : View) (l : v.live ≡ true) where
           plain z ws vs r me v at l (place_at z (mark n)) 0 (record v { inside = None; mark = None }) es none_noted no_draw
           (record r.memory { marks = put r.memory.marks n None }) (record r.machine { inside = under }) (record {
             calls = calls;
-            memory = memory_left;
-            view = view_left;
-            words = words_left;
+            leaves = all_left;
             pages = r.pages;
             marks = put_else r.memory.marks n None;
             reads = λ b e x i. absurd (cc);

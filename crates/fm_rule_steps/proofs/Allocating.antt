@@ -51,7 +51,7 @@ module _ (z : Shape) (me : ℕ) (v : View) (l : v.live ≡ true) (a : ArenaId) (
       covered : get_or ws place 0 ≡ count → nat_le (round + size) (limit_of z) ≡ true → (w : ℕ) → 8 * w < round + size
           → r.memory.maps a.slot (w / z.page_words) ≢ None
       covered e fits w low none = elim (cases_lt (8 * w) count) [
-        | inl given ↦ r.pages.covered a w (stands z me v l a ins ws vs r at) (let q = is_given in omega arith) none
+        | inl given ↦ r.pages.says.covered a w (stands z me v l a ins ws vs r at) (let q = is_given in omega arith) none
         | inr new ↦ (
             let y = read fits w new low in
             let h = (own z ws vs r me v at l).work.pages.read a ins (mapping_of (w / z.page_words) y.0) y.1 in

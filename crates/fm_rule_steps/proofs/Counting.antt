@@ -4,7 +4,6 @@ use mathlib.Core.Option.{some}
 use mathlib.Core.Logic.{dite}
 use native.Mathlib.Decide.{ℕ_discrete}
 use lib.ListN.{get_elem?}
-use Rattle.atomic_table.proofs.Lists.{at_set}
 use Rattle.fm_words.specs.declared.shape.Shape.{Shape}
 use Rattle.fm_words.specs.Places.{at as place_at, draw as draw_place}
 use Rattle.fm_base.specs.Calls.{Entry}
@@ -29,12 +28,10 @@ use Rattle.fm_rule_facts.proofs.Summing.{total-set}
 use Rattle.fm_rule_facts.proofs.Shown.{shows_draw}
 use Rattle.fm_rule_steps.proofs.Knowing.{own}
 use Rattle.fm_rule_steps.proofs.Drawn.{knows, other_knows}
+use Rattle.fm_rule_steps.proofs.Splitting.{views_set}
 
 module _ (z : Shape) (me : ℕ) (v : View) (l : v.live ≡ true) (lone : v.met ≡ []) (ws : List ℕ) (vs : List View) (r : Rule z ws vs)
     (at : get_elem? vs me ≡ some v) where
-  abbrev i : ℕ
-  i = place_at z draw_place
-
   abbrev mine : Owns z r.history r.memory r.machine r.owners me v
   mine = own z ws vs r me v at l
 
@@ -156,7 +153,7 @@ module _ (z : Shape) (me : ℕ) (v : View) (l : v.live ≡ true) (lone : v.met �
     founds few = counted_told (d + 1) who' rank' v drawing zs [] fs refl refl few
         (counted_later d r.owners.who r.owners.rank (d + 1) who' rank' (omega arith) on v (r.counted me v at))
 
-    pub drew : AreWithin (d + 1) who' rank' fs → Rule z (set ws i (d + 1)) (set vs me drawer)
+    pub drew : AreWithin (d + 1) who' rank' fs → Rule z (set ws (place_at z draw_place) (d + 1)) (set vs me drawer)
     drew few = record {
       history = r.history;
       memory = m1;
@@ -250,31 +247,22 @@ module _ (z : Shape) (me : ℕ) (v : View) (l : v.live ≡ true) (lone : v.met �
           let y = r.held a in
           let s : holds_of a drawer ≡ holds_of a v = refl in
           omega arith;
-      each = λ j y at'. ⊎_elim
-          (λ (e : (j ≡ me) × (drawer ≡ y)). subst (λ (x : ℕ × View). Knows z r.history m1 r.machine o1 x.0 x.1)
-          (λ k. (sym e.0 k, e.1 k))
-          (knows z me v l lone ws vs r at (d + 1) who' rank' seat' on seat_on (number_drawn c) false fs drawn_now (λ n e. not_own_is n e) (λ e. absurd (cc))))
-          (λ (e : (j ≢ me) × (get_elem? vs j ≡ some y)).
-          other_knows z me v l lone ws vs r at (d + 1) who' rank' seat' on seat_on mine_only (λ e. absurd (room e)) j y e.0 (r.each j y e.1))
-          (at_set vs me j drawer y at');
+      each = views_set vs me drawer (Knows z r.history m1 r.machine o1)
+          (knows z me v l lone ws vs r at (d + 1) who' rank' seat' on seat_on (number_drawn c) false fs drawn_now (λ n e. not_own_is n e) (λ e. absurd (cc)))
+          (λ j y ne e. other_knows z me v l lone ws vs r at (d + 1) who' rank' seat' on seat_on mine_only (λ e. absurd (room e)) j y ne (r.each j y e));
       counted = counted_set d r.owners.who r.owners.rank (d + 1) who' rank' (omega arith) on vs me drawer (founds few) r.counted;
-      founds = λ j y at'. ⊎_elim
-          (λ (e : (j ≡ me) × (drawer ≡ y)). subst (IsFounded z r.history m1 r.owners.taker r.machine.life) e.1
+      founds = views_set vs me drawer (λ j u. IsFounded z r.history m1 r.owners.taker r.machine.life u)
           (founded_told z r.history m1 r.owners.taker r.machine.life v drawing zs [] fs refl refl refl
           (none_founded z r.history m1 r.owners.taker r.machine.life v.caller fs slots (length (v.seen ++ zs)))
-          (founded_same z r.history r.memory m1 r.owners.taker r.machine.life (λ s k x. x) v (r.founds me v at))))
-          (λ (e : (j ≢ me) × (get_elem? vs j ≡ some y)).
-          founded_same z r.history r.memory m1 r.owners.taker r.machine.life (λ s k x. x) y (r.founds j y e.1))
-          (at_set vs me j drawer y at');
-      looked = λ j y at'. ⊎_elim
-          (λ (e : (j ≡ me) × (drawer ≡ y)). subst (IsLooked z m1 o1 (set vs me drawer)) e.1
+          (founded_same z r.history r.memory m1 r.owners.taker r.machine.life (λ s k x. x) v (r.founds me v at)))
+          (λ j y ne e. founded_same z r.history r.memory m1 r.owners.taker r.machine.life (λ s k x. x) y (r.founds j y e));
+      looked = views_set vs me drawer (λ j u. IsLooked z m1 o1 (set vs me drawer) u)
           (looked_now drawer (looked_told z r.memory r.owners vs v drawing zs [] fs refl refl refl
           (λ f i. (
             (λ q. absurd (let u : true ≡ false = sym q ∙ idle (length (v.seen ++ zs)) f i in cc)),
             none_looked z r.memory r.owners vs v.gathered f (idle (length (v.seen ++ zs)) f i),
-          )) (r.looked me v at))))
-          (λ (e : (j ≢ me) × (get_elem? vs j ≡ some y)). looked_now y (r.looked j y e.1))
-          (at_set vs me j drawer y at');
+          )) (r.looked me v at)))
+          (λ j y ne e. looked_now y (r.looked j y e));
     }
       where
         -- who wants the number draws its next caller

@@ -67,7 +67,7 @@ module _ (z : Shape) (ws : List ℕ) (vs : List View) (r : Rule z ws vs) where
       → r.machine.word a w ≡ get_or ws (place_at z (page_word p (w % z.page_words))) 0
   page_word_of a w p st e =
       let y = r.pages.mapped_is p a.slot (w / z.page_words) (r.pages.map_is a.slot (w / z.page_words) p e) in
-      r.pages.words a w p st e ∙ sym (r.shows.cells p (w % z.page_words) y.page (mod-lt w r.valid.page_words.0))
+      r.pages.says.words a w p st e ∙ sym (r.shows.cells p (w % z.page_words) y.page (mod-lt w r.valid.page_words.0))
 
   -- a block that isn't lent has zeros
   pub blank_block : (b w : ℕ) → w < z.page_words → IsFree (loans_of r.history) b → r.memory.cells b w ≡ 0

@@ -1,11 +1,9 @@
 -- The step that draws a caller, or sees how many were drawn.
 use Rattle.std.proofs.Common.{◌≡◌, ◌≢◌, ◌⊎◌, ℕ, ◌+◌, ◌==◌, ◌&&◌, Bool, true, false, if◌then◌else◌, List, [], ◌++◌, length, set, get_or, sym, refl, ap, ◌∙◌, subst, arith, inl, inr, ⊎_elim, Option, Some, None}
 use Rattle.std.proofs.lemmas.List.{append-nil}
-use Rattle.std.proofs.lemmas.List.Elements.{filter-append}
 use mathlib.Core.Option.{some}
 use lib.ListN.{get_elem?}
 use prog.Atomic.{either}
-use Rattle.atomic_table.proofs.Lists.{at_set}
 use Rattle.fm_words.specs.declared.shape.Shape.{Shape}
 use Rattle.fm_words.specs.Places.{at as place_at, draw as draw_place}
 use Rattle.fm_base.specs.declared.caller.Caller.{Caller}
@@ -16,7 +14,7 @@ use mathlib.Core.Option.{some-injective}
 use mathlib.Core.Logic.{dite}
 use native.Mathlib.Decide.{ℕ_discrete}
 use Rattle.atomic_table.proofs.Lists.{set_else}
-use Rattle.fm_rule_facts.proofs.Looking.{looked_on, looked_told, none_looked}
+use Rattle.fm_rule_facts.proofs.Looking.{looked_told, none_looked}
 use Rattle.fm_rule_facts.specs.declared.step.Step.TheVariants.{Draws}
 use Rattle.fm_rule_facts.specs.Hands.{Number, no_number, number_learnt, number_drawn, number_left, HasNumberIn, drawn_by, number_after, most_draws}
 use Rattle.fm_rule_facts.specs.Views.{View, In, all_gathered}
@@ -30,15 +28,16 @@ use Rattle.fm_rule_facts.proofs.Sounding.{sound_of}
 use Rattle.fm_rule_facts.proofs.Gone.{NoSlots, draw_no_slots, none_founded, founded_told}
 use Rattle.fm_rule_facts.proofs.Founds.{AreWithin, looked_within, drew_within, counted_told, counted_set, find_within}
 use Rattle.fm_rule_facts.proofs.Drawers.{complete_counted}
-use Rattle.fm_rule_facts.proofs.Keeping.{none_added, set_there, in_left, stays_somewhere}
+use Rattle.fm_rule_facts.proofs.Keeping.{none_added, silent_since, set_there, in_left, stays_somewhere}
 use Rattle.fm_rule_facts.proofs.Summing.{total-set}
 use Rattle.fm_rule_facts.proofs.Callers.{counted, all_counted}
-use Rattle.fm_rule_facts.proofs.Shown.{shows_same}
+use lib.Seq.{set-get_or}
 use Rattle.fm_rule_steps.proofs.Reading.{eqb_true, eqb_false}
 use Rattle.fm_rule_steps.proofs.Knowing.{own}
 use Rattle.fm_rule_steps.proofs.Plain.{Made}
 use Rattle.fm_rule_steps.proofs.Counting.{drew, drew_history, now, who', rank'}
 use Rattle.fm_rule_steps.proofs.Drawn.{knows}
+use Rattle.fm_rule_steps.proofs.Splitting.{with_owners, views_set}
 
 both : (a b : Bool) → (a && b) ≡ true → b ≡ true
 both true b e = e
@@ -87,68 +86,42 @@ module _ (z : Shape) (me : ℕ) (v : View) (l : v.live ≡ true) (lone : v.met �
       let y = h.2 in inl (h.0, h.1, (y.0, in_left y.0 v.finds (fs (length (v.seen ++ zs))) y.1, y.2)))
       (λ (h : (g : Gathered) × In g (all_gathered v) × (g.caller ≡ k) × DrewIn c g.finds).
       inr (h.0, in_left h.0 (all_gathered v) [] h.1, h.2, h.3))) in
-      record {
-        history = r.history;
-        memory = r.memory;
-        machine = r.machine;
-        owners = r.owners;
-        valid = r.valid;
-        legal = r.legal;
-        rightly = r.rightly;
-        pages = r.pages;
-        depicts = r.depicts;
-        shows = shows_same z r.valid ws r.memory r.shows i;
-        world = r.world;
-        few = r.few;
-        begun = r.begun;
-        first = r.first;
-        ranks = r.ranks;
-        later = r.later;
-        terms = r.terms;
-        last = r.last;
-        callers = λ c b. stays_somewhere vs me v w (r.owners.seat c) (KeepsCaller c) at (caller_on c) (r.callers c b);
-        drawers = λ k a b.
-            let y = r.drawers k a b in
-            let p : Caller = r.owners.who y.0 in
-            let q : Caller = r.owners.who k in
-            (y.0, y.1, stays_somewhere vs me v w (r.owners.seat p) (HasDraw p q) at (draw_on p q) y.2);
-        free_numbers = r.free_numbers;
-        numbers = λ n low b. ⊎_elim
-            (λ (y : Somewhere vs (r.owners.number n) (KeepsNumber n)). inl (stays_somewhere vs me v w (r.owners.number n) (KeepsNumber n) at (number_on n) y))
-            inr (r.numbers n low b);
-        closed = λ a h. stays_somewhere vs me v w (r.owners.closer a) (HasClose a) at (λ q. q) (r.closed a h);
-        swept = λ a f o. stays_somewhere vs me v w (r.owners.closer a) (HasSweep a) at (λ q. q) (r.swept a f o);
-        slots = λ s g h f left b. stays_somewhere vs me v w (r.owners.holder s) (KeepsSlot s) at (λ q. q) (r.slots s g h f left b);
-        berths = λ q j b. stays_somewhere vs me v w j (HasPage q (r.owners.berth q)) at (page_like q (r.owners.berth q) v w refl refl refl) (r.berths q j b);
-        held = λ a.
-            let x = total-set (holds_of a) vs me v w at in
-            let y = r.held a in
-            let s : holds_of a w ≡ holds_of a v = refl in
-            omega arith;
-        each = λ j y at'. ⊎_elim
-            (λ (e : (j ≡ me) × (w ≡ y)). subst (λ (x : ℕ × View). Knows z r.history r.memory r.machine r.owners x.0 x.1) (λ k. (sym e.0 k, e.1 k))
-            (knows z me v l lone ws vs r at r.memory.draw r.owners.who r.owners.rank r.owners.seat (λ c q. q) (λ c q. refl) x wh fs hand
-            (λ n q. mine.not_own n (kept n q)) whole))
-            (λ (e : (j ≢ me) × (get_elem? vs j ≡ some y)). r.each j y e.1)
-            (at_set vs me j w y at');
-        counted = counted_set r.memory.draw r.owners.who r.owners.rank r.memory.draw r.owners.who r.owners.rank (omega arith) (λ c q. q) vs me w
-            (counted_told r.memory.draw r.owners.who r.owners.rank v (part_of x wh) zs [] fs refl refl founds (r.counted me v at)) r.counted;
-        founds = λ j y at'. ⊎_elim
-            (λ (e : (j ≡ me) × (w ≡ y)). subst (IsFounded z r.history r.memory r.owners.taker r.machine.life) e.1
-            (founded_told z r.history r.memory r.owners.taker r.machine.life v (part_of x wh) zs [] fs refl refl refl
-            (none_founded z r.history r.memory r.owners.taker r.machine.life v.caller fs slots (length (v.seen ++ zs))) (r.founds me v at)))
-            (λ (e : (j ≢ me) × (get_elem? vs j ≡ some y)). r.founds j y e.1)
-            (at_set vs me j w y at');
-        looked = λ j y at'. ⊎_elim
-            (λ (e : (j ≡ me) × (w ≡ y)). subst (IsLooked z r.memory r.owners (set vs me w)) e.1
-            (looked_now w (looked_told z r.memory r.owners vs v (part_of x wh) zs [] fs refl refl refl
-            (λ f i. (
-              (λ q. absurd (let u : true ≡ false = sym q ∙ idle (length (v.seen ++ zs)) f i in cc)),
-              none_looked z r.memory r.owners vs v.gathered f (idle (length (v.seen ++ zs)) f i),
-            )) (r.looked me v at))))
-            (λ (e : (j ≢ me) × (get_elem? vs j ≡ some y)). looked_now y (r.looked j y e.1))
-            (at_set vs me j w y at');
-      }
+      with_owners z ws (set ws i (get_or ws i 0)) vs (set vs me w) r (set-get_or ws i 0) r.owners.seat r.owners.number
+      (λ c b. stays_somewhere vs me v w (r.owners.seat c) (KeepsCaller c) at (caller_on c) (r.callers c b))
+      (λ k a b.
+      let y = r.drawers k a b in
+      let p : Caller = r.owners.who y.0 in
+      let q : Caller = r.owners.who k in
+      (y.0, y.1, stays_somewhere vs me v w (r.owners.seat p) (HasDraw p q) at (draw_on p q) y.2))
+      (λ n low b. ⊎_elim
+      (λ (y : Somewhere vs (r.owners.number n) (KeepsNumber n)). inl (stays_somewhere vs me v w (r.owners.number n) (KeepsNumber n) at (number_on n) y))
+      inr (r.numbers n low b))
+      (λ a h. stays_somewhere vs me v w (r.owners.closer a) (HasClose a) at (λ q. q) (r.closed a h))
+      (λ a f o. stays_somewhere vs me v w (r.owners.closer a) (HasSweep a) at (λ q. q) (r.swept a f o))
+      (λ s g h f left b. stays_somewhere vs me v w (r.owners.holder s) (KeepsSlot s) at (λ q. q) (r.slots s g h f left b))
+      (λ q j b. stays_somewhere vs me v w j (HasPage q (r.owners.berth q)) at (page_like q (r.owners.berth q) v w refl refl refl) (r.berths q j b))
+      (views_set vs me w (Knows z r.history r.memory r.machine r.owners)
+      (knows z me v l lone ws vs r at r.memory.draw r.owners.who r.owners.rank r.owners.seat (λ c q. q) (λ c q. refl) x wh fs hand
+      (λ n q. mine.not_own n (kept n q)) whole)
+      (λ j y ne e. r.each j y e))
+      (counted_set r.memory.draw r.owners.who r.owners.rank r.memory.draw r.owners.who r.owners.rank (omega arith) (λ c q. q) vs me w
+      (counted_told r.memory.draw r.owners.who r.owners.rank v (part_of x wh) zs [] fs refl refl founds (r.counted me v at)) r.counted)
+      (views_set vs me w (λ j u. IsFounded z r.history r.memory r.owners.taker r.machine.life u)
+      (founded_told z r.history r.memory r.owners.taker r.machine.life v (part_of x wh) zs [] fs refl refl refl
+      (none_founded z r.history r.memory r.owners.taker r.machine.life v.caller fs slots (length (v.seen ++ zs))) (r.founds me v at))
+      (λ j y ne e. r.founds j y e))
+      (views_set vs me w (λ j u. IsLooked z r.memory r.owners vs u)
+      (looked_told z r.memory r.owners vs v (part_of x wh) zs [] fs refl refl refl
+      (λ f i. (
+        (λ q. absurd (let u : true ≡ false = sym q ∙ idle (length (v.seen ++ zs)) f i in cc)),
+        none_looked z r.memory r.owners vs v.gathered f (idle (length (v.seen ++ zs)) f i),
+      )) (r.looked me v at))
+      (λ j y ne e. r.looked j y e))
+      wants_on
+      (λ a.
+      let x = total-set (holds_of a) vs me v w at in
+      let s : holds_of a w ≡ holds_of a v = refl in
+      omega arith)
     where
       wants_on : (before : List Gathered) → ((g : Gathered) → In g before → WasDrawn r.memory.draw r.owners.who r.owners.rank g.caller) → (n : ℕ)
           → Somewhere vs (r.owners.number n) (WantsNumber n) → IsUsed r.memory r.owners (set vs me (looker x wh fs)) before n
@@ -165,9 +138,6 @@ module _ (z : Shape) (me : ℕ) (v : View) (l : v.live ≡ true) (lone : v.met �
           (wants n (subst (WantsNumber n) same y.holds)))
           (λ ne. wanted (record { view = y.view; there = set_else vs me (r.owners.number n) (looker x wh fs) ne ∙ y.there; holds = y.holds }))
 
-      looked_now : (u : View) → IsLooked z r.memory r.owners vs u → IsLooked z r.memory r.owners (set vs me (looker x wh fs)) u
-      looked_now = looked_on z r.memory r.owners vs r.memory r.owners (set vs me (looker x wh fs)) (λ c q. q) (λ q. q) wants_on
-
   -- whether the pass is known to be whole after it found so many where it expected so many
   abbrev whole_by : ℕ → ℕ → Bool
   whole_by expected x = if v.whole then true else (expected == 0 && (length v.gathered + 1 == x))
@@ -181,11 +151,8 @@ module _ (z : Shape) (me : ℕ) (v : View) (l : v.live ≡ true) (lone : v.met �
       record {
         others = zs;
         is = refl;
-        quiet = none_added (made_by v.caller v.seen) (made_by v.caller zs) (sym (filter-append _ v.seen zs) ∙ (ap (made_by v.caller) (sym is) ∙ mine.mine));
-        apart = λ g j.
-            let y = mine.gathered g j in
-            ap (made_by g.caller) (append-nil zs) ∙ none_added (made_by g.caller v.seen) (made_by g.caller zs)
-            (sym (filter-append _ v.seen zs) ∙ (ap (made_by g.caller) (sym is) ∙ y.quiet));
+        quiet = silent_since v.caller v.seen zs is mine.mine;
+        apart = λ g j. ap (made_by g.caller) (append-nil zs) ∙ silent_since g.caller v.seen zs is (mine.gathered g j).quiet;
         alone = λ e. none_added v.seen zs (sym is ∙ sym (mine.seen_all e));
         met = λ x j. absurd (subst (In x) lone j);
         came = λ x j. absurd (subst (In x) lone j);
@@ -211,7 +178,7 @@ module _ (z : Shape) (me : ℕ) (v : View) (l : v.live ≡ true) (lone : v.met �
       → ((c : Caller) → v.number ≡ number_drawn c → x ≡ number_drawn c)
       → ((n : ℕ) → WantsNumber n v → WantsNumber n (part_of x false) ⊎ (r.memory.draw ≡ most_draws))
       → AreWithin r.memory.draw r.owners.who r.owners.rank fs → NoSlots fs → AreIdle fs → Made z ws vs me v i found (part_of x (whole_by expected found)) [] fs
-  unfolding looked
+  unfolding looked with_owners
   made_looked expected x fs hand keeps kept stays wants founds slots idle =
       let wh : Bool = whole_by expected found in
       let f = looked x wh fs hand keeps kept stays wants founds slots idle (go v.whole refl) in

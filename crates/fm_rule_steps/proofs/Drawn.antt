@@ -4,12 +4,10 @@ use Rattle.std.proofs.lemmas.List.{append-nil}
 use mathlib.Core.Option.{some}
 use lib.ListN.{get_elem?}
 use Rattle.fm_words.specs.declared.shape.Shape.{Shape}
-use Rattle.fm_words.specs.Places.{at as place_at, draw as draw_place}
-use Rattle.fm_base.specs.Calls.{Entry}
 use Rattle.fm_base.specs.Histories.{made_by}
 use Rattle.fm_base.specs.Finds.{Find, Gathered}
 use Rattle.fm_rule_facts.specs.Views.{View, In, all_gathered}
-use Rattle.fm_rule_facts.specs.Facts.{Memory, Owners, HasGathered, IsOnce, Owns, Knows, Rule, WasDrawn, next_of, IsUndrawn, HasNumberInHand}
+use Rattle.fm_rule_facts.specs.Facts.{Memory, Owners, Begins, HasGathered, IsOnce, Owns, Knows, Rule, WasDrawn, next_of, IsUndrawn, HasNumberInHand}
 use Rattle.fm_base.specs.declared.caller.Caller.{Caller}
 use Rattle.fm_rule_facts.specs.Hands.{Number, no_number, number_taken, number_learnt, number_drawn, number_left, number_joined, HasNumberIn, most_draws}
 use Rattle.fm_rule_facts.proofs.Handing.{hand_view}
@@ -22,17 +20,11 @@ use Rattle.fm_rule_facts.proofs.Working.{work_as}
 
 module _ (z : Shape) (me : ℕ) (v : View) (l : v.live ≡ true) (lone : v.met ≡ []) (ws : List ℕ) (vs : List View) (r : Rule z ws vs)
     (at : get_elem? vs me ≡ some v) where
-  abbrev i : ℕ
-  i = place_at z draw_place
-
   abbrev mine : Owns z r.history r.memory r.machine r.owners me v
   mine = own z ws vs r me v at l
 
-  abbrev zs : List Entry
-  zs = (r.each me v at).begins.0
-
-  abbrev is : r.history ≡ v.seen ++ zs
-  is = (r.each me v at).begins.1
+  abbrev begun : Begins v.seen r.history
+  begun = (r.each me v at).begins
 
   -- the memory where so many draws were made, and the owners where these callers were drawn
   abbrev memory_at : ℕ → Memory
@@ -60,10 +52,10 @@ module _ (z : Shape) (me : ℕ) (v : View) (l : v.live ≡ true) (lone : v.met �
         (not_own : (n : ℕ) → HasNumberIn n x → n ≢ v.caller.number)
         (whole : wh ≡ true → (c : Caller) → WasDrawn d who rank c → c ≢ v.caller → HasGathered c v) where
       abbrev w : View
-      w = told (part_of x wh) zs [] fs
+      w = told (part_of x wh) begun.0 [] fs
 
       seen_is : w.seen ≡ r.history
-      seen_is = append-nil (v.seen ++ zs) ∙ sym is
+      seen_is = append-nil (v.seen ++ begun.0) ∙ sym begun.1
 
       pub knows : Knows z r.history m' r.machine o' me w
       knows =

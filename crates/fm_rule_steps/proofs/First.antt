@@ -179,12 +179,14 @@ module _ (z : Shape) (ws : List ℕ) (pages f : ℕ → ℕ) (valid : IsValid z)
       loose_is = λ p e o h. refl;
       lent_is = λ l h. (let b = h.1 in absurd (omega arith));
       only_loan = λ l x h k e. (let b = h.1 in absurd (omega arith));
-      empty = λ k g i e. refl;
-      words = λ a w p. ⊎_elim (λ e. absurd (cc)) (λ e. absurd (cc));
-      bare = λ a w. ⊎_elim (λ e. absurd (cc)) (λ e. absurd (cc));
-      covered = λ a w. ⊎_elim (λ e. absurd (cc)) (λ e. absurd (cc));
-      new_words = λ a w e. refl;
-      new_given = λ a e. refl;
+      says = record {
+        empty = λ k g i e. refl;
+        words = λ a w p. ⊎_elim (λ e. absurd (cc)) (λ e. absurd (cc));
+        bare = λ a w. ⊎_elim (λ e. absurd (cc)) (λ e. absurd (cc));
+        covered = λ a w. ⊎_elim (λ e. absurd (cc)) (λ e. absurd (cc));
+        new_words = λ a w e. refl;
+        new_given = λ a e. refl;
+      };
     };
     depicts = always (limit_of z) [] tt;
     shows = shows;

@@ -11,7 +11,7 @@ use Rattle.fm_base.specs.Finds.{Gathered}
 use Rattle.fm_rule_facts.specs.Views.{Met, View, In, all_gathered, brought}
 use Rattle.fm_base.specs.declared.caller.Caller.{Caller}
 use Rattle.fm_rule_facts.specs.Hands.{HasSlot, Number, no_number, number_joined, number_of_joined, HasNumberIn, last_term}
-use Rattle.fm_rule_facts.specs.Facts.{WantsNumber, IsLooked}
+use Rattle.fm_rule_facts.specs.Facts.{WantsNumber, IsLooked, wanted}
 use Rattle.fm_rule_facts.proofs.Looking.{looked_bare, looked_gather, wants_in}
 use Rattle.fm_rule_steps.proofs.Reading.{eqb_true, eqb_false}
 use Rattle.fm_rule_facts.specs.Holds.{holds_of}
@@ -260,7 +260,7 @@ module _ (z : Shape) (ws : List ℕ) (vs : List View) (r : Rule z ws vs) (id : �
   -- the pass has the other's numbers, and the other is spent
   pub gather_joins : Rule z ws us
   gather_joins =
-      with_owners z ws vs us r f g'
+      with_owners z ws ws vs us r refl f g'
       (λ d h. join (r.owners.seat d) (KeepsCaller d) (caller_comes v w rests d) (caller_on v w rests free d) (r.callers d h))
       (λ n i h.
       let y = r.drawers n i h in
@@ -294,8 +294,8 @@ module _ (z : Shape) (ws : List ℕ) (vs : List View) (r : Rule z ws vs) (id : �
       (looked_bare z r.memory r.owners vs nothing_seen refl refl)
       (λ j u m e. views_set vs id both (λ j u. IsLooked z r.memory r.owners vs u)
       (looked_gather z r.memory r.owners vs v w (r.looked id v at) (r.looked other w there)) (λ j u m e. r.looked j u e) j u e))
-      (λ n y. join (r.owners.number n) (WantsNumber n) (λ h. absurd (subst (HasNumberIn n) rests.number (wants_in n w h)))
-      (λ h. absurd (subst (HasNumberIn n) free (wants_in n v h))) y)
+      (λ b q n y. wanted (join (r.owners.number n) (WantsNumber n) (λ h. absurd (subst (HasNumberIn n) rests.number (wants_in n w h)))
+      (λ h. absurd (subst (HasNumberIn n) free (wants_in n v h))) y))
       (λ a.
       let x = total-set (holds_of a) vs id v both at in
       let y = total-set (holds_of a) (set vs id both) other w nothing_seen at' in

@@ -16,7 +16,7 @@ use Rattle.fm_base_machine.proofs.Putting.{put_here, put_else, by_here, by_else,
 use Rattle.fm_rule_facts.specs.Views.{Met, View, In, all_gathered, brought}
 use Rattle.fm_rule_facts.specs.Holds.{holds_of}
 use Rattle.fm_rule_facts.specs.Splits.{drawn_left, drawn_right, caller_or}
-use Rattle.fm_rule_facts.specs.Facts.{Owners, HasDraw, HasClose, HasSweep, KeepsSlot, IsGathered, IsDrawn, Somewhere, Owns, Knows, Rule, IsCounted, HasPage, WantsNumber, IsLooked, HasNumberInHand, WasDrawn, bit_of, KeepsCaller, KeepsNumber}
+use Rattle.fm_rule_facts.specs.Facts.{Owners, HasDraw, HasClose, HasSweep, KeepsSlot, IsGathered, IsDrawn, Somewhere, Owns, Knows, Rule, IsCounted, HasPage, WantsNumber, IsLooked, wanted, HasNumberInHand, WasDrawn, bit_of, KeepsCaller, KeepsNumber}
 use Rattle.fm_rule_facts.specs.Hands.{number_taken, number_learnt, number_drawn, HasNumberIn}
 use Rattle.fm_rule_facts.proofs.Looking.{looked_bare}
 use Rattle.fm_rule_facts.specs.Gone.{IsFounded}
@@ -200,7 +200,7 @@ module _ (z : Shape) (ws : List ℕ) (vs : List View) (r : Rule z ws vs) (id : �
   -- the drawn caller and its number go to the new pass
   pub draw_splits : Rule z ws us
   draw_splits =
-      with_owners z ws vs us r f g
+      with_owners z ws ws vs us r refl f g
       (λ c h. elim (one_caller c d) [
         | yes e ↦ record {
           view = right;
@@ -247,12 +247,12 @@ module _ (z : Shape) (ws : List ℕ) (vs : List View) (r : Rule z ws vs) (id : �
       (views_on (set vs id left) right (λ j u. IsLooked z r.memory r.owners vs u) (looked_bare z r.memory r.owners vs right refl refl)
       (views_set vs id left (λ j u. IsLooked z r.memory r.owners vs u)
       (let y = r.looked id v at in record { few = y.few; finds = y.finds; theirs = y.theirs }) (λ j u far e. r.looked j u e)))
-      (λ n y.
+      (λ b q n y.
       let far : n ≢ d.number = (λ e.
       let same : y.view ≡ v = some-injective y.view v (sym y.there ∙ (ap (get_elem? vs) (ap r.owners.number e ∙ its.loose.owner) ∙ at)) in
       unwanted n (subst (WantsNumber n) same y.holds)) in
-      subst (λ (i : ℕ). Somewhere us i (WantsNumber n)) (sym (put_else r.owners.number d.number last n far))
-      (on_left (r.owners.number n) (WantsNumber n) (λ q. absurd (unwanted n q)) y))
+      wanted (subst (λ (i : ℕ). Somewhere us i (WantsNumber n)) (sym (put_else r.owners.number d.number last n far))
+      (on_left (r.owners.number n) (WantsNumber n) (λ q. absurd (unwanted n q)) y)))
       (λ a.
       let x = total-snoc (holds_of a) (set vs id left) right in
       let y = total-set (holds_of a) vs id v left at in

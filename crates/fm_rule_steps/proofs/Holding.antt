@@ -27,7 +27,7 @@ use Rattle.fm_rule_steps.proofs.Reading.{kind_below, Says, says, hold_says, eqb_
 use Rattle.fm_rule_facts.proofs.Founds.{no_draw}
 use Rattle.fm_rule_steps.proofs.Quiet.{answers_on, looks_on}
 use Rattle.fm_rule_steps.proofs.Knowing.{own, known_now}
-use Rattle.fm_rule_steps.proofs.Plain.{Made, plain, memory_left, view_left, words_left}
+use Rattle.fm_rule_steps.proofs.Plain.{Made, plain, all_left}
 use Rattle.fm_rule_facts.specs.Loans.{loans_by, loans_of}
 
 -- one hold more in a session word
@@ -95,9 +95,7 @@ module _ (z : Shape) (me : ℕ) (v : View) (l : v.live ≡ true) (a : ArenaId) w
         plain z ws vs r me v at l i x (held_as hs) (entry_of v.caller call Fine ∷ []) none_noted no_draw
         (record r.memory { counts = put r.memory.counts a.slot n }) (record r.machine { holds = put_at r.machine.holds a n }) (record {
           calls = record { may = (refl, may, answer, tt); ends = λ b. (ends b, tt); lends = (lends, tt); loans = loans; moves = moves; life = refl };
-          memory = memory_left;
-          view = view_left;
-          words = words_left;
+          leaves = all_left;
           pages = r.pages;
           marks = λ k h. refl;
           reads = λ a e x i. (e, i);

@@ -8,12 +8,16 @@ use Rattle.fm_base.specs.Arenas.{State, has_arena, arena_of}
 use Rattle.fm_base.specs.Calls.{Entry}
 use Rattle.fm_base.specs.Histories.{state_after, IsLegal}
 use Rattle.fm_base_machine.specs.Functions.{Fresh}
-use Rattle.fm_rule_facts.specs.Views.{View, IsKnown, IsOver, given_of, limit_of}
-use Rattle.fm_rule_facts.specs.Facts.{Owns, Rule}
+use Rattle.fm_rule_facts.specs.Views.{View, In, IsKnown, IsOver, given_of, limit_of}
+use Rattle.fm_rule_facts.specs.Facts.{Owners, IsClosing, Owns, Rule}
 use Rattle.fm_base.proofs.Making.{state_after-append, IsLegal-split}
 use Rattle.fm_base.proofs.Growing.{Grows-state_after}
 use Rattle.fm_rule_facts.proofs.Ending.{given_later}
 use Rattle.fm_rule_facts.proofs.Sounding.{opened_life}
+use Rattle.fm_base.specs.Finds.{Close}
+use Rattle.fm_base_machine.specs.Steps.{moved_by}
+use Rattle.fm_rule_facts.specs.Moves.{MayMake, NoEnd}
+use Rattle.fm_rule_facts.proofs.Keeping.{closing_on}
 
 module _ (z : Shape) (ws : List ℕ) (vs : List View) (r : Rule z ws vs) (me : ℕ) (v : View) (at : get_elem? vs me ≡ some v) (l : v.live ≡ true) where
   abbrev pub own : Owns z r.history r.memory r.machine r.owners me v
@@ -21,6 +25,12 @@ module _ (z : Shape) (ws : List ℕ) (vs : List View) (r : Rule z ws vs) (me : �
 
   pub low : v.caller.number < z.passes
   low = (r.terms v.caller own.drawn).0
+
+  -- its closes go on by entries that end no arena
+  pub closes_still : (es : List Entry) {o' : Owners} → MayMake (limit_of z) r.machine v.caller es → ((b : ArenaId) → NoEnd es b)
+      → ((b : ArenaId) → o'.closer b ≡ r.owners.closer b) → (c : Close) → In c v.closes → IsClosing (moved_by r.machine es) o' me c
+  closes_still es {o' = o'} ok ends same c i =
+      closing_on (limit_of z) r.history v.caller r.machine es ok me r.owners o' c (own.work.closes c i) (same c.arena) (ends c.arena)
 
   -- an arena that the pass knows was opened
   pub known_now : (a : ArenaId) → IsKnown v a → r.machine.life a ≢ Fresh

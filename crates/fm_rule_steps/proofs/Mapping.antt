@@ -1,5 +1,5 @@
 -- The steps that map a page in the hand, and read map words.
-use Rattle.std.proofs.Common.{◌≡◌, ◌≢◌, ◌⊎◌, ℕ, ◌-◌, ◌/◌, ◌<◌, ◌≤◌, ◌==◌, Bool, true, false, if◌then◌else◌, List, [], ◌∷◌, length, set, get_or, sym, refl, ap, ◌∙◌, subst, arith, inl, inr, ⊎_elim, Option, Some, None}
+use Rattle.std.proofs.Common.{◌≡◌, ◌≢◌, ◌⊎◌, ℕ, ◌-◌, ◌/◌, ◌<◌, ◌==◌, Bool, true, false, if◌then◌else◌, List, [], ◌∷◌, length, set, get_or, sym, refl, ap, ◌∙◌, subst, arith, inl, inr, ⊎_elim, Option, Some}
 use mathlib.Core.Option.{some}
 use lib.ListN.{get_elem?}
 use lib.Seq.{set-get_or}
@@ -26,7 +26,7 @@ use Rattle.fm_rule_facts.proofs.Moving.{pages_map, no_part, claimed_free, read_m
 use Rattle.fm_rule_facts.proofs.Shown.{shows_map}
 use Rattle.fm_rule_facts.proofs.Ruling.{page_by}
 use Rattle.fm_rule_facts.proofs.Keeping.{set_there}
-use Rattle.fm_rule_steps.proofs.Reading.{eqb_true, eqb_false, none_read, page_read, map_below}
+use Rattle.fm_rule_steps.proofs.Reading.{eqb_true, eqb_false, none_read, says_none, says_page, says_low}
 use Rattle.fm_rule_steps.proofs.Knowing.{own, given_now}
 use Rattle.fm_rule_steps.proofs.Plain.{Made}
 use Rattle.fm_rule_facts.proofs.Gone.{none_founded}
@@ -71,16 +71,6 @@ module _ (z : Shape) (me : ℕ) (v : View) (l : v.live ≡ true) (ws : List ℕ)
       abbrev seen : ℕ
       seen = get_or ws map_at 0
 
-      is_map : seen ≡ own_map (r.memory.maps a.slot i)
-      is_map = r.shows.maps a.slot i slot_low low
-
-      -- what a map word says
-      says_none : seen ≡ 0 → r.memory.maps a.slot i ≡ None
-      says_none e = none_read (r.memory.maps a.slot i) (sym is_map ∙ e)
-
-      says_some : seen ≢ 0 → r.memory.maps a.slot i ≡ Some (seen - 1)
-      says_some n = page_read (r.memory.maps a.slot i) seen is_map n
-
       -- a page that was read is known
       knows : (ps : List ℕ) (maps : ℕ → ℕ → Option ℕ) (berth : ℕ → Berth) (p : ℕ) → maps a.slot i ≡ Some p
           → ((b : ArenaId) (k q : ℕ) → IsStanding (r.machine.life b) → r.memory.maps b.slot k ≡ Some q → maps b.slot k ≡ Some q)
@@ -96,14 +86,14 @@ module _ (z : Shape) (me : ℕ) (v : View) (l : v.live ≡ true) (ws : List ℕ)
           → Made z ws vs me v map_at seen (record v { pages = v.pages; reads = mapping_of i (seen - 1) ∷ v.reads }) [] fs
       map_loses fs nd n =
           pages_read z me v l ws vs r at map_at (mapping_of i (seen - 1) ∷ v.reads) fs (none_drawn fs nd) (founded fs nd) (looks fs nd)
-          (knows v.pages r.memory.maps r.owners.berth (seen - 1) (says_some n) (λ b k q st f. f))
+          (knows v.pages r.memory.maps r.owners.berth (seen - 1) (says_page z ws vs r a.slot i slot_low low n) (λ b k q st f. f))
 
       -- nothing was there: the page is lent to the arena as this part
       map_wins : (p : ℕ) (fs : ℕ → List Find) → NoDraw fs
           → v.pages ≡ p ∷ [] → seen ≡ 0
           → Made z ws vs me v map_at (map_word p) (record v { pages = []; reads = mapping_of i p ∷ v.reads }) (entry_of v.caller (Lend p a i) Fine ∷ []) fs
       map_wins p fs nd has zero_word =
-          let none = says_none zero_word in
+          let none = says_none z ws vs r a.slot i slot_low low zero_word in
           let at_hand : r.owners.berth p ≡ claimed me = mine.work.pages.claims p (subst (In p) (sym has) (inl refl)) in
           let maps' : ℕ → ℕ → Option ℕ = put r.memory.maps a.slot (put (r.memory.maps a.slot) i (Some p)) in
           let berth' : ℕ → Berth = put r.owners.berth p (mapped a.slot i) in
@@ -180,17 +170,13 @@ module _ (z : Shape) (me : ℕ) (v : View) (l : v.live ≡ true) (ws : List ℕ)
 
       -- ---- what a map word tells
 
-      low_map : v.shape ≡ z → seen ≤ v.shape.pages
-      low_map sh = subst (λ (x : Shape). seen ≤ x.pages) (sym sh)
-          (map_below z.pages seen (r.memory.maps a.slot i) is_map (λ p h. (r.pages.mapped_is p a.slot i (r.pages.map_is a.slot i p h)).page))
-
       learns_map : v.shape ≡ z → (g : Made z ws vs me v map_at seen
           (record v { pages = v.pages; reads = if seen == 0 then v.reads else mapping_of i (seen - 1) ∷ v.reads }) [] none_noted) → LearnsMap v a i seen g.0
       learns_map sh g = record {
         given = λ word part low' e.
             let more = given_now z ws vs r me v at l a in
             let is : word / z.page_words ≡ i = ap (λ (x : Shape). word / x.page_words) (sym sh) ∙ part in
-            r.pages.covered a word stands (omega arith) (ap (r.memory.maps a.slot) is ∙ says_none e);
+            r.pages.says.covered a word stands (omega arith) (ap (r.memory.maps a.slot) is ∙ says_none z ws vs r a.slot i slot_low low e);
         none = λ e h.
             let rule = g.1 in
             let there = set_there vs me v g.0 at in
@@ -205,7 +191,7 @@ module _ (z : Shape) (me : ℕ) (v : View) (l : v.live ≡ true) (ws : List ℕ)
             rule.machine.word rule.machine.given rule.valid.page_words.0 rule.world.sessions rule.pages a i st
             (none_read (rule.memory.maps a.slot i) (sym word ∙ same))
             (subst (λ (es : List Entry). HasPart (loans_of es) a i) g.3 h);
-        low = low_map sh;
+        low = says_low z ws vs r a.slot i slot_low low sh;
       }
 
 -- ---- the steps
@@ -218,7 +204,7 @@ map_steps z me v a i p l sh ins low has = record {
   may = λ ws vs r at.
       let x : ℕ = get_or ws (place_at z (map a.slot i)) 0 in
       let g = maps_it z me v l ws vs r at a ins i low p has (x == 0) refl in
-      (g.0, g.1, record { gives = g.2; learns = low_map z me v l ws vs r at a ins i low sh });
+      (g.0, g.1, record { gives = g.2; learns = says_low z ws vs r a.slot i (slot_low z me v l ws vs r at a ins) low sh });
 }
 
 -- the map word of a part is read

@@ -17,8 +17,8 @@ use Rattle.fm_rule_facts.specs.Facts.{Memory, Owners, shut, Berth, unmapped, IsN
 use Rattle.fm_rule_facts.specs.Moves.{MayMake, NoEnd, StaysEnded, Moved, Same, PagesMoved, KeepsPages, MayLend}
 use Rattle.fm_rule_facts.proofs.Founds.{NoneDrawn}
 use Rattle.fm_rule_facts.proofs.Ruling.{PagesAfter, AreLooked, keeps_with, page_like}
-use Rattle.fm_rule_facts.proofs.Keeping.{closing_on, sweeping_on}
-use Rattle.fm_rule_steps.proofs.Knowing.{own}
+use Rattle.fm_rule_facts.proofs.Keeping.{sweeping_on}
+use Rattle.fm_rule_steps.proofs.Knowing.{own, closes_still}
 use Rattle.fm_rule_steps.proofs.Staying.{same_but, numbers_stay, number_stays}
 use Rattle.fm_rule_steps.proofs.Plain.{Made}
 use Rattle.fm_rule_facts.proofs.Leaving.{berths_moved, pages_left}
@@ -73,8 +73,7 @@ module _ (z : Shape) (me : ℕ) (v : View) (l : v.live ≡ true) (ws : List ℕ)
       (record {
         inside = ap (λ (t : Machine). t.inside v.caller) q.stays ∙ mine.work.inside;
         mark = mine.work.mark;
-        closes = λ c j.
-            closing_on (limit_of z) r.history v.caller r.machine es q.may me r.owners o' c (mine.work.closes c j) refl (q.ends c.arena);
+        closes = closes_still z ws vs r me v at l es q.may q.ends (λ b. refl);
         once = mine.work.once;
         sweeps = λ c j.
             let y = mine.work.sweeps c j in

@@ -10,7 +10,7 @@ use Rattle.fm_base.specs.Finds.{Find, Close, Sweep}
 use Rattle.fm_base_machine.specs.Functions.{Closes, Over, Machine}
 use Rattle.fm_base_machine.specs.Steps.{moved_by}
 use Rattle.std.specs.Int.{bit_at}
-use Rattle.fm_rule_facts.specs.Hands.{Hand, IsTaker}
+use Rattle.fm_rule_facts.specs.Hands.{Hand, IsTaker, Number}
 use Rattle.fm_rule_facts.specs.Views.{View, In, limit_of}
 use Rattle.fm_rule_facts.specs.Facts.{Memory, free, shut, Shows, World, IsOnce, Owners, HasInHand, HasClose, Owns, Rule, IsAt, IsLone, HasSwept, HasPages, Work, Session, Pages}
 use Rattle.fm_rule_facts.specs.Moves.{MayMake, NoEnd, StaysEnded, Moved, Same, KeepsCloses, KeepsSlots, KeepsHolds, Gives, MayLend, PagesMoved}
@@ -124,19 +124,18 @@ pub memory_left : {m : Memory} {marks : ℕ → Option ArenaId} {counts given : 
     → LeavesMemory m (record m { marks = marks; counts = counts; given = given; cells = cells })
 memory_left = record { numbers = λ k. refl; terms = λ k. refl; draw = refl; sessions = refl; bits = refl; maps = refl }
 
+-- what is in the pass's hand and what it has under way
+abbrev pub hand_of : View → Number × List Close × Hand × List Sweep × List ℕ × Swept
+hand_of v = (v.number, v.closes, v.hand, v.sweeps, v.pages, v.swept)
+
 -- and of its view
 pub record LeavesView (v p : View) : Type 0 where
   pub same : Same v p
-  pub number : p.number ≡ v.number
-  pub closes : p.closes ≡ v.closes
-  pub hand : p.hand ≡ v.hand
-  pub sweeps : p.sweeps ≡ v.sweeps
-  pub pages : p.pages ≡ v.pages
-  pub swept : p.swept ≡ v.swept
+  pub hand : hand_of p ≡ hand_of v
 
 pub view_left : {v : View} {inside mark : Option ArenaId} {holds handles : List ArenaId} {reads : List Mapping}
     → LeavesView v (record v { inside = inside; mark = mark; holds = holds; handles = handles; reads = reads })
-view_left = record { same = same_but; number = refl; closes = refl; hand = refl; sweeps = refl; pages = refl; swept = refl }
+view_left = record { same = same_but; hand = refl }
 
 -- and of words of arenas that others may have: given words of ended arenas, and the pages that somebody has
 pub record LeavesWords (m m' : Memory) (t : Machine) (o : Owners) : Type 0 where
@@ -147,13 +146,23 @@ pub words_left : {m : Memory} {t : Machine} {o : Owners} {marks : ℕ → Option
     → LeavesWords m (record m { marks = marks; counts = counts }) t o
 words_left = record { given = λ b o f. refl; cells = λ p j b w. refl }
 
+-- all that a plain step leaves
+pub record Leaves (v p : View) (m m' : Memory) (t : Machine) (o : Owners) : Type 0 where
+  pub memory : LeavesMemory m m'
+  pub view : LeavesView v p
+  pub words : LeavesWords m m' t o
+
+pub all_left : {v : View} {inside mark : Option ArenaId} {holds handles : List ArenaId} {reads : List Mapping} {m : Memory} {t : Machine} {o : Owners}
+    {marks : ℕ → Option ArenaId} {counts : ℕ → ℕ}
+    → Leaves v (record v { inside = inside; mark = mark; holds = holds; handles = handles; reads = reads }) m
+    (record m { marks = marks; counts = counts }) t o
+all_left = record { memory = memory_left; view = view_left; words = words_left }
+
 -- what a plain step does to the memory, the machine and its view
 pub record Plain (z : Shape) (ws : List ℕ) (vs : List View) (r : Rule z ws vs) (v : View) (i x : ℕ) (p : View) (es : List Entry) (m' : Memory) (t' : Machine)
     : Type 0 where
   pub calls : Calls z r.history r.machine v.caller es t'
-  pub memory : LeavesMemory r.memory m'
-  pub view : LeavesView v p
-  pub words : LeavesWords r.memory m' r.machine r.owners
+  pub leaves : Leaves v p r.memory m' r.machine r.owners
   pub pages : Pages z (loans_of r.history) m'.page_bits m'.maps m'.cells r.owners.berth m'.sessions t'.life t'.word t'.given
   pub marks : (k : ℕ) → k ≢ v.caller.number → m'.marks k ≡ r.memory.marks k
   pub reads : (a : ArenaId) → p.inside ≡ Some a → (x : Mapping) → In x p.reads → (v.inside ≡ Some a) × In x v.reads
@@ -192,35 +201,37 @@ module _ (z : Shape) (ws : List ℕ) (vs : List View) (r : Rule z ws vs) (me : �
       → AreLooked r v fs → (m' : Memory) (t' : Machine) → Plain z ws vs r v i x p es m' t' → Made z ws vs me v i x p es fs
   plain_with nd new looks m' t' q =
       let c = q.calls in
-      let m = q.memory in
-      let u = q.view in
+      let m = q.leaves.memory in
+      let u = q.leaves.view in
       let shown : (s : ℕ) (y : Session) → r.memory.sessions s ≡ y → m'.sessions s ≡ y = (λ s y f. (λ j. m.sessions j s) ∙ f) in
       let back : (s : ℕ) (y : Session) → m'.sessions s ≡ y → r.memory.sessions s ≡ y = (λ s y f. (λ j. sym m.sessions j s) ∙ f) in
       let still : (s g : ℕ) → r.memory.sessions s ≡ free g → m'.sessions s ≡ free g = (λ s g. shown s (free g)) in
       let was : (a : ArenaId) → (moved_by r.machine es).life a ≡ Closes → r.machine.life a ≡ Closes =
       (λ a h. sym (ap (λ (t : Machine). t.life a) c.moves ∙ (λ j. c.life j a)) ∙ h) in
       let ended : (b : ArenaId) → r.machine.life b ≡ Over → r.memory.sessions b.slot ≡ shut b → StaysEnded r.memory m' b =
-      (λ b o f. record { session = shown b.slot (shut b) f; maps = λ i j. m.maps j b.slot i; given = q.words.given b o f }) in
+      (λ b o f. record { session = shown b.slot (shut b) f; maps = λ i j. m.maps j b.slot i; given = q.leaves.words.given b o f }) in
       let d = plain_moved z ws vs r me v at l es m' p c.may c.ends q.marks m.numbers m.terms m.draw still m.bits ended (record {
-        others = λ c j b h. (refl, q.words.cells c j b);
+        others = λ c j b h. (refl, q.leaves.words.cells c j b);
         stay = λ b c n st e. (λ k. m.maps k b.slot c) ∙ e;
       }) in
       keeps_with z ws (set ws i x) vs r me v p es fs m' r.owners at l d
       u.same nd new looks c.lends
       (subst (λ (x : List Loan × Machine). Pages z x.0 m'.page_bits m'.maps m'.cells r.owners.berth m'.sessions x.1.life x.1.word x.1.given)
       (λ j. (sym c.loans j, sym c.moves j)) q.pages)
-      (plain_closes z ws vs r me v at l es m' p u.same u.closes was)
-      (sweeps_still me v p r.memory r.machine r.owners m' (moved_by r.machine es) r.owners u.same u.sweeps (λ a h. refl)
+      (plain_closes z ws vs r me v at l es m' p u.same (λ j. (u.hand j).1) was)
+      (sweeps_still me v p r.memory r.machine r.owners m' (moved_by r.machine es) r.owners u.same (λ j. (u.hand j).3) (λ a h. refl)
       (λ a f h. (back a.slot (shut a) f, was_over a es r.machine (c.ends a) h)))
-      (plain_slots z ws vs r me v at l es m' p u.same u.hand (λ s g. back s (free g)) m.bits) (pages_there me r.owners v p u.same u.pages u.swept)
+      (plain_slots z ws vs r me v at l es m' p u.same (λ j. (u.hand j).2) (λ s g. back s (free g)) m.bits)
+      (pages_there me r.owners v p u.same (λ j. (u.hand j).4) (λ j. (u.hand j).5))
       (subst (KeepsHolds v p r.machine) (sym c.moves) q.holds)
-      (numbers_stay z ws vs r me v at l es m' r.owners p d u.same u.number m.numbers m.terms (λ n. refl))
+      (numbers_stay z ws vs r me v at l es m' r.owners p d u.same (λ j. (u.hand j).0) m.numbers m.terms (λ n. refl))
       q.shows
       (subst (World z m') (sym c.moves) q.world)
-      (plain_work z ws vs r me v at l es m' p c.may c.ends u.same u.closes u.sweeps u.hand still m.bits ended
-      (ap (λ (t : Machine). t.inside p.caller) c.moves ∙ q.inside) q.mark
-      (plain_pages z r.memory m' r.owners me v p (own z ws vs r me v at l).work.pages m.maps q.words.cells q.reads u.pages u.sweeps u.swept))
-      (number_stays z ws vs r me v at l es m' r.owners p d u.same u.number m.numbers m.terms (λ n. refl))
+      (plain_work z ws vs r me v at l es m' p c.may c.ends u.same (λ j. (u.hand j).1) (λ j. (u.hand j).3) (λ j. (u.hand j).2)
+      still m.bits ended (ap (λ (t : Machine). t.inside p.caller) c.moves ∙ q.inside) q.mark
+      (plain_pages z r.memory m' r.owners me v p (own z ws vs r me v at l).work.pages m.maps
+      q.leaves.words.cells q.reads (λ j. (u.hand j).4) (λ j. (u.hand j).3) (λ j. (u.hand j).5)))
+      (number_stays z ws vs r me v at l es m' r.owners p d u.same (λ j. (u.hand j).0) m.numbers m.terms (λ n. refl))
 
   -- where no slot was looked for
   pub plain : NoDraw fs → (m' : Memory) (t' : Machine) → Plain z ws vs r v i x p es m' t' → Made z ws vs me v i x p es fs

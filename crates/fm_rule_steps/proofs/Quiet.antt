@@ -18,7 +18,7 @@ use Rattle.fm_rule_facts.proofs.Gone.{none_founded}
 use Rattle.fm_rule_facts.proofs.Ruling.{AreLooked, unlooked}
 use Rattle.fm_rule_facts.proofs.Shown.{shows_same}
 use Rattle.fm_rule_steps.proofs.Knowing.{own}
-use Rattle.fm_rule_steps.proofs.Plain.{Made, plain_with, memory_left, view_left, words_left}
+use Rattle.fm_rule_steps.proofs.Plain.{Made, plain_with, all_left}
 
 module _ (z : Shape) (ws : List ℕ) (vs : List View) (r : Rule z ws vs) (me : ℕ) (v : View) (at : get_elem? vs me ≡ some v) (l : v.live ≡ true) (i : ℕ) where
   -- entries that move nothing and lend nothing
@@ -31,9 +31,7 @@ module _ (z : Shape) (ws : List ℕ) (vs : List View) (r : Rule z ws vs) (me : �
       let mine = own z ws vs r me v at l in
       plain_with z ws vs r me v at l i (get_or ws i 0) v es fs nd new looks r.memory r.machine (record {
         calls = record { may = may; ends = ends; lends = lends; loans = same; moves = stays; life = refl };
-        memory = memory_left;
-        view = view_left;
-        words = words_left;
+        leaves = all_left;
         pages = r.pages;
         marks = λ k h. refl;
         reads = λ b e x h. (e, h);

@@ -71,9 +71,7 @@ module _ (z : Shape) (me : ℕ) (v : View) (l : v.live ≡ true) (a : ArenaId) (
         let m : Memory = record r.memory { cells = m'; given = g' } in
         plain z ws vs r me v at l i x v (entry_of v.caller call reply ∷ []) none_noted no_draw m (record r.machine { word = f; given = g }) (record {
           calls = record { may = (refl, may, answer, tt); ends = λ b. (ends b, tt); lends = (lends, tt); loans = same; moves = is; life = refl };
-          memory = memory_left;
-          view = view_left;
-          words = words;
+          leaves = record { memory = memory_left; view = view_left; words = words };
           pages = pages;
           marks = λ k h. refl;
           reads = λ a e x i. (e, i);
@@ -114,7 +112,7 @@ module _ (z : Shape) (me : ℕ) (v : View) (l : v.live ≡ true) (a : ArenaId) (
 
       -- what is found is the machine's word
       is_word : found ws ≡ r.machine.word a w
-      is_word = r.shows.cells p o there.page in_page ∙ sym (r.pages.words a w p (stands ws vs r at) named)
+      is_word = r.shows.cells p o there.page in_page ∙ sym (r.pages.says.words a w p (stands ws vs r at) named)
 
       lends : LendsBy z.page_words r.machine (loans_of r.history) (Read a w)
       lends = (

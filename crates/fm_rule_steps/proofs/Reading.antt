@@ -1,7 +1,7 @@
 -- What a session word that was read says of an arena, and a map word of a page.
 use Rattle.fm_words.proofs.Maps.{map_word-some}
 use Rattle.fm_words.specs.Maps.{map_word}
-use Rattle.std.proofs.Common.{◌≡◌, ◌≢◌, ℕ, ◌%◌, ◌^◌, ◌<◌, ◌≤◌, ◌==◌, Bool, true, false, if◌then◌else◌, Option, Some, None, refl, sym, ap, ◌∙◌, arith, inl, eq-eqb, ne_eqb, ◌-◌, subst}
+use Rattle.std.proofs.Common.{◌≡◌, ◌≢◌, ℕ, ◌%◌, ◌^◌, ◌<◌, ◌≤◌, ◌==◌, Bool, true, false, if◌then◌else◌, Option, Some, None, refl, sym, ap, ◌∙◌, arith, inl, eq-eqb, ne_eqb, ◌-◌, subst, List, get_or}
 use mathlib.Core.Logic.{dite}
 use native.Mathlib.Decide.{ℕ_discrete}
 use Rattle.fm_words.specs.declared.shape.Shape.{Shape}
@@ -14,7 +14,9 @@ use Rattle.fm_base.specs.Calls.{Closed}
 use Rattle.fm_base_machine.specs.Functions.{Stage, Fresh, Lives, Closes, Over, Machine, enter_stage, hold_stage, shut_stage}
 use Rattle.fm_base_machine.proofs.Putting.{one_arena}
 use Rattle.fm_rule_facts.specs.Words.{alive_word, closing_word, free_word, alive_holds, enter_found, hold_found, hold_by, shut_found, shut_by}
-use Rattle.fm_rule_facts.specs.Facts.{Session, free, live, shut, Memory, session_code, World, own_map}
+use Rattle.fm_rule_facts.specs.Facts.{Session, free, live, shut, Memory, session_code, World, own_map, Rule}
+use Rattle.fm_words.specs.Places.{at as place_at, map}
+use Rattle.fm_rule_facts.specs.Views.{View}
 use Rattle.fm_words.specs.Bits.{IsWithout}
 use Rattle.std.specs.Int.{bit_at}
 use Rattle.std.proofs.lemmas.Nat.Bits.{bit_at-lt}
@@ -156,11 +158,31 @@ none_read None e = refl
 none_read (Some p) e = absurd (map_word-some p e)
 
 -- and each other word names its page
-pub page_read : (o : Option ℕ) (x : ℕ) → x ≡ own_map o → x ≢ 0 → o ≡ Some (x - 1)
+page_read : (o : Option ℕ) (x : ℕ) → x ≡ own_map o → x ≢ 0 → o ≡ Some (x - 1)
 page_read None x e n = absurd (n e)
 page_read (Some p) x e n = ap Some (page_back p x e)
 
 -- where its page is one of these, so is what names it
-pub map_below : (pages x : ℕ) (o : Option ℕ) → x ≡ own_map o → ((p : ℕ) → o ≡ Some p → p < pages) → x ≤ pages
+map_below : (pages x : ℕ) (o : Option ℕ) → x ≡ own_map o → ((p : ℕ) → o ≡ Some p → p < pages) → x ≤ pages
 map_below pages x None e low = let f : x ≡ 0 = e in omega arith
 map_below pages x (Some p) e low = let f = page_back p x e in let l = low p refl in omega arith
+
+-- ---- what a map word says
+
+module _ (z : Shape) (ws : List ℕ) (vs : List View) (r : Rule z ws vs) (s i : ℕ) (slot : s < z.slots) (low : i < z.reach) where
+  abbrev there : ℕ
+  there = get_or ws (place_at z (map s i)) 0
+
+  is_map : there ≡ own_map (r.memory.maps s i)
+  is_map = r.shows.maps s i slot low
+
+  pub says_none : there ≡ 0 → r.memory.maps s i ≡ None
+  says_none e = none_read (r.memory.maps s i) (sym is_map ∙ e)
+
+  pub says_page : there ≢ 0 → r.memory.maps s i ≡ Some (there - 1)
+  says_page n = page_read (r.memory.maps s i) there is_map n
+
+  -- it names a page of the pool
+  pub says_low : {y : Shape} → y ≡ z → there ≤ y.pages
+  says_low e = subst (λ (x : Shape). there ≤ x.pages) (sym e)
+      (map_below z.pages there (r.memory.maps s i) is_map (λ p h. (r.pages.mapped_is p s i (r.pages.map_is s i p h)).page))

@@ -11,14 +11,14 @@ use Rattle.fm_words.specs.declared.shape.Shape.{Shape}
 use Rattle.fm_words.specs.Places.{at as place_at, given as given_place}
 use Rattle.fm_base.specs.declared.arena_id.ArenaId.{ArenaId}
 use Rattle.fm_base.specs.Finds.{Sweep}
-use Rattle.fm_base_machine.specs.Functions.{Over, put}
+use Rattle.fm_base_machine.specs.Functions.{put}
 use Rattle.fm_base_machine.proofs.Putting.{put_here, put_else, put_cases}
 use Rattle.fm_rule_facts.specs.declared.step.Step.TheVariants.{SweepsGiven, ResetsGiven}
 use Rattle.fm_rule_facts.specs.Parts.{unread}
 use Rattle.fm_rule_facts.specs.Views.{View, In, given_of, limit_of}
 use Rattle.fm_rule_facts.specs.Closes.{passed_of, advanced, one_more}
 use Rattle.fm_rule_facts.specs.Steps.{part, entries, noted, none_noted}
-use Rattle.fm_rule_facts.specs.Facts.{Memory, shut, HasSwept, IsSweeping, Owns, Rule}
+use Rattle.fm_rule_facts.specs.Facts.{Memory, HasSwept, IsSweeping, Owns, Rule}
 use Rattle.fm_rule_facts.specs.Moves.{MayStep, MayStore}
 use Rattle.fm_rule_facts.proofs.Retiring.{world_reset}
 use Rattle.fm_rule_facts.proofs.Shown.{shows_given}
@@ -34,12 +34,6 @@ module _ (z : Shape) (me : ℕ) (v : View) (l : v.live ≡ true) (a : ArenaId) (
     (ws : List ℕ) (vs : List View) (r : Rule z ws vs) (at : get_elem? vs me ≡ some v) where
   abbrev mine : Owns z r.history r.memory r.machine r.owners me v
   mine = own z ws vs r me v at l
-
-  is_over : r.machine.life a ≡ Over
-  is_over = ended_now z me v l a k has ws vs r at
-
-  is_shut : r.memory.sessions a.slot ≡ shut a
-  is_shut = shut_now z me v l a k has ws vs r at
 
   slot_low : a.slot < z.slots
   slot_low = (fit z me v l a k has ws vs r at).slot
@@ -62,7 +56,7 @@ module _ (z : Shape) (me : ℕ) (v : View) (l : v.live ≡ true) (a : ArenaId) (
         there = visits z me v l a k has ws vs r at;
         keep = λ q j b. inr (refl, page_like q (r.owners.berth q) v (record v { sweeps = advanced a v.sweeps; swept = v.swept }) refl refl refl);
         shows = shows_given z r.valid ws r.memory r.shows a.slot 0 slot_low;
-        world = world_reset z r.memory r.machine r.world a is_shut is_over;
+        world = world_reset z r.memory r.machine r.world a (shut_now z me v l a k has ws vs r at) (ended_now z me v l a k has ws vs r at);
         sweeps = λ c j. let w = in_advanced a c v.sweeps mine.work.swept_once j in onward c w.before (mine.work.sweeps w.before w.there) w.there w.how;
         once = once_advanced a v.sweeps mine.work.swept_once;
         of_page = subst (HasSwept z r.memory.maps r.memory.cells r.owners.berth me (advanced a v.sweeps)) (sym idle) tt;

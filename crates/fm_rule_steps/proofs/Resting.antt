@@ -28,7 +28,7 @@ use Rattle.fm_rule_facts.proofs.Sessions.{standing_known, standing_shown, free_a
 use Rattle.fm_rule_facts.proofs.Sounding.{opened_life}
 use Rattle.fm_rule_steps.proofs.Decoding.{page_word_of, blank_block, kept_else, kept_last, kept_least, alive_session, shut_session, free_read, live_read, shut_read, stands_not}
 use Rattle.fm_rule_facts.proofs.Alone.{lonely}
-use Rattle.fm_base_machine.proofs.Allowing.{not_fresh}
+use Rattle.fm_base_machine.proofs.Allowing.{not_fresh, is_alive}
 
 module _ (z : Shape) (me : ℕ) (v : View) (l : v.live ≡ true) (ws : List ℕ) (vs : List View) (r : Rule z ws vs) (at : get_elem? vs me ≡ some v)
     (whole : v.whole ≡ true) (none : v.hand ≡ nothing) where
@@ -47,13 +47,7 @@ module _ (z : Shape) (me : ℕ) (v : View) (l : v.live ≡ true) (ws : List ℕ)
   opened a h f = opened_life (has_arena s a) (arena_of s a).life h (is_stage a Fresh f)
 
   lives : (a : ArenaId) → r.machine.life a ≡ Lives → (arena_of s a).life ≡ Alive
-  lives a e = go (has_arena s a) (arena_of s a).life (is_stage a Lives e)
-    where
-      go : (b : Bool) (y : Life) → stage_of b y ≡ Lives → y ≡ Alive
-      go true Alive q = refl
-      go true Closing q = absurd (cc)
-      go true Ended q = absurd (cc)
-      go false y q = absurd (cc)
+  lives a e = is_alive (has_arena s a) (arena_of s a).life (sym e ∙ r.depicts.life a)
 
   unliving : (a : ArenaId) → r.machine.life a ≢ Fresh → r.machine.life a ≢ Lives → (arena_of s a).life ≢ Alive
   unliving a n m e = m (r.depicts.life a ∙ (λ i. stage_of (known a n i) (e i)))
@@ -266,7 +260,7 @@ module _ (z : Shape) (me : ℕ) (v : View) (l : v.live ≡ true) (ws : List ℕ)
         r.machine.given r.valid.page_words.0 r.world.sessions r.pages a (w / z.page_words) b st c);
     in_none = λ a w n h u. sym (r.depicts.word a w) ∙ none_there a w (standing a n) u (r.memory.maps a.slot (w / z.page_words)) refl;
     blank = λ b w low h f. r.shows.cells b w low h ∙ blank_block z ws vs r b w h f;
-    named = λ a w n h. has_page a w (standing a n) (r.pages.covered a w (standing a n) (let e = r.depicts.given a in omega arith))
+    named = λ a w n h. has_page a w (standing a n) (r.pages.says.covered a w (standing a n) (let e = r.depicts.given a in omega arith))
         (r.memory.maps a.slot (w / z.page_words)) refl;
     fits = λ a h. r.world.sessions.fits a (opened a h);
     no_slot = λ k b. r.world.slots.low k (ap (λ (x : ℕ). bit_at x k) (sym r.shows.slot_bits) ∙ b);
@@ -275,7 +269,7 @@ module _ (z : Shape) (me : ℕ) (v : View) (l : v.live ≡ true) (ws : List ℕ)
     where
       none_there : (a : ArenaId) (w : ℕ) → IsStanding (r.machine.life a) → ¬ (HasPart (loans_of r.history) a (w / z.page_words)) → (o : Option ℕ)
           → r.memory.maps a.slot (w / z.page_words) ≡ o → r.machine.word a w ≡ 0
-      none_there a w st u None e = r.pages.bare a w st e
+      none_there a w st u None e = r.pages.says.bare a w st e
       none_there a w st u (Some p) e = absurd (u (
         p,
         mapped_lent z (loans_of r.history) r.memory.page_bits r.memory.maps r.memory.cells r.owners.berth

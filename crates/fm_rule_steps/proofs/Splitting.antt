@@ -9,10 +9,11 @@ use Rattle.fm_base.specs.declared.arena_id.ArenaId.{ArenaId}
 use Rattle.fm_base_machine.specs.Functions.{Closes, Over}
 use Rattle.fm_rule_facts.specs.Views.{Met, View, In, all_gathered, brought}
 use Rattle.fm_rule_facts.specs.Splits.{note, met, nothing_seen, IsBare}
-use Rattle.fm_rule_facts.specs.Facts.{free, shut, HasDraw, HasClose, HasSweep, KeepsSlot, Somewhere, Begins, Knows, Rule, IsCounted, Berth, loose, claimed, mapped, unmapped, IsAt, HasPage, WasDrawn, bit_of, KeepsCaller, KeepsNumber, WantsNumber, IsLooked, wanted, IsSpent}
+use Rattle.fm_rule_facts.specs.Facts.{free, shut, HasDraw, HasClose, HasSweep, KeepsSlot, Somewhere, Begins, Knows, Rule, IsCounted, Berth, loose, claimed, mapped, unmapped, IsAt, HasPage, WasDrawn, bit_of, KeepsCaller, KeepsNumber, WantsNumber, IsLooked, IsUsed, Shows, wanted, IsSpent}
 use Rattle.fm_rule_facts.specs.Holds.{grips, holds_of, how_many, total}
 use Rattle.fm_rule_facts.proofs.Ruling.{page_like}
 use Rattle.fm_base.specs.declared.caller.Caller.{Caller}
+use Rattle.fm_base.specs.Finds.{Gathered}
 use Rattle.fm_rule_facts.proofs.Handing.{hand_view}
 use Rattle.fm_rule_facts.proofs.Looking.{looked_on, looked_bare}
 use Rattle.fm_rule_facts.proofs.Founds.{counted_bare}
@@ -59,7 +60,7 @@ pub data Said : (View → Type 0) → Type 1 where
   want : (n : ℕ) → Said (WantsNumber n)
 
 -- the rule with other views, and other seats for callers and numbers
-pub with_owners : (z : Shape) (ws : List ℕ) (vs us : List View) (r : Rule z ws vs) (f : Caller → ℕ) (g : ℕ → ℕ)
+unfoldable pub with_owners : (z : Shape) (ws xs : List ℕ) (vs us : List View) (r : Rule z ws vs) → xs ≡ ws → (f : Caller → ℕ) (g : ℕ → ℕ)
     → ((c : Caller) → WasDrawn r.memory.draw r.owners.who r.owners.rank c → Somewhere us (f c) (KeepsCaller c))
     → ((k : ℕ) → 0 < k → k < r.memory.draw
     → (d : ℕ) × (d < k) × Somewhere us (f (r.owners.who d)) (HasDraw (r.owners.who d) (r.owners.who k)))
@@ -72,9 +73,10 @@ pub with_owners : (z : Shape) (ws : List ℕ) (vs us : List View) (r : Rule z ws
     → ((j : ℕ) (u : View) → get_elem? us j ≡ some u → IsCounted r.memory.draw r.owners.who r.owners.rank u)
     → ((j : ℕ) (u : View) → get_elem? us j ≡ some u → IsFounded z r.history r.memory r.owners.taker r.machine.life u)
     → ((j : ℕ) (u : View) → get_elem? us j ≡ some u → IsLooked z r.memory r.owners vs u)
-    → ((n : ℕ) → Somewhere vs (r.owners.number n) (WantsNumber n) → Somewhere us (g n) (WantsNumber n))
-    → ((a : ArenaId) → total (holds_of a) us ≡ total (holds_of a) vs) → Rule z ws us
-with_owners z ws vs us r f g callers drawers numbers closed swept slots berths each counted founded looked wants same = record {
+    → ((before : List Gathered) → ((x : Gathered) → In x before → WasDrawn r.memory.draw r.owners.who r.owners.rank x.caller) → (n : ℕ)
+    → Somewhere vs (r.owners.number n) (WantsNumber n) → IsUsed r.memory (record r.owners { seat = f; number = g }) us before n)
+    → ((a : ArenaId) → total (holds_of a) us ≡ total (holds_of a) vs) → Rule z xs us
+with_owners z ws xs vs us r words f g callers drawers numbers closed swept slots berths each counted founded looked wants same = record {
   history = r.history;
   memory = r.memory;
   machine = r.machine;
@@ -84,7 +86,7 @@ with_owners z ws vs us r f g callers drawers numbers closed swept slots berths e
   rightly = r.rightly;
   pages = r.pages;
   depicts = r.depicts;
-  shows = r.shows;
+  shows = subst (λ (l : List ℕ). Shows z l r.memory) (sym words) r.shows;
   world = r.world;
   few = r.few;
   begun = r.begun;
@@ -106,7 +108,7 @@ with_owners z ws vs us r f g callers drawers numbers closed swept slots berths e
   counted = counted;
   founds = founded;
   looked = λ j u e. looked_on z r.memory r.owners vs r.memory (record r.owners { seat = f; number = g }) us (λ c q. q) (λ q. q)
-      (λ b q n y. wanted (wants n y)) u (looked j u e);
+      wants u (looked j u e);
 }
 
 -- the rule with other views, which say all that the views before said
@@ -117,7 +119,7 @@ with_views : (z : Shape) (ws : List ℕ) (vs us : List View) (r : Rule z ws vs) 
     → ((j : ℕ) (u : View) → get_elem? us j ≡ some u → IsLooked z r.memory r.owners vs u)
     → ((a : ArenaId) → total (holds_of a) us ≡ total (holds_of a) vs) → Rule z ws us
 with_views z ws vs us r on each counted founded looked same =
-    with_owners z ws vs us r r.owners.seat r.owners.number
+    with_owners z ws ws vs us r refl r.owners.seat r.owners.number
     (λ c h. on (r.owners.seat c) (KeepsCaller c) (caller c) (r.callers c h))
     (λ k i h.
     let y = r.drawers k i h in
@@ -129,7 +131,7 @@ with_views z ws vs us r on each counted founded looked same =
     (λ a h o. on (r.owners.closer a) (HasSweep a) (sweep a) (r.swept a h o))
     (λ s g h f left b. on (r.owners.holder s) (KeepsSlot s) (slot s) (r.slots s g h f left b))
     (λ q j b. on j (HasPage q (r.owners.berth q)) (page q (r.owners.berth q)) (r.berths q j b))
-    each counted founded looked (λ n y. on (r.owners.number n) (WantsNumber n) (want n) y) same
+    each counted founded looked (λ b q n y. wanted (on (r.owners.number n) (WantsNumber n) (want n) y)) same
 
 -- a note of a view is made
 pub note_splits : (z : Shape) (ws : List ℕ) (vs : List View) (r : Rule z ws vs) (id : ℕ) (v : View) → get_elem? vs id ≡ some v

@@ -21,10 +21,9 @@ use Rattle.fm_rule_facts.specs.Moves.{MayMake, MayLend, NoEnd, Moved, KeepsPages
 use Rattle.fm_rule_facts.proofs.Founds.{no_draw}
 use Rattle.fm_rule_facts.proofs.Sessions.{ended_apart}
 use Rattle.fm_rule_facts.proofs.Retiring.{ended_fits}
-use Rattle.fm_rule_facts.proofs.Keeping.{closing_on}
 use Rattle.fm_rule_facts.proofs.Ruling.{PagesAfter, keeps}
 use Rattle.fm_rule_steps.proofs.Closes.{Found, passed_of-found, count_of, in_advanced, advanced_in}
-use Rattle.fm_rule_steps.proofs.Knowing.{own}
+use Rattle.fm_rule_steps.proofs.Knowing.{own, closes_still}
 use Rattle.fm_rule_steps.proofs.Staying.{same_but, numbers_stay, number_stays}
 use Rattle.fm_rule_steps.proofs.Plain.{Made}
 use Rattle.fm_rule_facts.proofs.Leaving.{berths_moved}
@@ -132,8 +131,7 @@ module _ (z : Shape) (me : ℕ) (v : View) (l : v.live ≡ true) (a : ArenaId) (
       (record {
         inside = ap (λ (t : Machine). t.inside v.caller) q.stays ∙ mine.work.inside;
         mark = mine.work.mark;
-        closes = λ c j.
-            closing_on (limit_of z) r.history v.caller r.machine es q.may me r.owners o' c (mine.work.closes c j) refl (q.ends c.arena);
+        closes = closes_still z ws vs r me v at l es q.may q.ends (λ b. refl);
         once = mine.work.once;
         sweeps = λ c j. subst (λ (t : Machine). IsSweeping z m' t o' me c) (sym q.stays) (q.sweeps c j);
         swept_once = q.once;

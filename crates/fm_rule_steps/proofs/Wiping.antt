@@ -1,5 +1,5 @@
 -- The way of a page in a sweep: its map word is read and cleared, its words are wiped, and it is given back.
-use Rattle.std.proofs.Common.{◌≡◌, ◌≢◌, ◌⊎◌, ℕ, ◌+◌, ◌-◌, ◌*◌, ◌/◌, ◌%◌, ◌^◌, ◌<◌, ◌≤◌, ◌==◌, Bool, true, false, if◌then◌else◌, List, [], ◌∷◌, get_or, bit_or, sym, refl, ap, ◌∙◌, subst, arith, inl, inr, Option, Some, None}
+use Rattle.std.proofs.Common.{◌≡◌, ◌≢◌, ◌⊎◌, ℕ, ◌+◌, ◌-◌, ◌*◌, ◌/◌, ◌%◌, ◌^◌, ◌<◌, ◌==◌, Bool, true, false, if◌then◌else◌, List, [], ◌∷◌, get_or, bit_or, sym, refl, ap, ◌∙◌, subst, arith, inl, inr, Option, Some, None}
 use mathlib.Core.Option.{some}
 use lib.ListN.{get_elem?}
 use Rattle.std.proofs.lemmas.Bool.{cases_lt}
@@ -17,7 +17,7 @@ use Rattle.fm_rule_facts.specs.Views.{View, IsOver, given_of}
 use Rattle.fm_rule_facts.specs.Pages.{IsBlank}
 use Rattle.fm_rule_facts.specs.Closes.{passed_of, advanced}
 use Rattle.fm_rule_facts.specs.Steps.{part, entries, noted, none_noted, AreAllGiven}
-use Rattle.fm_rule_facts.specs.Facts.{own_map, shut, Berth, loose, claimed, mapped, unmapped, IsAt, IsNext, IsWiped, HasSwept, HasPage, Owns, Rule}
+use Rattle.fm_rule_facts.specs.Facts.{shut, Berth, loose, claimed, mapped, unmapped, IsAt, IsNext, IsWiped, HasSwept, HasPage, Owns, Rule}
 use Rattle.fm_rule_facts.specs.Moves.{MayStep, MayStore}
 use Rattle.fm_rule_facts.proofs.Putting.{two_cases}
 use Rattle.fm_rule_facts.proofs.Worlds.{world_pages}
@@ -27,7 +27,7 @@ use Rattle.fm_rule_facts.proofs.Returning.{pages_back}
 use Rattle.fm_rule_facts.proofs.Shown.{shows_map, shows_cell, shows_page_bits}
 use Rattle.fm_rule_facts.proofs.Groups.{set_here, set_else, page_group}
 use Rattle.fm_rule_steps.proofs.Closes.{once_advanced}
-use Rattle.fm_rule_steps.proofs.Reading.{eqb_true, eqb_false, none_read, page_read, map_below}
+use Rattle.fm_rule_steps.proofs.Reading.{eqb_true, eqb_false, says_none, says_page, says_low}
 use Rattle.fm_rule_steps.proofs.Knowing.{own, given_over}
 use Rattle.fm_rule_steps.proofs.Plain.{Made}
 use Rattle.fm_rule_steps.proofs.Sweeping.{ended_now, shut_now, fit, next_here, sweep_on, sweeps_kept, sweeps_more, visits, stays_there, not_wiping, sweep_reads}
@@ -57,14 +57,6 @@ module _ (z : Shape) (me : ℕ) (v : View) (l : v.live ≡ true) (a : ArenaId) (
     abbrev seen : ℕ
     seen = get_or ws map_at 0
 
-    is_map : seen ≡ own_map (r.memory.maps a.slot k)
-    is_map = r.shows.maps a.slot k slot_low low
-
-    -- it names a page of the pool
-    low_map : v.shape ≡ z → seen ≤ v.shape.pages
-    low_map sh = subst (λ (x : Shape). seen ≤ x.pages) (sym sh)
-        (map_below z.pages seen (r.memory.maps a.slot k) is_map (λ p h. (r.pages.mapped_is p a.slot k (r.pages.map_is a.slot k p h)).page))
-
     -- ---- a map word is read
 
     module _ (idle : v.swept ≡ unread) where
@@ -77,11 +69,11 @@ module _ (z : Shape) (me : ℕ) (v : View) (l : v.live ≡ true) (a : ArenaId) (
       looks true e = sweep_reads z me v l a k has ws vs r at map_at (advanced a v.sweeps) unread (visits z me v l a k has ws vs r at)
           (λ q b. nothing_held q b (record v { sweeps = advanced a v.sweeps; swept = unread }) refl refl)
           (sweeps_more z me v l a k has ws vs r at r.memory.page_bits r.memory.maps r.memory.cells r.owners.berth (λ b n h. h)
-          (none_read (r.memory.maps a.slot k) (sym is_map ∙ eqb_true seen 0 e)) low)
+          (says_none z ws vs r a.slot k slot_low low (eqb_true seen 0 e)) low)
           (once_advanced a v.sweeps mine.work.swept_once) tt
       looks false e = sweep_reads z me v l a k has ws vs r at map_at v.sweeps (named a k (seen - 1)) (stays_there z me v l a k has ws vs r at)
           (λ q b. nothing_held q b (record v { sweeps = v.sweeps; swept = named a k (seen - 1) }) refl refl) mine.work.sweeps mine.work.swept_once
-          (next_here z me v l a k has ws vs r at, page_read (r.memory.maps a.slot k) seen is_map (eqb_false seen 0 e))
+          (next_here z me v l a k has ws vs r at, says_page z ws vs r a.slot k slot_low low (eqb_false seen 0 e))
 
     -- ---- the page is taken from its map word
 
@@ -253,7 +245,7 @@ module _ (z : Shape) (me : ℕ) (v : View) (a : ArenaId) (i : ℕ) (l : v.live �
   look_map_steps sh low idle = record {
     may = λ ws vs r at.
         let g = looks z me v l a i has ws vs r at low idle (get_or ws (place_at z (map a.slot i)) 0 == 0) refl in
-        (g.0, g.1, record { gives = g.2; learns = low_map z me v l a i has ws vs r at low sh });
+        (g.0, g.1, record { gives = g.2; learns = says_low z ws vs r a.slot i (slot_low z me v l a i has ws vs r at) low sh });
   }
 
   -- it is made 0: the sweep has the page

@@ -11,9 +11,6 @@ loop-init g c = waits
 pub step_back-found-requires-clause-of : goal.step_back-found-requires-clause-of
 step_back-found-requires-clause-of g c = waited_of c.args.pool.now c.loop.invariant c.requires.of
 
-pub step_back-found-requires-clause-known : goal.step_back-found-requires-clause-known
-step_back-found-requires-clause-known g c = c.loop.invariant.known c.args.id c.requires.known
-
 pub step_back-found-requires-clause-handle : goal.step_back-found-requires-clause-handle
 step_back-found-requires-clause-handle g c = subst (λ (x : View). In c.args.id x.handles) (sym c.loop.invariant.is) c.requires.has
 

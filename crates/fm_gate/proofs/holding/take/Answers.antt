@@ -8,9 +8,6 @@ loop-init g c = waits
 pub step_hold-found-requires-clause-of : goal.step_hold-found-requires-clause-of
 step_hold-found-requires-clause-of g c = waited_of c.args.pool.now c.loop.invariant c.requires.of
 
-pub step_hold-found-requires-clause-known : goal.step_hold-found-requires-clause-known
-step_hold-found-requires-clause-known g c = c.loop.invariant.known c.args.id c.requires.known
-
 pub step_hold-found-requires-clause-may : goal.step_hold-found-requires-clause-may
 step_hold-found-requires-clause-may g c = waited_may c.args.id c.loop.invariant c.requires.may
 

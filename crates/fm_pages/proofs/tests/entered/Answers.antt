@@ -8,7 +8,7 @@ use Rattle.fm_base.proofs.Lookup.{has_arena-opened}
 use Rattle.fm_base.proofs.Making.{state_after-append}
 use Rattle.fm_rule_facts.specs.Steps.{Stepped, none_noted}
 use Rattle.fm_rule_facts.specs.Views.{View, IsKnown, limit_of}
-use Rattle.fm_rule_calls.proofs.Going.{goes_of, known_on, no_draws}
+use Rattle.fm_rule_calls.proofs.Going.{goes_step, known_on, no_draws}
 use Rattle.fm_pages.proofs.tests.entered.Goals as goal
 
 -- an arena that was opened is known
@@ -25,6 +25,5 @@ step_mark-requires-clause-known g c = opened_known c.step_open-opened.result c.s
 
 pub step_check-requires-clause-known : goal.step_check-requires-clause-known
 step_check-requires-clause-known g c =
-    known_on (goes_of c.step_mark.ensures
-    (record { shape = refl; home = refl; caller = refl; gathered = refl; whole = refl; number = refl; inside = refl }) refl no_draws)
+    known_on (goes_step c.step_mark.ensures refl refl refl no_draws)
     c.step_open-opened.result (opened_known c.step_open-opened.result c.step_open-opened.ensures.stepped)
