@@ -1,7 +1,7 @@
 ghost use Rattle.std.specs.Prelude.{◌≡◌, None};
 
 use crate::arena::Arena;
-use fm_base::{ArenaId, Caller, Kind, Memory, Refusal};
+use fm_base::{ArenaId, Caller, Kind, Memory, OrRefused, Refusal};
 use fm_close::close;
 use fm_gate::{
     Hold, add, allocate, enter, hold, is_alive, leave, load, open_arena, patch, store, swap_if,
@@ -167,7 +167,7 @@ impl<'a> Memory for Shared<'a> {
 
     /// As the trait says; and it isn't `Closed` where the pass has a hold or a handle of the arena.
     #[inline(always)]
-    fn enter(&mut self, id: ArenaId) -> Result<(), Refusal>
+    fn enter(&mut self, id: ArenaId) -> OrRefused<()>
         requires { CanVisit (view_of_pass self.old) id }
         ensures enters { AfterEnter (view_of_pass self.old) (view_of_pass self.new) id result }
         ensures held { In id (grips id self.old) → result ≢ Err Closed }
@@ -204,7 +204,7 @@ impl<'a> Memory for Shared<'a> {
 
     /// As the trait says; and a pass that is known to be whole gets `NoSlot` exactly where every slot is busy. The step
     /// that found no slot had seen no more than the pass has seen afterwards.
-    fn open_arena<R: Wait>(&mut self, rt: &R, kind: Kind) -> Result<ArenaId, Refusal>
+    fn open_arena<R: Wait>(&mut self, rt: &R, kind: Kind) -> OrRefused<ArenaId>
         requires { CanOpen (view_of_pass self.old) kind }
         ensures opens { Opens self.old self.new kind result }
         ensures exact { OpensExactly self.old self.new result }
@@ -215,13 +215,7 @@ impl<'a> Memory for Shared<'a> {
     /// As the trait says; and it isn't `Closed` where the pass has a hold or a handle of the arena. `PoolFull` only where
     /// each word of page bits was 0 at a step, and after the last Lend a part of the range had no page; a pass that is
     /// known to be whole gets it exactly where fewer pages are left than parts of the range have none.
-    fn allocate<R: Wait>(
-        &mut self,
-        rt: &R,
-        id: ArenaId,
-        size: u64,
-        align: u64,
-    ) -> Result<u64, Refusal>
+    fn allocate<R: Wait>(&mut self, rt: &R, id: ArenaId, size: u64, align: u64) -> OrRefused<u64>
         requires { CanVisit (view_of_pass self.old) id }
         ensures allocates { Allocates self.old self.new id size align result }
         ensures held { In id (grips id self.old) → result ≢ Err Closed }
@@ -231,7 +225,7 @@ impl<'a> Memory for Shared<'a> {
     }
 
     /// As the trait says; and an arena that was closed has ended, and no word of the pool is lent to it any more.
-    fn close<R: Wait>(&mut self, rt: &R, id: ArenaId) -> Result<(), Refusal>
+    fn close<R: Wait>(&mut self, rt: &R, id: ArenaId) -> OrRefused<()>
         requires { CanVisit (view_of_pass self.old) id }
         ensures closes { AfterClose (view_of_pass self.old) (view_of_pass self.new) id result }
         ensures gone { IfOk result (λ _. IsGone self.new id) }

@@ -1,5 +1,5 @@
 use crate::turn::Turn;
-use fm_base::{ArenaId, Caller, Kind, Memory, Refusal};
+use fm_base::{ArenaId, Caller, Kind, Memory, OrRefused};
 use std::sync::Wait;
 
 /// A memory before whose calls somebody else has a turn.
@@ -70,7 +70,7 @@ impl<M: Memory, T: Turn> Memory for Braided<M, T> {
         self.memory.caller()
     }
 
-    fn enter(&mut self, id: ArenaId) -> Result<(), Refusal>
+    fn enter(&mut self, id: ArenaId) -> OrRefused<()>
         requires { CanVisit (beside (M.view self.old.memory)) id }
         ensures does { AfterEnter (beside (M.view self.old.memory)) (beside (M.view self.new.memory)) id result }
         ensures turn { HadTurn T.turns self.old.turn self.old.calls self.new.turn self.new.calls }
@@ -137,21 +137,15 @@ impl<M: Memory, T: Turn> Memory for Braided<M, T> {
         self.memory.leave();
     }
 
-    fn open_arena<R: Wait>(&mut self, rt: &R, kind: Kind) -> Result<ArenaId, Refusal> {
+    fn open_arena<R: Wait>(&mut self, rt: &R, kind: Kind) -> OrRefused<ArenaId> {
         self.memory.open_arena(rt, kind)
     }
 
-    fn allocate<R: Wait>(
-        &mut self,
-        rt: &R,
-        id: ArenaId,
-        size: u64,
-        align: u64,
-    ) -> Result<u64, Refusal> {
+    fn allocate<R: Wait>(&mut self, rt: &R, id: ArenaId, size: u64, align: u64) -> OrRefused<u64> {
         self.memory.allocate(rt, id, size, align)
     }
 
-    fn close<R: Wait>(&mut self, rt: &R, id: ArenaId) -> Result<(), Refusal> {
+    fn close<R: Wait>(&mut self, rt: &R, id: ArenaId) -> OrRefused<()> {
         self.memory.close(rt, id)
     }
 

@@ -36,7 +36,7 @@ pub use laws::{
     zero_past_given,
 };
 pub use memory::Memory;
-pub use refusal::Refusal;
+pub use refusal::{OrRefused, Refusal};
 
 #[cfg(test)]
 mod tests;

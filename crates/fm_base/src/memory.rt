@@ -8,7 +8,7 @@ ghost use Rattle.fm_base.specs.Outcomes.{Nature};
 use crate::arena_id::ArenaId;
 use crate::caller::Caller;
 use crate::kind::Kind;
-use crate::refusal::Refusal;
+use crate::refusal::OrRefused;
 use std::sync::Wait;
 
 /// Arenas as one caller uses them: segments, handles and queries are written over this trait alone.
@@ -37,7 +37,7 @@ pub trait Memory {
     /// Comes into the arena, in which it may act until it leaves.
     ///
     /// Refused, in this order: `WrongThread`, `Closed`. A refused caller stays outside.
-    fn enter(&mut self, id: ArenaId) -> Result<(), Refusal>
+    fn enter(&mut self, id: ArenaId) -> OrRefused<()>
         requires { CanVisit (view self.old) id }
         ensures { AfterEnter (view self.old) (view self.new) id result };
 
@@ -94,7 +94,7 @@ pub trait Memory {
     /// Opens an arena of this kind, alive, of which nothing is given. Its name was never used before.
     ///
     /// Refused: `NoSlot`, or `Memory`. A refused call opens nothing. Automatic arenas are opened otherwise.
-    fn open_arena<R: Wait>(&mut self, rt: &R, kind: Kind) -> Result<ArenaId, Refusal>
+    fn open_arena<R: Wait>(&mut self, rt: &R, kind: Kind) -> OrRefused<ArenaId>
         requires { CanOpen (view self.old) kind }
         ensures { AfterOpen nature (view self.old) (view self.new) kind result };
 
@@ -102,20 +102,14 @@ pub trait Memory {
     ///
     /// Refused, in this order: `BadAlignment`, `WrongThread`, `Closed`, `NoRoom`, `PoolFull`, `Memory`.
     /// A refused call gives nothing.
-    fn allocate<R: Wait>(
-        &mut self,
-        rt: &R,
-        id: ArenaId,
-        size: u64,
-        align: u64,
-    ) -> Result<u64, Refusal>
+    fn allocate<R: Wait>(&mut self, rt: &R, id: ArenaId, size: u64, align: u64) -> OrRefused<u64>
         requires { CanVisit (view self.old) id }
         ensures { AfterAllocate nature (view self.old) (view self.new) id size align result };
 
     /// Ends the arena, once nobody is under way in it.
     ///
     /// Refused, in this order: `CannotClose`, `WrongThread`, `Closed`, `Held`. A refused call changes nothing.
-    fn close<R: Wait>(&mut self, rt: &R, id: ArenaId) -> Result<(), Refusal>
+    fn close<R: Wait>(&mut self, rt: &R, id: ArenaId) -> OrRefused<()>
         requires { CanVisit (view self.old) id }
         ensures { AfterClose (view self.old) (view self.new) id result };
 

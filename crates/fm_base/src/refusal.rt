@@ -82,6 +82,9 @@ pub enum Refusal {
     Memory,
 }
 
+/// What a call answers that may be refused.
+pub type OrRefused<T> = Result<T, Refusal>;
+
 impl From<AllocError> for Refusal {
     ghost use Rattle.std.specs.Prelude.{◌≡◌};
     ghost use Rattle.fm_base.specs.declared.refusal.Refusal.TheVariants.{Memory};

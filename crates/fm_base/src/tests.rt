@@ -19,15 +19,20 @@ fn refusals_print_their_number_and_arguments(rt: HostRuntime) -> Result<(), Fail
     Ok(())
 }
 
-#[test]
-fn a_name_differs_in_each_part(rt: HostRuntime) {
-    let a = ArenaId {
+/// A name of caller 3 in term 4.
+fn name(kind: Kind) -> ArenaId {
+    ArenaId {
         slot: 1,
         generation: 2,
-        kind: Kind::Shared,
+        kind,
         owner: 3,
         term: 4,
-    };
+    }
+}
+
+#[test]
+fn a_name_differs_in_each_part(rt: HostRuntime) {
+    let a = name(Kind::Shared);
     let others = [
         ArenaId { slot: 0, ..a },
         ArenaId { generation: 0, ..a },
@@ -54,13 +59,7 @@ fn kinds_say_who_may_use_an_arena_and_who_ends_it(rt: HostRuntime) {
         (Kind::Shared, true, true),
     ];
     for (kind, closable, open_to_all) in rows {
-        let a = ArenaId {
-            slot: 1,
-            generation: 2,
-            kind,
-            owner: owner.number,
-            term: owner.term,
-        };
+        let a = name(kind);
         assert_eq!(rt; kind.is_closable(), closable);
         assert_eq!(rt; a.is_confined(), !open_to_all);
         assert!(rt; a.may_be_used_by(owner));

@@ -1,8 +1,15 @@
 -- A text that is written piece by piece.
-use Rattle.std.proofs.Common.{◌≡◌, ℕ, ◌+◌, ◌-◌, List, ◌++◌, length, take, drop, Option, None, Some, ap, sym, ◌∙◌, append_assoc, length-drop}
+use Rattle.std.proofs.Common.{◌≡◌, ℕ, ◌+◌, ◌-◌, ◌≤◌, List, ◌++◌, length, take, drop, Option, None, Some, ap, sym, ◌∙◌, append_assoc, length-drop}
 use Rattle.std.specs.Option.{option_map}
 use Rattle.std.proofs.Math.Seq.{take-add, take-length}
-use Rattle.fm_io.specs.Sink.{Appends}
+use Rattle.fm_io.specs.Count.{Counts, Raised}
+use Rattle.fm_io.specs.Sink.{Appends, SinkView}
+
+-- the text's first bytes were written
+pub record IsWriting (old new : SinkView) (text : List ℕ) (taken : ℕ) : Type 0 where
+  pub within : taken ≤ length text
+  pub written : Appends old.written new.written (take taken text)
+  pub counted : Counts Raised ⊥ old.faults new.faults
 
 -- what was appended in two pieces was appended
 pub Appends-append : (old mid new : Option (List ℕ)) (xs ys : List ℕ) → Appends old mid xs → Appends mid new ys → Appends old new (xs ++ ys)

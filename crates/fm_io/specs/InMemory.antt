@@ -53,10 +53,6 @@ pub record ReadsAsListed (old new : MemFiles) (result : Result Piece Fault) : Ty
 abbrev pub mem_writes : MemSink → Failing
 mem_writes s = s.writes
 
--- the most bytes that a write takes
-abbrev pub write_limit : MemSink → ℕ
-write_limit s = s.most
-
 abbrev pub sure_written : SureSink → List ℕ
 sure_written s = s.written.items
 

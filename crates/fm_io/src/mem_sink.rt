@@ -17,7 +17,7 @@ pub struct MemSink {
 
 impl MemSink {
     ghost use Rattle.fm_io.specs.Failing.{listed_calls, calls_made, calls_failed};
-    ghost use Rattle.fm_io.specs.InMemory.{mem_written, mem_writes, write_limit};
+    ghost use Rattle.fm_io.specs.InMemory.{mem_written, mem_writes};
 
     /// The writes whose numbers, from 0, are in `failing` fail. Each other write takes its whole piece.
     pub fn new(alloc: Global, failing: Vec<u64>) -> MemSink
@@ -25,7 +25,7 @@ impl MemSink {
         ensures listed { listed_calls (mem_writes result) ≡ failing.items }
         ensures made { calls_made (mem_writes result) ≡ 0 }
         ensures failed { calls_failed (mem_writes result) ≡ 0 }
-        ensures limit { write_limit result ≡ usize.MAX }
+        ensures limit { result.most ≡ usize.MAX }
     {
         MemSink {
             written: Vec::new(alloc),
@@ -39,7 +39,7 @@ impl MemSink {
         requires { 0 < n }
         ensures written { mem_written result ≡ mem_written self }
         ensures writes { mem_writes result ≡ mem_writes self }
-        ensures limit { write_limit result ≡ n }
+        ensures limit { result.most ≡ n }
     {
         self.most = n;
         self
@@ -55,7 +55,7 @@ impl MemSink {
 
 impl Sink for MemSink {
     ghost use Rattle.fm_io.specs.Failing.{calls_failed};
-    ghost use Rattle.fm_io.specs.InMemory.{FailsAsListed, mem_written, mem_writes, write_limit};
+    ghost use Rattle.fm_io.specs.InMemory.{FailsAsListed, mem_written, mem_writes};
 
     ghost view = { λ s. record { written = Some (mem_written s); faults = calls_failed (mem_writes s) } };
 
@@ -65,10 +65,10 @@ impl Sink for MemSink {
         // It fails exactly where the call is one of those listed.
         ensures fails { FailsAsListed (mem_writes self.old) (mem_writes self.new) result }
         ensures bytes { IfOk result (λ n. (0 < n) × (n ≤ length piece.now)) }
-        ensures most { IfOk result (λ n. n ≤ write_limit self.old) }
+        ensures most { IfOk result (λ n. n ≤ self.old.most) }
         ensures took { TookPiece (Some (mem_written self.old)) (Some (mem_written self.new))
             piece.now result }
-        ensures limit { write_limit self.new ≡ write_limit self.old }
+        ensures limit { self.new.most ≡ self.old.most }
     {
         if self.writes.counts_call() {
             return Err(Fault::Failed);

@@ -3,7 +3,7 @@ ghost use Rattle.fm_memory_tests.specs.Heard.{inside_by};
 
 use crate::heard::Heard;
 use crate::others::Others;
-use fm_base::{ArenaId, Caller, Kind, Memory, Refusal};
+use fm_base::{ArenaId, Caller, Kind, Memory, OrRefused, Refusal};
 use fm_mono::Mono;
 use std::alloc::Global;
 use std::marker::Model;
@@ -152,7 +152,7 @@ impl<'a, H: Wait> Memory for Double<'a, H> {
         self.mono.caller()
     }
 
-    fn enter(&mut self, id: ArenaId) -> Result<(), Refusal> {
+    fn enter(&mut self, id: ArenaId) -> OrRefused<()> {
         self.come_before(id);
         let answer = self.mono.enter(id);
         hear(self.rt, &mut self.heard, Heard::Enter(id, answer));
@@ -208,26 +208,20 @@ impl<'a, H: Wait> Memory for Double<'a, H> {
         self.inside = None;
     }
 
-    fn open_arena<R: Wait>(&mut self, rt: &R, kind: Kind) -> Result<ArenaId, Refusal> {
+    fn open_arena<R: Wait>(&mut self, rt: &R, kind: Kind) -> OrRefused<ArenaId> {
         let answer = self.mono.open_arena(rt, kind);
         hear(self.rt, &mut self.heard, Heard::Open(answer));
         answer
     }
 
-    fn allocate<R: Wait>(
-        &mut self,
-        rt: &R,
-        id: ArenaId,
-        size: u64,
-        align: u64,
-    ) -> Result<u64, Refusal> {
+    fn allocate<R: Wait>(&mut self, rt: &R, id: ArenaId, size: u64, align: u64) -> OrRefused<u64> {
         let answer = self.mono.allocate(rt, id, size, align);
         let given = Heard::Allocate(id, size, align, answer);
         hear(self.rt, &mut self.heard, given);
         answer
     }
 
-    fn close<R: Wait>(&mut self, rt: &R, id: ArenaId) -> Result<(), Refusal> {
+    fn close<R: Wait>(&mut self, rt: &R, id: ArenaId) -> OrRefused<()> {
         let answer = self.mono.close(rt, id);
         let caller = self.mono.caller();
         hear(self.rt, &mut self.heard, Heard::Close(caller, id, answer));

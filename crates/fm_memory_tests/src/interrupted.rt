@@ -1,7 +1,7 @@
 #![tactic(auto, using(crate::proofs::Passing::beside_ours))]
 
 use fm_arena::Shared;
-use fm_base::{ArenaId, Caller, Kind, Memory, Refusal};
+use fm_base::{ArenaId, Caller, Kind, Memory, OrRefused};
 use std::marker::Model;
 use std::sync::Wait;
 
@@ -73,7 +73,7 @@ impl<'a, H: Wait> Memory for Interrupted<'a, H> {
         self.ours.caller()
     }
 
-    fn enter(&mut self, id: ArenaId) -> Result<(), Refusal> {
+    fn enter(&mut self, id: ArenaId) -> OrRefused<()> {
         self.come_before(id);
         self.ours.enter(id)
     }
@@ -102,21 +102,15 @@ impl<'a, H: Wait> Memory for Interrupted<'a, H> {
         self.ours.leave();
     }
 
-    fn open_arena<R: Wait>(&mut self, rt: &R, kind: Kind) -> Result<ArenaId, Refusal> {
+    fn open_arena<R: Wait>(&mut self, rt: &R, kind: Kind) -> OrRefused<ArenaId> {
         self.ours.open_arena(rt, kind)
     }
 
-    fn allocate<R: Wait>(
-        &mut self,
-        rt: &R,
-        id: ArenaId,
-        size: u64,
-        align: u64,
-    ) -> Result<u64, Refusal> {
+    fn allocate<R: Wait>(&mut self, rt: &R, id: ArenaId, size: u64, align: u64) -> OrRefused<u64> {
         self.ours.allocate(rt, id, size, align)
     }
 
-    fn close<R: Wait>(&mut self, rt: &R, id: ArenaId) -> Result<(), Refusal> {
+    fn close<R: Wait>(&mut self, rt: &R, id: ArenaId) -> OrRefused<()> {
         self.ours.close(rt, id)
     }
 

@@ -1,10 +1,9 @@
-ghost use Rattle.std.specs.Prelude.{◌≡◌, ◌+◌, ◌++◌, ◌∷◌, [], length, OnOk, OnErr, IfErr, IsTrue, ◌↔◌};
+ghost use Rattle.std.specs.Prelude.{◌≡◌, ◌+◌, ◌++◌, ◌∷◌, [], length, OnOk, OnErr, IsTrue, ◌↔◌};
 ghost use Rattle.fm_path_meaning.specs.Walk.{with_dim};
 ghost use Rattle.fm_path.specs.Wide.{wide_dims};
 
-use fm_base::Refusal;
 use fm_path_meaning::Dim;
-use std::alloc::Global;
+use std::alloc::{AllocError, Global};
 use std::marker::Model;
 
 /// The dims of a resolved path, in the order of its open steps, seen as their list.
@@ -38,26 +37,22 @@ impl Dims {
         }
     }
 
-    /// Adds a dim at the end. Refused: `Memory`, which leaves the dims as they were.
-    pub fn push(&mut self, dim: Dim) -> Result<(), Refusal>
+    /// Adds a dim at the end. Want of memory leaves the dims as they were.
+    pub fn push(&mut self, dim: Dim) -> Result<(), AllocError>
         ensures ok { OnOk result (self.new ≡ self.old ++ dim ∷ []) }
         ensures same { OnErr result (self.new ≡ self.old) }
-        ensures memory { IfErr result (λ refusal. refusal ≡ Refusal.Memory) }
     {
-        if self.items.push(dim).is_err() {
-            return Err(Refusal::Memory);
-        }
+        self.items.push(dim)?;
         if dim.bound != 1 && self.wide.push(dim).is_err() {
             let _last = self.items.pop();
-            return Err(Refusal::Memory);
+            return Err(AllocError);
         }
         Ok(())
     }
 
     /// Adds the dim at the end, if there is one.
-    pub(crate) fn add(&mut self, dim: Option<Dim>) -> Result<(), Refusal>
-        ensures ok { OnOk result (self.new ≡ self.old ++ with_dim dim []) }
-        ensures memory { IfErr result (λ refusal. refusal ≡ Refusal.Memory) }
+    pub(crate) fn add(&mut self, dim: Option<Dim>) -> Result<(), AllocError>
+        ensures { OnOk result (self.new ≡ self.old ++ with_dim dim []) }
     {
         match dim {
             None => Ok(()),

@@ -11,7 +11,7 @@ ghost use Rattle.fm_path.specs.Noted.{is_new, Notes, step_by};
 use fm_base::Refusal;
 use fm_lanes::{Order, ValueKind};
 use fm_layout::{Form, Layout};
-use std::alloc::Global;
+use std::alloc::{AllocError, Global};
 use std::collections::BTreeSet;
 
 /// The layout's size and alignment in bytes, and then a line for each of its values in their order: the path to it,
@@ -39,10 +39,9 @@ fn list(
     at: u128,
     dims: &str,
     layout: &Layout,
-) -> Result<(), Refusal>
+) -> Result<(), AllocError>
     requires { at ≤ 2 ^ 40 * length path.now }
-    ensures text { OnOk result (Adds text.old text.new (listed path.now at dims.now layout.now)) }
-    ensures memory { IfErr result (λ refusal. refusal ≡ Refusal.Memory) }
+    ensures { OnOk result (Adds text.old text.new (listed path.now at dims.now layout.now)) }
 {
     match layout.form() {
         Form::Value(kind, order) => list_value(alloc, text, path, at, dims, kind, order),
@@ -63,11 +62,10 @@ fn list_element(
     dims: &str,
     layout: &Layout,
     count: u64,
-) -> Result<(), Refusal>
+) -> Result<(), AllocError>
     requires at { at ≤ 2 ^ 40 * length path.now }
     requires form { Form.Sequence count ≡ form_of layout.now }
-    ensures text { OnOk result (Adds text.old text.new (listed path.now at dims.now layout.now)) }
-    ensures memory { IfErr result (λ refusal. refusal ≡ Refusal.Memory) }
+    ensures { OnOk result (Adds text.old text.new (listed path.now at dims.now layout.now)) }
 {
     let Some(element) = layout.element() else {
         return Ok(());
@@ -87,11 +85,10 @@ fn list_members(
     dims: &str,
     layout: &Layout,
     count: u64,
-) -> Result<(), Refusal>
+) -> Result<(), AllocError>
     requires at { at ≤ 2 ^ 40 * length path.now }
     requires count { Some count ≡ count_in (members_of layout.now) }
-    ensures text { OnOk result (Adds text.old text.new (listed path.now at dims.now layout.now)) }
-    ensures memory { IfErr result (λ refusal. refusal ≡ Refusal.Memory) }
+    ensures { OnOk result (Adds text.old text.new (listed path.now at dims.now layout.now)) }
 {
     let _size = layout.size();
     let mut names = BTreeSet::new(alloc);
@@ -117,37 +114,31 @@ fn list_value(
     dims: &str,
     kind: ValueKind,
     order: Order,
-) -> Result<(), Refusal>
-    ensures text { OnOk result (Adds text.old text.new (value_text (shown path.now) at kind order dims.now)) }
-    ensures memory { IfErr result (λ refusal. refusal ≡ Refusal.Memory) }
+) -> Result<(), AllocError>
+    ensures { OnOk result (Adds text.old text.new (value_text (shown path.now) at kind order dims.now)) }
 {
     let path = if path.is_empty() { "." } else { path };
     let kind = kind.name();
     let order = order.name();
     let line = format!(in alloc; "{path} {at} {kind} {order}{dims}\n")?;
-    Ok(text.push_str(&line)?)
+    text.push_str(&line)
 }
 
 /// The path of a sequence's elements.
-fn element_path(alloc: Global, path: &str) -> Result<String, Refusal>
-    ensures text { IfOk result (Goes path.now (codes "[]")) }
-    ensures memory { IfErr result (λ refusal. refusal ≡ Refusal.Memory) }
+fn element_path(alloc: Global, path: &str) -> Result<String, AllocError>
+    ensures { IfOk result (Goes path.now (codes "[]")) }
 {
-    Ok(format!(in alloc; "{path}[]")?)
+    format!(in alloc; "{path}[]")
 }
 
 /// Notes the member's name, and tells whether it is the first of that name.
 #[tactic(auto, using(crate::proofs::Noted::noted))]
-fn note<'a>(names: &mut BTreeSet<&'a str, Global>, member: &'a Layout) -> Result<bool, Refusal>
+fn note<'a>(names: &mut BTreeSet<&'a str, Global>, member: &'a Layout) -> Result<bool, AllocError>
     ensures first { IfOk result (λ first. first ≡ is_new names.old (name_of member.now)) }
     ensures noted { OnOk result (Notes names.old names.new (name_of member.now)) }
-    ensures memory { IfErr result (λ refusal. refusal ≡ Refusal.Memory) }
 {
     match member.name() {
-        Some(name) => match names.insert(name) {
-            Ok(first) => Ok(first),
-            Err(_) => Err(Refusal::Memory),
-        },
+        Some(name) => Ok(names.insert(name)?),
         None => Ok(false),
     }
 }
@@ -159,10 +150,9 @@ fn member_path(
     i: u64,
     member: &Layout,
     first: bool,
-) -> Result<String, Refusal>
+) -> Result<String, AllocError>
     ensures text { IfOk result (Goes path.now (piece_of (step_by first i (name_of member.now)))) }
     ensures longer { IfOk result (λ inner. length path.now < length (string_bytes inner)) }
-    ensures memory { IfErr result (λ refusal. refusal ≡ Refusal.Memory) }
 {
     match member.name() {
         Some(name) if first => named_path(alloc, path, name),
@@ -170,18 +160,16 @@ fn member_path(
     }
 }
 
-fn named_path(alloc: Global, path: &str, name: &str) -> Result<String, Refusal>
-    ensures text { IfOk result (Goes path.now (codes "." ++ name.now)) }
-    ensures memory { IfErr result (λ refusal. refusal ≡ Refusal.Memory) }
+fn named_path(alloc: Global, path: &str, name: &str) -> Result<String, AllocError>
+    ensures { IfOk result (Goes path.now (codes "." ++ name.now)) }
 {
-    Ok(format!(in alloc; "{path}.{name}")?)
+    format!(in alloc; "{path}.{name}")
 }
 
-fn numbered_path(alloc: Global, path: &str, i: u64) -> Result<String, Refusal>
-    ensures text { IfOk result (Goes path.now (codes ".#" ++ decimal i)) }
-    ensures memory { IfErr result (λ refusal. refusal ≡ Refusal.Memory) }
+fn numbered_path(alloc: Global, path: &str, i: u64) -> Result<String, AllocError>
+    ensures { IfOk result (Goes path.now (codes ".#" ++ decimal i)) }
 {
-    Ok(format!(in alloc; "{path}.#{i}")?)
+    format!(in alloc; "{path}.#{i}")
 }
 
 /// The bytes from a group's member to the next one.

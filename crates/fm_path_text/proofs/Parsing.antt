@@ -2,7 +2,8 @@
 use Rattle.std.proofs.Common.{◌≡◌, sym, ap, ℕ, ◌+◌, ◌<◌, ◌≤◌, Some, None, List, length, take, get_or, arith, ◌∙◌}
 use Rattle.std.proofs.lemmas.List.{take_all}
 use Rattle.fm_path_text.specs.declared.step.PathStep.{PathStep}
-use Rattle.fm_path_text.specs.Grammar.{IsTextOf, BeginsUpTo}
+use Rattle.fm_path_text.specs.Grammar.{IsPath, IsTextOf, path_text}
+use Rattle.fm_path_text.specs.Language.{BeginsUpTo}
 use Rattle.fm_path_text.specs.Reader.{sign_of, next, spot, moved, reads, onward, run, start, whole, IsBounded}
 use Rattle.fm_path_text.specs.declared.part.Part.{Part}
 use Rattle.fm_path_text.specs.declared.part.Part.TheVariants.{Between, Dot, Hash, Open, Up, Down}
@@ -57,7 +58,7 @@ stays text i ds es q r h e f = reading text (i + 1) es r (h ∙ ap (λ x. Some (
 
 -- where the reader dies the longest prefix ends
 pub ends_at : (text : List ℕ) (i : ℕ) (ds : List PathStep) (p : Part) → IsReading text i ds p → i < length text → run (take (i + 1) text) start ≡ None
-    → BeginsUpTo i text
+    → BeginsUpTo IsPath path_text i text
 ends_at text i ds p h lt e = leaves_at reader text i lt (begins (take i text) ds p h.there) e
 
 -- after the last byte the whole text was read
@@ -73,7 +74,7 @@ is_found text i ds qs p h le w =
 
 -- a text whose last piece isn't whole begins a path's text as far as it goes
 pub ends_all : (text : List ℕ) (i : ℕ) (ds : List PathStep) (p : Part) → IsReading text i ds p → length text ≤ i → whole ds p ≡ None
-    → BeginsUpTo (length text) text
+    → BeginsUpTo IsPath path_text (length text) text
 ends_all text i ds p h le w =
     let e = at_end text i ds p h le in
     leaves_behind reader text (spot ds p) (begins text ds p e) e w

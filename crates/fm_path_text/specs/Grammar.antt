@@ -61,10 +61,6 @@ pub record IsTextOf (text : List ℕ) (path : List PathStep) : Type 0 where
 abbrev pub Begins : List ℕ → Type 0
 Begins = language.Begins IsPath path_text
 
--- the longest prefix of the text that begins some path's text has this length, and the text is no path's
-abbrev pub BeginsUpTo : ℕ → List ℕ → Type 0
-BeginsUpTo = language.BeginsUpTo IsPath path_text
-
 -- what reading a path's text may answer in place of the path
 abbrev pub IsNoPath : List ℕ → Refusal → Type 0
 IsNoPath = language.IsNoText IsPath path_text

@@ -1,4 +1,4 @@
-ghost use Rattle.std.specs.Prelude.{◌≡◌, ℕ, ◌<◌, ◌≤◌, ◌++◌, ◌∷◌, ◌||◌, [], pos, neg_ℤ, IfOk, IfErr, IsTrue, length};
+ghost use Rattle.std.specs.Prelude.{◌≡◌, ℕ, ◌<◌, ◌≤◌, ◌++◌, ◌∷◌, ◌||◌, [], pos, neg_ℤ, IfOk, IsTrue, length};
 ghost use Rattle.fm_layout.specs.Name.{is_letter, is_digit};
 ghost use Rattle.fm_path_text.specs.Grammar.{most_number, most_pieces};
 ghost use Rattle.fm_path_text.specs.Reader.{longer_number, next, next_in_brackets, opens, closes, spells, IsSound, IsBounded, whole, Holds};
@@ -6,7 +6,7 @@ ghost use Rattle.fm_path_text.specs.Reader.{longer_number, next, next_in_bracket
 use crate::name_text::NameText;
 use crate::sign::Sign;
 use crate::step::PathStep;
-use fm_base::Refusal;
+use std::alloc::AllocError;
 
 /// What has been read of a piece of a path's text.
 #[derive(Debug, Drop)]
@@ -118,9 +118,8 @@ impl Part {
     }
 
     /// The path of these whole pieces and this part of one more, if the text may end here.
-    pub fn finish(self, path: Vec<PathStep>) -> Result<Option<Vec<PathStep>>, Refusal>
-        ensures whole { IfOk result (λ found. Holds found (whole path.items self)) }
-        ensures memory { IfErr result (λ refusal. refusal ≡ Refusal.Memory) }
+    pub fn finish(self, path: Vec<PathStep>) -> Result<Option<Vec<PathStep>>, AllocError>
+        ensures { IfOk result (λ found. Holds found (whole path.items self)) }
     {
         match self {
             Part::Dot => Ok(if path.is_empty() { Some(path) } else { None }),
@@ -133,14 +132,11 @@ impl Part {
 }
 
 /// The path with one step more.
-fn with_step(mut path: Vec<PathStep>, step: PathStep) -> Result<Option<Vec<PathStep>>, Refusal>
-    ensures longer { IfOk result (λ found. Holds found (Some (path.items ++ step ∷ []))) }
-    ensures memory { IfErr result (λ refusal. refusal ≡ Refusal.Memory) }
+fn with_step(mut path: Vec<PathStep>, step: PathStep) -> Result<Option<Vec<PathStep>>, AllocError>
+    ensures { IfOk result (λ found. Holds found (Some (path.items ++ step ∷ []))) }
 {
-    match path.push(step) {
-        Ok(()) => Ok(Some(path)),
-        Err(_) => Err(Refusal::Memory),
-    }
+    path.push(step)?;
+    Ok(Some(path))
 }
 
 /// The first byte of a piece, if there may be one more piece.

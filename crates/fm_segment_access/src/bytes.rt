@@ -6,7 +6,7 @@ ghost use Rattle.fm_segment_access.specs.Runs.{DoesPutNext};
 use crate::piece::{piece_width, put_piece};
 use crate::words::put_words;
 use byteorder::{ByteOrder, LittleEndian};
-use fm_base::{ArenaId, Memory, Refusal};
+use fm_base::{ArenaId, Memory, OrRefused};
 use std::sync::Wait;
 
 /// Puts `bytes` from `place` on. Other bytes stay.
@@ -21,7 +21,7 @@ pub fn put_bytes<R: Wait, M: Memory>(
     arena: ArenaId,
     place: u64,
     bytes: &[u8],
-) -> Result<(), Refusal>
+) -> OrRefused<()>
     requires { CanTouch (M.view m.old) arena place (length bytes.now) }
     ensures { AfterPutAll (M.view m.old) (M.view m.new) arena place bytes.now result }
 {
@@ -43,7 +43,7 @@ fn put_next<R: Wait, M: Memory>(
     arena: ArenaId,
     at: u64,
     bytes: &[u8],
-) -> Result<usize, Refusal>
+) -> OrRefused<usize>
     requires touch { CanTouch (M.view m.old) arena at (length bytes.now) }
     requires some { 0 < length bytes.now }
     ensures did { Visited (M.view m.old) (M.view m.new)

@@ -5,7 +5,7 @@ ghost use Rattle.fm_segment_access.specs.Learnt.{CanTouchNumber, AfterGet, After
 ghost use Rattle.fm_segment_access.specs.Ranges.{DoesGet, DoesPut};
 
 use crate::piece::{get_piece, piece_width, put_piece};
-use fm_base::{ArenaId, Memory, Refusal};
+use fm_base::{ArenaId, Memory, OrRefused};
 use fm_lanes::read;
 use std::sync::Wait;
 
@@ -13,12 +13,7 @@ use std::sync::Wait;
 ///
 /// Refused, in this order: `WrongThread`, `Closed`. Where the second piece is refused, the first was read.
 #[inline(always)]
-pub fn get_number<M: Memory>(
-    m: &mut M,
-    arena: ArenaId,
-    place: u64,
-    width: u32,
-) -> Result<u64, Refusal>
+pub fn get_number<M: Memory>(m: &mut M, arena: ArenaId, place: u64, width: u32) -> OrRefused<u64>
     requires { CanTouchNumber (M.view m.old) arena place width }
     ensures { AfterGet (M.view m.old) (M.view m.new) arena place width result }
 {
@@ -30,7 +25,7 @@ pub fn get_number<M: Memory>(
 }
 
 /// The same, for a number that crosses a word's end: the piece up to there, and the one behind it.
-fn get_across<M: Memory>(m: &mut M, arena: ArenaId, place: u64, width: u32) -> Result<u64, Refusal>
+fn get_across<M: Memory>(m: &mut M, arena: ArenaId, place: u64, width: u32) -> OrRefused<u64>
     requires touch { CanTouchNumber (M.view m.old) arena place width }
     requires across { 8 < place % 8 + width }
     ensures { Did (M.view m.old) (M.view m.new)
@@ -54,7 +49,7 @@ pub fn put_number<R: Wait, M: Memory>(
     place: u64,
     width: u32,
     number: u64,
-) -> Result<(), Refusal>
+) -> OrRefused<()>
     requires { CanTouchNumber (M.view m.old) arena place width }
     ensures { AfterPut (M.view m.old) (M.view m.new) arena place (bytes_of width number) result }
 {
@@ -74,7 +69,7 @@ fn put_across<R: Wait, M: Memory>(
     place: u64,
     width: u32,
     number: u64,
-) -> Result<(), Refusal>
+) -> OrRefused<()>
     requires { CanTouchNumber (M.view m.old) arena place width }
     ensures { Did (M.view m.old) (M.view m.new)
         (DoesPut (M.view m.old).caller arena place (bytes_of width number) result) }

@@ -5,7 +5,7 @@ ghost use Rattle.fm_base.specs.Does.{CanReach};
 ghost use Rattle.fm_segment_access.specs.Learnt.{CanTouchPiece, Visited};
 ghost use Rattle.fm_segment_access.specs.Pieces.{DoesGetPiece, DoesPutPiece, DoesPutInside};
 
-use fm_base::{ArenaId, Memory, Refusal};
+use fm_base::{ArenaId, Memory, OrRefused};
 use fm_lanes::{bits, mask, read};
 use std::sync::Wait;
 
@@ -24,12 +24,7 @@ pub fn piece_width(place: u64, end: u64) -> u32
 ///
 /// Refused, in this order: `WrongThread`, `Closed`.
 #[inline(always)]
-pub fn get_piece<M: Memory>(
-    m: &mut M,
-    arena: ArenaId,
-    place: u64,
-    width: u32,
-) -> Result<u64, Refusal>
+pub fn get_piece<M: Memory>(m: &mut M, arena: ArenaId, place: u64, width: u32) -> OrRefused<u64>
     requires { CanTouchPiece (M.view m.old) arena place width }
     ensures { Visited (M.view m.old) (M.view m.new)
         (DoesGetPiece (M.view m.old).caller arena place width result) }
@@ -70,7 +65,7 @@ pub fn put_piece<R: Wait, M: Memory>(
     place: u64,
     width: u32,
     v: u64,
-) -> Result<(), Refusal>
+) -> OrRefused<()>
     requires piece { CanTouchPiece (M.view m.old) arena place width }
     requires fits { v < 2 ^ (8 * width) }
     ensures { Visited (M.view m.old) (M.view m.new)

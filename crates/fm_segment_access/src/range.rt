@@ -3,7 +3,7 @@ ghost use Rattle.fm_base_bytes.specs.Bytes.{bytes_of};
 ghost use Rattle.fm_segment_access.specs.Learnt.{CanTouch, AfterFill};
 
 use crate::piece::{piece_width, put_piece};
-use fm_base::{ArenaId, Memory, Refusal};
+use fm_base::{ArenaId, Memory, OrRefused};
 use fm_lanes::read;
 use std::sync::Wait;
 
@@ -27,7 +27,7 @@ pub fn fill<R: Wait, M: Memory>(
     place: u64,
     size: u64,
     byte: u8,
-) -> Result<(), Refusal>
+) -> OrRefused<()>
     requires { CanTouch (M.view m.old) arena place size }
     ensures { AfterFill (M.view m.old) (M.view m.new) arena place size byte result }
 {

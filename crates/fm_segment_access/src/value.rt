@@ -3,7 +3,7 @@ ghost use Rattle.fm_lanes.specs.Value.{kind_of};
 ghost use Rattle.fm_segment_access.specs.Learnt.{CanTouch, AfterGetValue, AfterPutValue};
 
 use crate::number::{get_number, put_number};
-use fm_base::{ArenaId, Memory, Refusal};
+use fm_base::{ArenaId, Memory, OrRefused};
 use fm_lanes::{Order, Value, ValueKind, decode, encode, turned};
 use std::sync::Wait;
 
@@ -18,7 +18,7 @@ pub fn get_value<M: Memory>(
     place: u64,
     kind: ValueKind,
     order: Order,
-) -> Result<Value, Refusal>
+) -> OrRefused<Value>
     requires { CanTouch (M.view m.old) arena place (width_of kind) }
     ensures { AfterGetValue (M.view m.old) (M.view m.new) arena place kind order result }
 {
@@ -40,7 +40,7 @@ fn get_as<M: Memory>(
     place: u64,
     kind: ValueKind,
     order: Order,
-) -> Result<Value, Refusal>
+) -> OrRefused<Value>
     requires { CanTouch (M.view m.old) arena place (width_of kind) }
     ensures { AfterGetValue (M.view m.old) (M.view m.new) arena place kind order result }
 {
@@ -59,7 +59,7 @@ pub fn put_value<R: Wait, M: Memory>(
     place: u64,
     order: Order,
     v: Value,
-) -> Result<(), Refusal>
+) -> OrRefused<()>
     requires { CanTouch (M.view m.old) arena place (width_of (kind_of v)) }
     ensures { AfterPutValue (M.view m.old) (M.view m.new) arena place order v result }
 {

@@ -7,7 +7,7 @@ ghost use Rattle.fm_segment_access.specs.Runs.{DoesPutWords};
 ghost use Rattle.fm_base_bytes.specs.Words.{words_from};
 
 use byteorder::{ByteOrder, LittleEndian};
-use fm_base::{ArenaId, Memory, Refusal};
+use fm_base::{ArenaId, Memory, OrRefused};
 
 /// How many words are made of bytes before they are stored.
 const AT_ONCE: usize = 64;
@@ -21,7 +21,7 @@ pub fn put_words<M: Memory>(
     place: u64,
     count: usize,
     bytes: &[u8],
-) -> Result<(), Refusal>
+) -> OrRefused<()>
     requires touch { CanTouch (M.view m.old) arena place (8 * count) }
     requires even { place % 8 ≡ 0 }
     requires whole { 8 * count ≤ length bytes.now }

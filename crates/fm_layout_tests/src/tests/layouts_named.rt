@@ -1,5 +1,5 @@
 use crate::tests::layouts_read::{nested, read, wide};
-use crate::tests::record::{printed, sale};
+use crate::tests::record::{cut, printed, sale};
 use fm_base::Refusal;
 use fm_layout::Layout;
 use fm_ljson::layout_from_json;
@@ -56,8 +56,8 @@ fn a_ref_stands_for_the_type_that_it_names(rt: HostRuntime) -> Result<(), Fail> 
     let alloc = rt.alloc();
     assert!(rt; is_read(alloc, LINE, LINE_WRITTEN)?);
     for row in READ.lines() {
-        let (types, rest) = row.split_once(" -> ").unwrap_or((row, ""));
-        let (layout, written) = rest.split_once(" -> ").unwrap_or((rest, ""));
+        let (types, rest) = cut(row);
+        let (layout, written) = cut(rest);
         let text = document(alloc, types, layout)?;
         assert!(rt; is_read(alloc, &text, written)?, "at {row}");
     }
@@ -144,7 +144,7 @@ fn nodes_are_numbered_as_they_are_written(rt: HostRuntime) -> Result<(), Fail> {
     let alloc = rt.alloc();
     for row in BAD_NODES.lines() {
         let (node, rest) = row.split_once(' ').unwrap_or(("", row));
-        let (types, layout) = rest.split_once(" -> ").unwrap_or((rest, ""));
+        let (types, layout) = cut(rest);
         let node = node.parse().unwrap_or(u64::MAX);
         let text = document(alloc, types, layout)?;
         assert_eq!(rt;
@@ -176,8 +176,8 @@ const REFUSED: &str = "\
 fn types_are_refused_as_the_constructors_do(rt: HostRuntime) -> Result<(), Fail> {
     let alloc = rt.alloc();
     for row in REFUSED.lines() {
-        let (types, rest) = row.split_once(" -> ").unwrap_or((row, ""));
-        let (layout, refusal) = rest.split_once(" -> ").unwrap_or((rest, ""));
+        let (types, rest) = cut(row);
+        let (layout, refusal) = cut(rest);
         let text = document(alloc, types, layout)?;
         let found = printed(alloc, read(alloc, &text).err())?;
         assert_eq!(rt; found.as_str(), refusal, "at {row}");

@@ -1,4 +1,4 @@
-use crate::tests::record::{printed, sale};
+use crate::tests::record::{cut, printed, sale};
 use fm_base::Refusal;
 use fm_layout::Layout;
 use fm_ljson::layout_from_json;
@@ -58,7 +58,7 @@ fn layout_text(alloc: Global, layout: &Layout) -> Result<String, AllocError> {
 #[test]
 fn reads_each_type_and_key(rt: HostRuntime) -> Result<(), Fail> {
     for row in READ.lines() {
-        let (text, is) = row.split_once(" -> ").unwrap_or((row, ""));
+        let (text, is) = cut(row);
         let layout = read(rt.alloc(), text)?;
         let found = layout_text(rt.alloc(), &layout)?;
         assert_eq!(rt; found.as_str(), is, "at {text}");
@@ -174,7 +174,7 @@ const REFUSED: &str = "\
 #[test]
 fn refuses_as_the_constructors_do(rt: HostRuntime) -> Result<(), Fail> {
     for row in REFUSED.lines() {
-        let (text, refusal) = row.split_once(" -> ").unwrap_or((row, ""));
+        let (text, refusal) = cut(row);
         let found = printed(rt.alloc(), read(rt.alloc(), text).err())?;
         assert_eq!(rt; found.as_str(), refusal, "at {text}");
     }

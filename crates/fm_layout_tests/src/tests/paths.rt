@@ -1,9 +1,10 @@
-use crate::tests::record::{printed, sale};
+use crate::tests::record::{cut, printed, sale};
 use fm_base::Refusal;
 use fm_lanes::{Order, ValueKind};
 use fm_layout::Layout;
 use fm_path::{Dim, byte_offset, list_places, parse_path, resolve};
 use std::alloc::Global;
+use std::process::Abort;
 use std::test::Fail;
 
 /// A struct of two ints of the same name.
@@ -95,7 +96,7 @@ const NO_VALUES: &str = "\
 fn refuses_at_the_first_step(rt: HostRuntime) -> Result<(), Fail> {
     let layout = sale(rt.alloc())?;
     for row in NO_VALUES.lines() {
-        let (text, refusal) = row.split_once(" -> ").unwrap_or((row, ""));
+        let (text, refusal) = cut(row);
         let path = parse_path(rt.alloc(), text)?;
         let found = printed(rt.alloc(), resolve(rt.alloc(), &layout, &path).err())?;
         assert_eq!(rt; found.as_str(), refusal, "at {text}");
@@ -103,10 +104,27 @@ fn refuses_at_the_first_step(rt: HostRuntime) -> Result<(), Fail> {
     Ok(())
 }
 
+/// A path, and what `byte_offset` answers.
+type Offset = (&'static str, Result<u64, Refusal>);
+
+/// Stops where a path's offset in the layout isn't the row's.
+fn has_offsets<R: Abort>(
+    rt: &R,
+    alloc: Global,
+    layout: &Layout,
+    rows: &[Offset],
+) -> Result<(), Fail> {
+    for row in rows {
+        let (text, offset) = *row;
+        let path = parse_path(alloc, text)?;
+        assert_eq!(rt; byte_offset(layout, &path), offset, "at {text}");
+    }
+    Ok(())
+}
+
 #[test]
 fn offsets_of_layouts(rt: HostRuntime) -> Result<(), Fail> {
-    let layout = sale(rt.alloc())?;
-    for (text, offset) in [
+    let rows = [
         (".", Ok(0)),
         (".tags", Ok(16)),
         (".tags[3]", Ok(19)),
@@ -115,24 +133,19 @@ fn offsets_of_layouts(rt: HostRuntime) -> Result<(), Fail> {
         (".id[0:0]", Err(Refusal::StillOpen(1))),
         (".nope[]", Err(Refusal::NoMember(0))),
         (".tags[4]", Err(Refusal::IndexOut(1))),
-    ] {
-        let path = parse_path(rt.alloc(), text)?;
-        assert_eq!(rt; byte_offset(&layout, &path), offset, "at {text}");
-    }
-    Ok(())
+    ];
+    has_offsets(&rt, rt.alloc(), &sale(rt.alloc())?, &rows)
 }
 
 #[test]
 fn the_first_of_a_name_is_meant(rt: HostRuntime) -> Result<(), Fail> {
     let layout = twins(rt.alloc())?;
-    for (text, offset) in [
+    let rows = [
         (".a", Ok(0)),
         (".#1", Ok(4)),
         (".#2", Err(Refusal::NoMember(0))),
-    ] {
-        let path = parse_path(rt.alloc(), text)?;
-        assert_eq!(rt; byte_offset(&layout, &path), offset, "at {text}");
-    }
+    ];
+    has_offsets(&rt, rt.alloc(), &layout, &rows)?;
     let text = list_places(rt.alloc(), &layout)?;
     let expected = "size 8\nalignment 4\n.a 0 int little\n.#1 4 int little\n";
     assert_eq!(rt; text.as_str(), expected);

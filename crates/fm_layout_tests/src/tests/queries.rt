@@ -1,4 +1,4 @@
-use crate::tests::record::{printed, sale};
+use crate::tests::record::{cut, printed, sale};
 use fm_base::Refusal;
 use fm_lanes::ValueKind;
 use fm_layout::Layout;
@@ -174,7 +174,7 @@ sum(.nope),count where .id=x -> 50 27";
 #[test]
 fn refuses_paths_in_their_order(rt: HostRuntime) -> Result<(), Fail> {
     for row in BAD_PATHS.lines() {
-        let (text, refusal) = row.split_once(" -> ").unwrap_or((row, ""));
+        let (text, refusal) = cut(row);
         let found = printed(rt.alloc(), refused(rt.alloc(), text)?)?;
         assert_eq!(rt; found.as_str(), refusal, "at {text}");
     }

@@ -26,3 +26,8 @@ pub fn printed(alloc: Global, refusal: Option<Refusal>) -> Result<String, AllocE
         None => Ok(String::new(alloc)),
     }
 }
+
+/// What stands before the row's first arrow, and what behind it.
+pub fn cut(row: &str) -> (&str, &str) {
+    row.split_once(" -> ").unwrap_or((row, ""))
+}

@@ -3,7 +3,7 @@ ghost use Rattle.fm_base.specs.Learnt.{CanVisit, CanOpen, AfterOpen, AfterAlloca
 ghost use Rattle.fm_mono.specs.Shown.{WantsWords, most_arenas, view_of, nature_of_mono};
 
 use super::Mono;
-use fm_base::{ArenaId, Caller, Kind, Memory, Refusal};
+use fm_base::{ArenaId, Caller, Kind, Memory, OrRefused, Refusal};
 use std::sync::Wait;
 
 /// No call waits: those that may are handed on to calls of `Mono` without a runtime. Memory is taken by `open_arena`, and
@@ -18,7 +18,7 @@ impl Memory for Mono {
         Caller { number: 0, term: 0 }
     }
 
-    fn enter(&mut self, id: ArenaId) -> Result<(), Refusal> {
+    fn enter(&mut self, id: ArenaId) -> OrRefused<()> {
         if self.is_alive(id) {
             self.come_in(id);
             Ok(())
@@ -61,7 +61,7 @@ impl Memory for Mono {
         self.go_out();
     }
 
-    fn open_arena<R: Wait>(&mut self, rt: &R, kind: Kind) -> Result<ArenaId, Refusal>
+    fn open_arena<R: Wait>(&mut self, rt: &R, kind: Kind) -> OrRefused<ArenaId>
         requires { CanOpen (view_of self.old) kind }
         ensures got { AfterOpen nature_of_mono (view_of self.old) (view_of self.new) kind result }
         ensures full { (result ≡ Err Refusal.NoSlot) ↔ (length self.old.state ≡ most_arenas) }
@@ -69,13 +69,7 @@ impl Memory for Mono {
         self.open(kind)
     }
 
-    fn allocate<R: Wait>(
-        &mut self,
-        rt: &R,
-        id: ArenaId,
-        size: u64,
-        align: u64,
-    ) -> Result<u64, Refusal>
+    fn allocate<R: Wait>(&mut self, rt: &R, id: ArenaId, size: u64, align: u64) -> OrRefused<u64>
         requires { CanVisit (view_of self.old) id }
         ensures got { AfterAllocate nature_of_mono (view_of self.old) (view_of self.new) id size align result }
         ensures wants { result ≡ Err Refusal.Memory → WantsWords self.old id size align }
@@ -83,7 +77,7 @@ impl Memory for Mono {
         self.allot(id, size, align)
     }
 
-    fn close<R: Wait>(&mut self, rt: &R, id: ArenaId) -> Result<(), Refusal> {
+    fn close<R: Wait>(&mut self, rt: &R, id: ArenaId) -> OrRefused<()> {
         self.end(id)
     }
 

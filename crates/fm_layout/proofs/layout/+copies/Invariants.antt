@@ -3,8 +3,8 @@ use Rattle.fm_layout.specs.Depth.{depth, deepest}
 use Rattle.fm_layout.specs.Views.{trees}
 use Rattle.fm_layout.proofs.layout.+copies.Given as goal
 
-abbrev pub decreases-Layout::try_clone : goal.decreases-Layout::try_clone
-decreases-Layout::try_clone l = 2 * depth l.self.now
+abbrev pub decreases-Layout::copy : goal.decreases-Layout::copy
+decreases-Layout::copy l = 2 * depth l.self.now
 
 abbrev pub decreases-copies::clone_all : goal.decreases-copies::clone_all
 decreases-copies::clone_all l = 2 * deepest (trees l.layouts.now) + 1

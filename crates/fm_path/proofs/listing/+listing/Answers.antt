@@ -9,8 +9,8 @@ use Rattle.fm_path.proofs.listing.+listing.Goals as goal
 pub list_members-loop-i-init : goal.list_members-loop-i-init
 list_members-loop-i-init t c = (list_start _ _ _ _ _ _ c.requires.1.1.1, note_start _ _ c.new-names.ensures.empty)
 
-pub list_members-returns-in_default-clause-text : goal.list_members-returns-in_default-clause-text
-list_members-returns-in_default-clause-text t c = list_past _ _ _ _ _ _ _ _ c.loop-i.invariant.0 (sym c.in_default.ensures)
+pub list_members-returns-in_default : goal.list_members-returns-in_default
+list_members-returns-in_default t c = list_past _ _ _ _ _ _ _ _ c.loop-i.invariant.0 (sym c.in_default.ensures)
 
 pub list_members-list-requires : goal.list_members-list-requires
 list_members-list-requires t c =
@@ -29,9 +29,9 @@ pub list_members-loop-i-preserved : goal.list_members-loop-i-preserved
 list_members-loop-i-preserved t c =
     let first = step_is _ _ _ _ _ c.loop-i.invariant.1 (sym c.in-Some.ensures) c.in_ok-first.ensures.first in (
       list_more _ _ _ _ _ _ _ _ _ _ _ _ c.size-size.ensures.well_formed c.loop-i.invariant.0 (sym c.in-Some.ensures) (c.deref.ensures
-          ∙ c.in_ok-to.ensures.text ∙ ap (λ p. c.args.path.now ++ piece_of p) first) c.in_ok-list.ensures.text (c.from-inner.ensures ∙ c.extent.ensures.extent),
+          ∙ c.in_ok-to.ensures.text ∙ ap (λ p. c.args.path.now ++ piece_of p) first) c.in_ok-list.ensures (c.from-inner.ensures ∙ c.extent.ensures.extent),
       note_more _ _ _ _ _ c.loop-i.invariant.1 (sym c.in-Some.ensures) c.in_ok-first.ensures.noted,
     )
 
-pub list_members-returns-clause-text : goal.list_members-returns-clause-text
-list_members-returns-clause-text t c = list_end _ _ _ _ _ _ _ _ _ c.loop-i.invariant.0 c.requires.1.1.1 c.loop-i-test.false
+pub list_members-returns : goal.list_members-returns
+list_members-returns t c = list_end _ _ _ _ _ _ _ _ _ c.loop-i.invariant.0 c.requires.1.1.1 c.loop-i-test.false

@@ -6,7 +6,7 @@ use Rattle.fm_path.proofs.listing.list_places.Goals as goal
 pub returns-clause-text : goal.returns-clause-text
 returns-clause-text c =
     simp (
-      c.in_ok-list.ensures.text,
+      c.in_ok-list.ensures,
       c.in_ok-text.ensures.ok,
       c.size-size.ensures.size,
       c.alignment-alignment.ensures.alignment,

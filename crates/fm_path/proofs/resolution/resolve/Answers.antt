@@ -18,7 +18,7 @@ returns-in_err-moved-clause-refused c =
 pub loop-k-preserved : goal.loop-k-preserved
 loop-k-preserved c =
     on_way_more move _ _ _ _ _ _ c.index-path-k.result (record { by = c.in_ok-moved.moved.by; dim = c.in_ok-moved.moved.dim; to = c.in_ok-moved.moved.to.now })
-    _ _ c.loop-k.invariant c.loop-k-test.true c.index-path-k.is c.in_ok-moved.ensures (omega (arith, c.saturating_add-offset.ensures)) c.in_ok-add.ensures.ok
+    _ _ c.loop-k.invariant c.loop-k-test.true c.index-path-k.is c.in_ok-moved.ensures (omega (arith, c.saturating_add-offset.ensures)) c.in_ok-add.ensures
 
 pub of-requires : goal.of-requires
 of-requires c =
@@ -38,4 +38,4 @@ returns-in-None-clause-refused c =
 
 pub returns-in_err-add-clause-refused : goal.returns-in_err-add-clause-refused
 returns-in_err-add-clause-refused c = let p = err_from_is_err_and c.from_residual-in_err-add.result c.from_residual-in_err-add.ensures.1 in
-    rw (p.1, p.2, c.in_err-add.ensures.memory) no_memory
+    rw (p.1, p.2) no_memory

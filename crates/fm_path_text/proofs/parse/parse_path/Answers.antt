@@ -26,8 +26,8 @@ loop-at-preserved c =
 
 pub returns-in-Some-clause-path : goal.returns-in-Some-clause-path
 returns-in-Some-clause-path c =
-    is_found _ _ _ _ _ c.loop-at.invariant (omega (arith, ap length c.as_bytes-byte-items.ensures.value)) (rw c.in-Some.is at c.in_ok-path.ensures.whole)
+    is_found _ _ _ _ _ c.loop-at.invariant (omega (arith, ap length c.as_bytes-byte-items.ensures.value)) (rw c.in-Some.is at c.in_ok-path.ensures)
 
 pub returns-in-None-clause-refused : goal.returns-in-None-clause-refused
 returns-in-None-clause-refused c =
-    ends_all _ _ _ _ c.loop-at.invariant (omega (arith, ap length c.as_bytes-byte-items.ensures.value)) (rw c.in-None.is at c.in_ok-path.ensures.whole)
+    ends_all _ _ _ _ c.loop-at.invariant (omega (arith, ap length c.as_bytes-byte-items.ensures.value)) (rw c.in-None.is at c.in_ok-path.ensures)
