@@ -17,6 +17,7 @@
 //! It prints what it found, so that the loops are run; the script that calls it takes the time.
 #![tactic(auto)]
 
+mod count;
 mod crews;
 mod gates;
 mod loads;
@@ -27,11 +28,12 @@ mod stress;
 mod updates;
 mod visits;
 
+use crate::count::Count;
 use crate::crews::{crowd, draws};
 use crate::gates::{closes, gates, hops, nexts, spreads};
 use crate::loads::loads;
 use crate::opens::{empties, firsts, gives, grows, lasts, opens, wipes};
-use crate::reuse::{Count, reuse};
+use crate::reuse::reuse;
 use crate::stress::{Trial, stress};
 use crate::updates::{Update, updates};
 use crate::visits::visits;

@@ -5,6 +5,7 @@ ghost use Rattle.fm_gate.specs.Needs.{IsInside};
 ghost use Rattle.fm_rule_facts.specs.Views.{given_of};
 ghost use Rattle.fm_bench.specs.Ready.{CanRead, IsFree, IsOpen};
 
+use crate::count::{Count, NOTHING};
 use crate::gates::visit;
 use crate::pools::{AGAIN, given, made};
 use fm_base::{ArenaId, Refusal};
@@ -25,27 +26,6 @@ const TURNS: u64 = 500;
 
 /// How many words a reader reads in a round, before one of them closes the arena and after that.
 const READS: u64 = 5_000;
-
-/// What came of all calls.
-#[derive(Clone, Copy)]
-pub struct Count {
-    /// Arenas that were opened, filled and closed, each in a slot that others had used before.
-    pub reuses: u64,
-    /// Words that a reader found as the arena's opener had put them.
-    pub reads: u64,
-    /// Openings where no slot was free, and reads where the arena was closed.
-    pub refusals: u64,
-    /// Words that weren't 0 in a new arena, that another arena's owner had put, or that a closed arena gave.
-    pub wrong: u64,
-}
-
-/// No call yet.
-const NOTHING: Count = Count {
-    reuses: 0,
-    reads: 0,
-    refusals: 0,
-    wrong: 0,
-};
 
 /// A thread's pass, and what came of its calls.
 #[derive(Drop)]
