@@ -16,7 +16,7 @@ use Rattle.fm_base.specs.declared.kind.Kind.TheVariants.{Automatic}
 use Rattle.fm_arena.specs.declared.handle.AutoHandle.{AutoHandle}
 use Rattle.fm_arena.specs.Learnt.{AfterHold, CanUnhold}
 use Rattle.fm_arena.specs.Handles.{HasHandle, AfterAgain, named, whether}
-use Rattle.fm_arena.specs.Lasting.{HasBoth, HoldsStand, HasTwo, HandlesStand, HoldLasts, HandleLasts}
+use Rattle.fm_arena.specs.Lasting.{AreTwo, HasBoth, HoldsStand, HasTwo, HandlesStand, HoldLasts, HandleLasts}
 use Rattle.fm_arena.proofs.Lasting.{hold_on, hold_same, hold_after, handle_on, handle_same, handle_after}
 use Rattle.fm_gate.proofs.Both.{in_taken}
 use Rattle.fm_gate.proofs.Outliving.{in_again, in_opened}
@@ -35,23 +35,31 @@ two_of_one a hs ks is has =
     let one : one_if (same_id a a) ≡ 1 = ap one_if (same_id-self a) in
     let before = some_hold a hs has in omega arith
 
+module _ {A : Type 0} {Can CanStill : A → Type 0} {arena : A → ArenaId} {hs ks : List ArenaId} {a b : A} (two : AreTwo Can arena hs a b) where
+  -- Two stay two where the pass has what it had.
+  still_two : ((x : A) → Can x → CanStill x) → ks ≡ hs → AreTwo CanStill arena ks a b
+  still_two can same = record {
+    first = can a two.first;
+    second = can b two.second;
+    same = two.same;
+    two = subst (λ (xs : List ArenaId). 1 < how_many (arena a) xs) (sym same) two.two;
+  }
+
+  -- Where one is spent what is left is enough for either.
+  either_left : ((x : A) → In (arena x) ks → Can x → CanStill x) → In (arena a) hs → ks ≡ released (arena a) hs → CanStill a × CanStill b
+  either_left can has is =
+      let left = left_of_two (arena a) hs ks is has two.two in
+      (can a left two.first, can b (subst (λ (x : ArenaId). In x ks) (sym two.same) left) two.second)
+
 -- ---- holds
 
 holds_beside : HoldsStand
 holds_beside = record {
   at_hold = at_hold;
   both = λ p q result first a can. both p q result first a can;
-  both_by_memory = λ p q own first second m b. record {
-    first = hold_after p q own first m b.first;
-    second = hold_after p q own second m b.second;
-    same = b.same;
-    two = subst (λ (hs : List ArenaId). 1 < how_many first.arena hs) (sym (ap (λ (x : Rest). x.holds) m.told.rest)) b.two;
-  };
+  both_by_memory = λ p q own first second m b. still_two b (λ x can. hold_after p q own x m can) (ap (λ (x : Rest). x.holds) m.told.rest);
   one_left = λ p q first second b a.
-      let left = left_of_two first.arena p.holds q.holds (ap (λ (x : Rest). x.holds) a.did.rest) b.first.held b.two in (
-        hold_on p q first a.lasts.known (made_on a.did.goes) left b.first,
-        hold_on p q second a.lasts.known (made_on a.did.goes) (subst (λ (x : ArenaId). In x q.holds) (sym b.same) left) b.second,
-      );
+      either_left b (λ x has can. hold_on p q x a.lasts.known (made_on a.did.goes) has can) b.first.held (ap (λ (x : Rest). x.holds) a.did.rest);
   others_left = λ p q other hold a n can.
       hold_on p q hold a.lasts.known (made_on a.did.goes)
       (subst (λ (hs : List ArenaId). In hold.arena hs) (sym (ap (λ (x : Rest). x.holds) a.did.rest))
@@ -83,17 +91,9 @@ handles_beside = record {
       (in_opened handle.arena Automatic (named result) p.handles can.handled.has)) can;
   at_again = at_again;
   both = λ p q first result a can. both p q first result a can;
-  both_by_memory = λ p q own first second m b. record {
-    first = handle_after p q own first m b.first;
-    second = handle_after p q own second m b.second;
-    same = b.same;
-    two = subst (λ (hs : List ArenaId). 1 < how_many first.arena hs) (sym (ap (λ (x : Rest). x.handles) m.told.rest)) b.two;
-  };
+  both_by_memory = λ p q own first second m b. still_two b (λ x can. handle_after p q own x m can) (ap (λ (x : Rest). x.handles) m.told.rest);
   one_left = λ p q first second result b a.
-      let left = left_of_two first.arena p.handles q.handles (ap (λ (x : Rest). x.handles) a.did.rest) b.first.handled.has b.two in (
-        handle_on p q first a.lasts.known (made_on a.did.goes) left b.first,
-        handle_on p q second a.lasts.known (made_on a.did.goes) (subst (λ (x : ArenaId). In x q.handles) (sym b.same) left) b.second,
-      );
+      either_left b (λ x has can. handle_on p q x a.lasts.known (made_on a.did.goes) has can) b.first.handled.has (ap (λ (x : Rest). x.handles) a.did.rest);
   others_left = λ p q other result handle a n can.
       handle_on p q handle a.lasts.known (made_on a.did.goes)
       (subst (λ (hs : List ArenaId). In handle.arena hs) (sym (ap (λ (x : Rest). x.handles) a.did.rest))

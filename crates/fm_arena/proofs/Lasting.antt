@@ -1,5 +1,5 @@
 -- What is told of a pass tells its pool and what it has.
-use Rattle.std.proofs.Common.{◌≡◌, ◌∙◌, ◌++◌, ℕ, List, ap, sym, subst}
+use Rattle.std.proofs.Common.{◌≡◌, ◌∙◌, ◌∷◌, ◌++◌, ℕ, List, ap, sym, subst}
 use Rattle.fm_base.specs.declared.arena_id.ArenaId.{ArenaId}
 use Rattle.fm_base.specs.Calls.{Entry}
 use Rattle.fm_base.specs.Finds.{Rest}
@@ -16,29 +16,17 @@ use Rattle.fm_arena.specs.Learnt.{CanUnhold}
 use Rattle.fm_arena.specs.Handles.{HasHandle, IsHandled}
 use Rattle.fm_arena.specs.Lasting.{StaysInItsPool, KeepsItsPool}
 
--- The numbers of a shape tell it.
-shape_is : (y z : Shape) (ns ms : List ℕ) → (shape_numbers y ++ ns) ≡ (shape_numbers z ++ ms) → y ≡ z
-shape_is y z ns ms e =
-    let passes : y.passes ≡ z.passes = cc in
-    let slots : y.slots ≡ z.slots = cc in
-    let pages : y.pages ≡ z.pages = cc in
-    let page_words : y.page_words ≡ z.page_words = cc in
-    let reach : y.reach ≡ z.reach = cc in
-    let generations : y.generations ≡ z.generations = cc in
-    λ i. record {
-      passes = passes i;
-      slots = slots i;
-      pages = pages i;
-      page_words = page_words i;
-      reach = reach i;
-      generations = generations i;
-    }
+-- The shape whose numbers these are.
+abbrev shape_from : Shape → List ℕ → Shape
+shape_from z (passes ∷ slots ∷ pages ∷ page_words ∷ reach ∷ generations ∷ ns) =
+    record { passes = passes; slots = slots; pages = pages; page_words = page_words; reach = reach; generations = generations }
+shape_from z ns = z
 
 -- What passes have tells their pool, and what shape it was made in.
 pub stays : StaysInItsPool
 stays p q own m =
     let home : (shape_numbers q.shape ++ q.home) ≡ (shape_numbers p.shape ++ p.home) = ap (λ (x : Rest). x.home) m.told.rest in
-    record { home = cc; shape = shape_is q.shape p.shape q.home p.home home }
+    record { home = cc; shape = ap (shape_from p.shape) home }
 
 pub keeps : KeepsItsPool
 keeps = record { stays = stays; of = λ pool p q same of. (same.home ∙ of.0, same.shape ∙ of.1) }

@@ -34,12 +34,16 @@ pub record KeepsItsPool : Type 0 where
 
 -- ---- holds and handles
 
+-- two things that can be used so, both of one arena, which the pass has
+pub record AreTwo {A : Type 0} (Can : A → Type 0) (arena : A → ArenaId) (has : List ArenaId) (a b : A) : Type 0 where
+  pub first : Can a
+  pub second : Can b
+  pub same : arena b ≡ arena a
+  pub two : 1 < how_many (arena a) has
+
 -- two holds of one arena
-pub record HasBoth (p : View) (a b : Hold) : Type 0 where
-  pub first : CanUnhold p a
-  pub second : CanUnhold p b
-  pub same : b.arena ≡ a.arena
-  pub two : 1 < how_many a.arena p.holds
+abbrev pub HasBoth : View → Hold → Hold → Type 0
+HasBoth p a b = AreTwo (CanUnhold p) (λ h. h.arena) p.holds a b
 
 -- A hold stands beside others: a second one of its arena may be taken, and each of the two stands when the other is spent
 pub record HoldsStand : Type 0 where
@@ -62,11 +66,8 @@ pub record HoldLasts : Type 0 where
   pub beside : HoldsStand
 
 -- two handles of one arena
-pub record HasTwo (p : View) (a b : AutoHandle) : Type 0 where
-  pub first : HasHandle p a
-  pub second : HasHandle p b
-  pub same : b.arena ≡ a.arena
-  pub two : 1 < how_many a.arena p.handles
+abbrev pub HasTwo : View → AutoHandle → AutoHandle → Type 0
+HasTwo p a b = AreTwo (HasHandle p) (λ h. h.arena) p.handles a b
 
 -- A handle stands beside others: where another of its arena is taken, each of the two stands when the other is given back
 pub record HandlesStand : Type 0 where

@@ -1,14 +1,13 @@
--- Arenas and segments that can be accessed.
+-- Arenas that can be visited, and passes that can visit them.
 use Rattle.std.specs.Prelude.{◌≡◌, ◌≤◌, ℕ, List, [], None, All}
 use Rattle.fm_base.specs.declared.arena_id.ArenaId.{ArenaId}
 use Rattle.fm_base.specs.Arenas.{arena_of}
 use Rattle.fm_gate.specs.Crews.{HasNothing}
 use Rattle.fm_gate.specs.Needs.{IsOutside}
-use Rattle.fm_mono.specs.Shown.{Arenas, IsKnown, view_of}
+use Rattle.fm_mono.specs.Shown.{Arenas, IsKnown}
 use Rattle.fm_rule_facts.specs.Views.{View, IsKnown as IsKnownTo, given_of}
 use Rattle.fm_rule.specs.declared.pool.Pool.{Pool}
-use Rattle.fm_segment.specs.Access as access
-use Rattle.fm_segment.specs.Region.{Region}
+use Rattle.fm_rule_calls.specs.Kept.{Lasts}
 
 -- nobody is inside, and the arena has these bytes
 pub record IsReady (m : Arenas) (a : ArenaId) (size : ℕ) : Type 0 where
@@ -16,20 +15,16 @@ pub record IsReady (m : Arenas) (a : ArenaId) (size : ℕ) : Type 0 where
   pub known : IsKnown m a
   pub given : size ≤ (arena_of m.state a).given
 
--- nobody is inside, and the segment is known
-pub record CanAccess (m : Arenas) (r : Region) : Type 0 where
-  pub outside : m.inside ≡ None
-  pub known : access.IsKnown (view_of m) r
-
--- both can be accessed
-pub record AreReady (m : Arenas) (a b : Region) : Type 0 where
-  pub first : CanAccess m a
-  pub second : CanAccess m b
-
 -- the pass is outside, with no page in its hand
 pub record IsFree (pool : Pool) (p : View) : Type 0 where
   pub outside : IsOutside pool p
   pub no_page : p.pages ≡ []
+
+-- the pass is outside again, with the pages in its hand that it had, and knows what it knew
+pub record IsBack (pool : Pool) (old new : View) : Type 0 where
+  pub outside : IsOutside pool new
+  pub pages : new.pages ≡ old.pages
+  pub lasts : Lasts old new
 
 -- the pass knows the arena, which has given these bytes
 pub record IsOpen (p : View) (bytes : ℕ) (a : ArenaId) : Type 0 where
@@ -52,7 +47,7 @@ pub record CanWork (pool : Pool) (p : View) (a : ArenaId) : Type 0 where
   pub opened : IsOpen p 8 a
   pub nothing : HasNothing p
 
--- the pass is free, and the arena is open to it with 64 bytes
-pub record CanRead (pool : Pool) (p : View) (a : ArenaId) : Type 0 where
+-- the pass is free, and the arena is open to it with these bytes
+pub record CanRead (pool : Pool) (p : View) (bytes : ℕ) (a : ArenaId) : Type 0 where
   pub free : IsFree pool p
-  pub opened : IsOpen p 64 a
+  pub opened : IsOpen p bytes a

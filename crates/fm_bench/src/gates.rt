@@ -1,9 +1,8 @@
 ghost use Rattle.std.specs.Prelude.{◌≡◌, ◌*◌, ◌<◌, ◌≤◌, length, IfOk};
 ghost use Rattle.fm_rule_facts.specs.Views.{given_of};
-ghost use Rattle.fm_rule_calls.specs.Kept.{Lasts};
-ghost use Rattle.fm_gate.specs.Needs.{CanVisit, IsOutside};
+ghost use Rattle.fm_gate.specs.Needs.{CanVisit};
 ghost use Rattle.fm_words.specs.Shapes.{IsValid};
-ghost use Rattle.fm_bench.specs.Ready.{AreOpen, IsFree, IsOpen};
+ghost use Rattle.fm_bench.specs.Ready.{AreOpen, CanRead, IsBack, IsFree};
 
 use crate::pools::{AGAIN, ONE, given, made};
 use fm_base::{ArenaId, Kind, Refusal};
@@ -59,9 +58,8 @@ fn gates_of<R: Wait>(rt: &R, pool: Pool, mut pass: Pass, count: u64) -> Result<u
 
 /// An arena whose word w holds w times a number, wrapping.
 fn filled<R: Wait>(rt: &R, pool: &Pool, pass: &mut Pass, times: u64) -> Result<ArenaId, Refusal>
-    requires free { IsFree pool.now pass.old }
-    ensures outside { IsOutside pool.now pass.new }
-    ensures open { IfOk result (λ a. IsOpen pass.new 65536 a) }
+    requires { IsFree pool.now pass.old }
+    ensures { IfOk result (CanRead pool.now pass.new 65536) }
 {
     let arena = given(rt, pool, pass, WORDS * 8)?;
     for word in 0..WORDS {
@@ -73,8 +71,7 @@ fn filled<R: Wait>(rt: &R, pool: &Pool, pass: &mut Pass, times: u64) -> Result<A
 /// The visits alone. The pool and the pass are moved here, so that the compiler knows that nothing else has a name for
 /// them.
 fn visits(pool: Pool, mut pass: Pass, arena: ArenaId, count: u64) -> Result<u64, Refusal>
-    requires outside { IsOutside pool pass }
-    requires open { IsOpen pass 65536 arena }
+    requires { CanRead pool pass 65536 arena }
 {
     let mut joined: u64 = 0;
     for turn in 0..count {
@@ -85,8 +82,7 @@ fn visits(pool: Pool, mut pass: Pass, arena: ArenaId, count: u64) -> Result<u64,
 
 /// So many rounds over all words, one after another, alone.
 fn rounds(pool: Pool, mut pass: Pass, arena: ArenaId, count: u64) -> Result<u64, Refusal>
-    requires outside { IsOutside pool pass }
-    requires open { IsOpen pass 65536 arena }
+    requires { CanRead pool pass 65536 arena }
 {
     let mut joined: u64 = 0;
     for _ in 0..count {
@@ -203,9 +199,7 @@ fn hop(pool: &Pool, pass: &mut Pass, arenas: &[ArenaId], word: u64) -> Result<u6
 pub fn visit(pool: &Pool, pass: &mut Pass, arena: ArenaId, word: u64) -> Result<u64, Refusal>
     requires ready { CanVisit pool.now pass.old arena }
     requires within { 8 * word < given_of pass.old arena }
-    ensures outside { IsOutside pool.now pass.new }
-    ensures pages { pass.new.pages ≡ pass.old.pages }
-    ensures lasts { Lasts pass.old pass.new }
+    ensures { IsBack pool.now pass.old pass.new }
 {
     enter(pool, pass, arena)?;
     let found = load(pool, pass, word);
@@ -217,9 +211,7 @@ pub fn visit(pool: &Pool, pass: &mut Pass, arena: ArenaId, word: u64) -> Result<
 fn put(pool: &Pool, pass: &mut Pass, arena: ArenaId, word: u64, v: u64) -> Result<(), Refusal>
     requires ready { CanVisit pool.now pass.old arena }
     requires within { 8 * word < given_of pass.old arena }
-    ensures outside { IsOutside pool.now pass.new }
-    ensures pages { pass.new.pages ≡ pass.old.pages }
-    ensures lasts { Lasts pass.old pass.new }
+    ensures { IsBack pool.now pass.old pass.new }
 {
     enter(pool, pass, arena)?;
     store(pool, pass, word, v);

@@ -5,10 +5,8 @@
 //! `firsts COUNT` and `lasts COUNT` of 64 bytes in the first and in the last page of 4,096,
 //! `gives COUNT` of 8 bytes at a time, `loads COUNT` from a plain vector,
 //! `adds COUNT`, `swaps COUNT` and `patches COUNT` of a word in one visit, `draws COUNT` of a pass that is gathered each time,
-//! `beside COUNT THREADS` and `apart COUNT THREADS` of visits by threads whose marks lie side by side and 8 apart,
-//! `known COUNT` of a segment by a layout that the compiler knows, `gets COUNT LAYOUT` and `handles COUNT LAYOUT` by a
-//! layout that is read as JSON, at offsets and by a path, and `fills COUNT`, `copies COUNT` and `mismatches COUNT` of
-//! segments of 64 MiB.
+//! and `beside COUNT THREADS` and `apart COUNT THREADS` of visits by threads whose marks lie side by side and 8 apart.
+//! `fm_bench_shared` has those that go through segments and handles.
 //!
 //! `stress ROUNDS` is no benchmark: threads add to a word, and close the arena while others add, and it prints how many
 //! of the rounds came out as they should. So does `recruits ROUNDS`, whose threads draw a pass for each addition and gather
@@ -19,29 +17,27 @@
 //! It prints what it found, so that the loops are run; the script that calls it takes the time.
 #![tactic(auto)]
 
-mod cells;
+mod count;
 mod crews;
 mod gates;
 mod loads;
 mod opens;
 mod pools;
-mod ranges;
 mod reuse;
 mod stress;
 mod updates;
 mod visits;
 
-use crate::cells::{gets, handles, known};
+use crate::count::Count;
 use crate::crews::{crowd, draws};
 use crate::gates::{closes, gates, hops, nexts, spreads};
 use crate::loads::loads;
 use crate::opens::{empties, firsts, gives, grows, lasts, opens, wipes};
-use crate::ranges::{copies, fills, mismatches};
-use crate::reuse::{Count, reuse};
-use crate::stress::{recruits, stress};
-use crate::updates::{adds, patches, swaps};
+use crate::reuse::reuse;
+use crate::stress::{Trial, stress};
+use crate::updates::{Update, updates};
 use crate::visits::visits;
-use std::alloc::Global;
+use std::alloc::{AllocGlobal, Global};
 use std::env;
 use std::process::ExitCode;
 use std::sync::Wait;
@@ -53,7 +49,7 @@ fn main(rt: HostRuntime) -> ExitCode {
         Some((what, count, text)) => match what.as_str() {
             "reuse" => {
                 let start = Instant::now(&rt);
-                let count = reuse_by(&rt, rt.alloc(), count, &text);
+                let count = reuse_by(&rt, count, &text);
                 print_count(&rt, start.ok(), count).is_some()
             }
             _ => match run(&rt, rt.alloc(), &what, count, &text) {
@@ -71,9 +67,8 @@ fn main(rt: HostRuntime) -> ExitCode {
 }
 
 /// What so many rounds of reuse come to, by as many threads as the text says: 2 to 16.
-fn reuse_by<R: Threads + Wait + Sync>(
+fn reuse_by<R: AllocGlobal + Threads + Wait + Sync>(
     rt: &R,
-    alloc: Global,
     rounds: u64,
     text: &str,
 ) -> Option<Count> {
@@ -81,7 +76,7 @@ fn reuse_by<R: Threads + Wait + Sync>(
     if threads < 2 || threads > 16 {
         return None;
     }
-    reuse(rt, alloc, rounds, threads).ok()
+    reuse(rt, rounds, threads).ok()
 }
 
 /// Prints what came of all calls since the start.
@@ -115,35 +110,30 @@ fn run<R: Threads + Wait + Sync>(
     count: u64,
     text: &str,
 ) -> Option<u64> {
-    match what {
-        "visits" => visits(rt, alloc, count).ok(),
-        "gates" => gates(rt, alloc, count).ok(),
-        "spreads" => spreads(rt, alloc, count).ok(),
-        "nexts" => nexts(rt, alloc, count).ok(),
-        "hops" => hops(rt, alloc, count).ok(),
-        "closes" => closes(rt, alloc, count).ok(),
-        "opens" => opens(rt, alloc, count).ok(),
-        "wipes" => wipes(rt, alloc, count).ok(),
-        "grows" => grows(rt, alloc, count).ok(),
-        "empties" => empties(rt, alloc, count).ok(),
-        "firsts" => firsts(rt, alloc, count).ok(),
-        "lasts" => lasts(rt, alloc, count).ok(),
-        "gives" => gives(rt, alloc, count).ok(),
-        "loads" => loads(alloc, count).ok(),
-        "adds" => adds(rt, alloc, count).ok(),
-        "swaps" => swaps(rt, alloc, count).ok(),
-        "patches" => patches(rt, alloc, count).ok(),
-        "draws" => draws(rt, alloc, count).ok(),
-        "beside" => crowd(rt, alloc, count, text.parse::<u64>().ok()?, 7).ok(),
-        "apart" => crowd(rt, alloc, count, text.parse::<u64>().ok()?, 0).ok(),
-        "stress" => stress(rt, alloc, count).ok(),
-        "recruits" => recruits(rt, alloc, count).ok(),
-        "known" => known(rt, alloc, count).ok(),
-        "gets" => gets(rt, alloc, count, text).ok(),
-        "handles" => handles(rt, alloc, count, text).ok(),
-        "fills" => fills(rt, alloc, count).ok(),
-        "copies" => copies(rt, alloc, count).ok(),
-        "mismatches" => mismatches(rt, alloc, count).ok(),
-        _ => None,
-    }
+    let joined = match what {
+        "visits" => visits(rt, alloc, count),
+        "gates" => gates(rt, alloc, count),
+        "spreads" => spreads(rt, alloc, count),
+        "nexts" => nexts(rt, alloc, count),
+        "hops" => hops(rt, alloc, count),
+        "closes" => closes(rt, alloc, count),
+        "opens" => opens(rt, alloc, count),
+        "wipes" => wipes(rt, alloc, count),
+        "grows" => grows(rt, alloc, count),
+        "empties" => empties(rt, alloc, count),
+        "firsts" => firsts(rt, alloc, count),
+        "lasts" => lasts(rt, alloc, count),
+        "gives" => gives(rt, alloc, count),
+        "loads" => return loads(alloc, count).ok(),
+        "adds" => updates(rt, alloc, count, Update::Add),
+        "swaps" => updates(rt, alloc, count, Update::Swap),
+        "patches" => updates(rt, alloc, count, Update::Patch),
+        "draws" => draws(rt, alloc, count),
+        "beside" => crowd(rt, alloc, count, text.parse::<u64>().ok()?, 7),
+        "apart" => crowd(rt, alloc, count, text.parse::<u64>().ok()?, 0),
+        "stress" => stress(rt, alloc, count, Trial::Adds),
+        "recruits" => stress(rt, alloc, count, Trial::Recruits),
+        _ => return None,
+    };
+    joined.ok()
 }

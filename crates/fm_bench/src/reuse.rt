@@ -5,6 +5,7 @@ ghost use Rattle.fm_gate.specs.Needs.{IsInside};
 ghost use Rattle.fm_rule_facts.specs.Views.{given_of};
 ghost use Rattle.fm_bench.specs.Ready.{CanRead, IsFree, IsOpen};
 
+use crate::count::{Count, NOTHING};
 use crate::gates::visit;
 use crate::pools::{AGAIN, given, made};
 use fm_base::{ArenaId, Refusal};
@@ -12,7 +13,7 @@ use fm_close::close;
 use fm_gate::{a_crew_stands, enter, is_alive, leave, swap_if};
 use fm_rule::{Pass, Pool};
 use fm_words::Shape;
-use std::alloc::Global;
+use std::alloc::{AllocGlobal, Global};
 use std::sync::Wait;
 use std::thread;
 use std::thread::Threads;
@@ -26,27 +27,6 @@ const TURNS: u64 = 500;
 /// How many words a reader reads in a round, before one of them closes the arena and after that.
 const READS: u64 = 5_000;
 
-/// What came of all calls.
-#[derive(Clone, Copy)]
-pub struct Count {
-    /// Arenas that were opened, filled and closed, each in a slot that others had used before.
-    pub reuses: u64,
-    /// Words that a reader found as the arena's opener had put them.
-    pub reads: u64,
-    /// Openings where no slot was free, and reads where the arena was closed.
-    pub refusals: u64,
-    /// Words that weren't 0 in a new arena, that another arena's owner had put, or that a closed arena gave.
-    pub wrong: u64,
-}
-
-/// No call yet.
-const NOTHING: Count = Count {
-    reuses: 0,
-    reads: 0,
-    refusals: 0,
-    wrong: 0,
-};
-
 /// A thread's pass, and what came of its calls.
 #[derive(Drop)]
 pub struct Player {
@@ -56,9 +36,8 @@ pub struct Player {
 
 /// So many rounds, in each of which every other thread uses slots, while the others read in an arena that one of them
 /// closes in the midst. Answers what came of all.
-pub fn reuse<R: Threads + Wait + Sync>(
+pub fn reuse<R: AllocGlobal + Threads + Wait + Sync>(
     rt: &R,
-    alloc: Global,
     rounds: u64,
     threads: u32,
 ) -> Result<Count, Refusal>
@@ -71,11 +50,11 @@ pub fn reuse<R: Threads + Wait + Sync>(
         pages: 2,
         ..AGAIN
     };
-    let (pool, mut pass) = made(alloc, shape)?;
-    let mut crew = hired(rt, alloc, &pool, &mut pass, threads)?;
+    let (pool, mut pass) = made(rt.alloc(), shape)?;
+    let mut crew = hired(rt, &pool, &mut pass, threads)?;
     for _ in 0..rounds {
         let a = filled(rt, &pool, &mut pass)?;
-        let mut ready = told(alloc, &pool, &mut pass, a, crew)?;
+        let mut ready = told(rt.alloc(), &pool, &mut pass, a, crew)?;
         play_all(rt, &pool, ready.as_mut_slice(), a);
         crew = ready;
     }
@@ -83,9 +62,8 @@ pub fn reuse<R: Threads + Wait + Sync>(
 }
 
 /// So many players.
-fn hired<R: Wait>(
+fn hired<R: AllocGlobal + Wait>(
     rt: &R,
-    alloc: Global,
     pool: &Pool,
     pass: &mut Pass,
     count: u32,
@@ -94,7 +72,7 @@ fn hired<R: Wait>(
     ensures free { IsFree pool.now pass.new }
     ensures crew { IfOk result (λ crew. All (λ p. IsFree pool.now p.pass) crew.items) }
 {
-    let mut crew: Vec<Player> = Vec::new(alloc);
+    let mut crew: Vec<Player> = Vec::new(rt.alloc());
     for _ in 0..count {
         let player = Player {
             pass: drawn(rt, pool, pass)?,
@@ -174,7 +152,7 @@ fn told(
     requires open { IsOpen pass.old 64 a }
     requires crew { All (λ p. IsFree pool.now p.pass) crew.items }
     ensures free { IsFree pool.now pass.new }
-    ensures ready { IfOk result (λ ready. All (λ p. CanRead pool.now p.pass a) ready.items) }
+    ensures ready { IfOk result (λ ready. All (λ p. CanRead pool.now p.pass 64 a) ready.items) }
 {
     let mut crew = crew;
     let mut ready: Vec<Player> = Vec::new(alloc);
@@ -195,11 +173,11 @@ fn tell_last(
     requires free { IsFree pool.now pass.old }
     requires open { IsOpen pass.old 64 a }
     requires crew { All (λ p. IsFree pool.now p.pass) crew.old.items }
-    requires ready { All (λ p. CanRead pool.now p.pass a) ready.old.items }
+    requires ready { All (λ p. CanRead pool.now p.pass 64 a) ready.old.items }
     ensures free { IsFree pool.now pass.new }
     ensures open { IsOpen pass.new 64 a }
     ensures crew { All (λ p. IsFree pool.now p.pass) crew.new.items }
-    ensures ready { IfOk result (λ _. All (λ p. CanRead pool.now p.pass a) ready.new.items) }
+    ensures ready { IfOk result (λ _. All (λ p. CanRead pool.now p.pass 64 a) ready.new.items) }
 {
     let Some(mut player) = crew.pop() else {
         return Ok(());
@@ -213,10 +191,10 @@ fn tell_last(
 
 /// A pass learns what another has seen.
 fn tell(pool: &Pool, from: &mut Pass, to: &mut Pass, a: ArenaId)
-    requires from { CanRead pool.now from.old a }
+    requires from { CanRead pool.now from.old 64 a }
     requires to { IsFree pool.now to.old }
     ensures from { from.new ≡ from.old }
-    ensures to { CanRead pool.now to.new a }
+    ensures to { CanRead pool.now to.new 64 a }
 {
     a_crew_stands();
     let note = pool.note(from);
@@ -225,7 +203,7 @@ fn tell(pool: &Pool, from: &mut Pass, to: &mut Pass, a: ArenaId)
 
 /// Each player plays, in a thread of its own.
 fn play_all<R: Threads + Wait + Sync>(rt: &R, pool: &Pool, crew: &mut [Player], a: ArenaId)
-    requires { All (λ p. CanRead pool.now p.pass a) crew.old }
+    requires { All (λ p. CanRead pool.now p.pass 64 a) crew.old }
     ensures { All (λ p. IsFree pool.now p.pass) crew.new }
 {
     thread::for_each_mut(
@@ -233,7 +211,7 @@ fn play_all<R: Threads + Wait + Sync>(rt: &R, pool: &Pool, crew: &mut [Player], 
         crew,
         16,
         &|place: usize, player: &mut Player|
-            requires { CanRead pool.now player.now.pass a }
+            requires { CanRead pool.now player.now.pass 64 a }
             ensures { IsFree pool.entry.now player.exit.now.pass }
         { play(rt, pool, player, a, place) },
     );
@@ -241,7 +219,7 @@ fn play_all<R: Threads + Wait + Sync>(rt: &R, pool: &Pool, crew: &mut [Player], 
 
 /// Every other player uses slots. The others read, also once the first of them has closed the arena.
 fn play<R: Wait>(rt: &R, pool: &Pool, player: &mut Player, a: ArenaId, place: usize)
-    requires { CanRead pool.now player.old.pass a }
+    requires { CanRead pool.now player.old.pass 64 a }
     ensures { IsFree pool.now player.new.pass }
 {
     if place % 2 == 0 {
@@ -255,8 +233,8 @@ fn play<R: Wait>(rt: &R, pool: &Pool, player: &mut Player, a: ArenaId, place: us
 
 /// The player in place 1 closes the arena, which was alive.
 fn end_at_one<R: Wait>(rt: &R, pool: &Pool, player: &mut Player, a: ArenaId, place: usize)
-    requires { CanRead pool.now player.old.pass a }
-    ensures { CanRead pool.now player.new.pass a }
+    requires { CanRead pool.now player.old.pass 64 a }
+    ensures { CanRead pool.now player.new.pass 64 a }
 {
     if place != 1 {
         return;
@@ -268,8 +246,8 @@ fn end_at_one<R: Wait>(rt: &R, pool: &Pool, player: &mut Player, a: ArenaId, pla
 
 /// Reads words of the arena, also when it is closed.
 fn read_often(pool: &Pool, player: &mut Player, a: ArenaId)
-    requires { CanRead pool.now player.old.pass a }
-    ensures { CanRead pool.now player.new.pass a }
+    requires { CanRead pool.now player.old.pass 64 a }
+    ensures { CanRead pool.now player.new.pass 64 a }
 {
     for turn in 0..READS {
         read(pool, player, a, turn % WORDS);
@@ -278,9 +256,9 @@ fn read_often(pool: &Pool, player: &mut Player, a: ArenaId)
 
 /// Reads a word of the arena: it is the arena's own.
 fn read(pool: &Pool, player: &mut Player, a: ArenaId, word: u64)
-    requires can { CanRead pool.now player.old.pass a }
+    requires can { CanRead pool.now player.old.pass 64 a }
     requires low { word < 8 }
-    ensures { CanRead pool.now player.new.pass a }
+    ensures { CanRead pool.now player.new.pass 64 a }
 {
     let count = &mut player.count;
     match visit(pool, &mut player.pass, a, word) {

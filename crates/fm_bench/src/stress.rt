@@ -18,38 +18,41 @@ const WORKERS: u64 = 4;
 /// How often a worker adds.
 const TIMES: u64 = 10_000;
 
-/// So many rounds of workers that add to one word, and of workers that add while one of them closes the arena. Answers
-/// how many rounds came out as they should.
+/// What is tried in a round.
+#[derive(Clone, Copy)]
+pub enum Trial {
+    /// Workers add to one word, and others add while one of them closes the arena.
+    Adds,
+    /// Each worker draws a pass for each addition and gathers it again, while one of them closes the arena half-way.
+    Recruits,
+}
+
+/// So many rounds. Answers how many came out as they should.
 pub fn stress<R: Threads + Wait + Sync>(
     rt: &R,
     alloc: Global,
     rounds: u64,
+    trial: Trial,
 ) -> Result<u64, Refusal> {
     let mut fine: u64 = 0;
     for _ in 0..rounds {
-        let adding = round(rt, alloc, 5, Job::Add(TIMES))?;
-        let closing = round(rt, alloc, 5, Job::CloseAndAdd(TIMES))?;
-        if adding.adds_up() && closing.is_final() {
+        if is_fine(rt, alloc, trial)? {
             fine = fine.wrapping_add(1);
         }
     }
     Ok(fine)
 }
 
-/// So many rounds of workers each of which draws a pass for each addition and gathers it again, while one of them closes
-/// the arena half-way. Answers how many rounds came out as they should.
-pub fn recruits<R: Threads + Wait + Sync>(
-    rt: &R,
-    alloc: Global,
-    rounds: u64,
-) -> Result<u64, Refusal> {
-    let mut fine: u64 = 0;
-    for _ in 0..rounds {
-        if round(rt, alloc, 9, Job::Recruit(TIMES / 2))?.is_final() {
-            fine = fine.wrapping_add(1);
+/// Whether a round came out as it should.
+fn is_fine<R: Threads + Wait + Sync>(rt: &R, alloc: Global, trial: Trial) -> Result<bool, Refusal> {
+    match trial {
+        Trial::Adds => {
+            let adding = round(rt, alloc, 5, Job::Add(TIMES))?;
+            let closing = round(rt, alloc, 5, Job::CloseAndAdd(TIMES))?;
+            Ok(adding.adds_up() && closing.is_final())
         }
+        Trial::Recruits => Ok(round(rt, alloc, 9, Job::Recruit(TIMES / 2))?.is_final()),
     }
-    Ok(fine)
 }
 
 /// What came of a round.

@@ -18,13 +18,28 @@ fn entered<R: Wait>(rt: &R, alloc: Global) -> Result<(Pool, Pass), Refusal>
     Ok((pool, pass))
 }
 
-/// Adds to a word of an arena that the pass is inside, so often, and answers the words found, joined by exclusive or.
-pub fn adds<R: Wait>(rt: &R, alloc: Global, count: u64) -> Result<u64, Refusal> {
-    let (pool, pass) = entered(rt, alloc)?;
-    Ok(adding(pool, pass, count))
+/// What is done with a word of an arena that the pass is inside.
+#[derive(Clone, Copy)]
+pub enum Update {
+    /// It is added to.
+    Add,
+    /// It is swapped for the next one.
+    Swap,
+    /// A byte of it is patched.
+    Patch,
 }
 
-/// The additions alone, of a pool that nothing else has a name for.
+/// Updates a word so often, and answers the words found, joined by exclusive or, or the last word where they are swapped.
+pub fn updates<R: Wait>(rt: &R, alloc: Global, count: u64, update: Update) -> Result<u64, Refusal> {
+    let (pool, pass) = entered(rt, alloc)?;
+    Ok(match update {
+        Update::Add => adding(pool, pass, count),
+        Update::Swap => swapping(pool, pass, count),
+        Update::Patch => patching(rt, pool, pass, count),
+    })
+}
+
+/// The additions alone, of a pool that nothing else has a name for. So are the next two.
 fn adding(pool: Pool, mut pass: Pass, count: u64) -> u64
     requires { CanReach pool pass 0 }
 {
@@ -34,12 +49,6 @@ fn adding(pool: Pool, mut pass: Pass, count: u64) -> u64
     }
     leave(&pool, &mut pass);
     joined
-}
-
-/// Swaps a word of an arena for the next one, so often, and answers the last word.
-pub fn swaps<R: Wait>(rt: &R, alloc: Global, count: u64) -> Result<u64, Refusal> {
-    let (pool, pass) = entered(rt, alloc)?;
-    Ok(swapping(pool, pass, count))
 }
 
 fn swapping(pool: Pool, mut pass: Pass, count: u64) -> u64
@@ -53,12 +62,6 @@ fn swapping(pool: Pool, mut pass: Pass, count: u64) -> u64
     }
     leave(&pool, &mut pass);
     word
-}
-
-/// Patches a byte of a word of an arena, so often, and answers the words found, joined by exclusive or.
-pub fn patches<R: Wait>(rt: &R, alloc: Global, count: u64) -> Result<u64, Refusal> {
-    let (pool, pass) = entered(rt, alloc)?;
-    Ok(patching(rt, pool, pass, count))
 }
 
 fn patching<R: Wait>(rt: &R, pool: Pool, mut pass: Pass, count: u64) -> u64

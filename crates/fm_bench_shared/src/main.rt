@@ -1,8 +1,10 @@
-//! The loops of `fm_bench` that go through segments and handles, over the memory that is named first: `mono`, the
+//! Loops for the benchmarks that go through segments and handles, over the memory that is named first: `mono`, the
 //! arenas of one thread, or `shared`, those of a pool as its only pass uses them.
 //!
-//! `known COUNT`, `gets COUNT LAYOUT`, `handles COUNT LAYOUT`, `queries COUNT QUERY`, `fills COUNT`, `copies COUNT` and
-//! `mismatches COUNT` are the loops. It prints what it found, so that they are run; the script that calls it takes the time.
+//! `known COUNT` of a segment by a layout that the compiler knows, `gets COUNT LAYOUT` and `handles COUNT LAYOUT` by a
+//! layout that is read as JSON, at offsets and by a path, `queries COUNT QUERY` of records, and `fills COUNT`, `copies
+//! COUNT` and `mismatches COUNT` of segments of 64 MiB are the loops. It prints what it found, so that they are run; the
+//! script that calls it takes the time.
 #![tactic(auto)]
 
 mod cells;

@@ -1,7 +1,7 @@
 ghost use Rattle.std.specs.Prelude.{◌≡◌, None};
 ghost use Rattle.fm_arena.specs.Shares.{CanShare};
 
-use crate::cells::{gets, handles, known};
+use crate::cells::cells;
 use crate::queries::queries;
 use crate::ranges::{SIZE, copies, fills, mismatches};
 use fm_arena::Shared;
@@ -53,10 +53,8 @@ fn looped<R: Wait, M: Memory>(rt: &R, alloc: Global, m: &mut M, asked: &Asked) -
     requires { (M.view m.old).inside ≡ None }
 {
     match asked.what.as_str() {
-        "known" => known(rt, m, asked.count).ok(),
-        "gets" => gets(rt, alloc, m, asked).ok(),
-        "handles" => handles(rt, alloc, m, asked).ok(),
-        "queries" => queries(rt, alloc, m, asked).ok(),
+        "known" | "gets" | "handles" => cells(rt, alloc, m, asked).ok(),
+        "queries" => queries(rt, alloc, m, &asked.text, asked.count).ok(),
         "fills" => fills(rt, m, asked.count).ok(),
         "copies" => copies(rt, m, asked.count).ok(),
         "mismatches" => mismatches(rt, m, asked.count).ok(),

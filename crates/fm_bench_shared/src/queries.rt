@@ -1,7 +1,6 @@
 ghost use Rattle.std.specs.Prelude.{◌≡◌, None};
 ghost use Rattle.fm_records.specs.Learnt.{CanQuery};
 
-use crate::memories::Asked;
 use fm_base::{Kind, Memory, Refusal};
 use fm_ljson::layout_from_json;
 use fm_records::query_segment;
@@ -25,20 +24,21 @@ pub fn queries<R: Wait, M: Memory>(
     rt: &R,
     alloc: Global,
     m: &mut M,
-    asked: &Asked,
+    text: &str,
+    count: u64,
 ) -> Result<u64, Refusal>
     requires { (M.view m.old).inside ≡ None }
 {
     let layout = layout_from_json(alloc, ORDER.as_bytes())?;
     check_record(&layout)?;
-    let query = parse_query(alloc, &asked.text, &layout)?;
+    let query = parse_query(alloc, text, &layout)?;
     let arena = m.open_arena(rt, Kind::Shared)?;
     let first = m.allocate(rt, arena, RECORDS * SIZE, 8)?;
     let orders = Segment::of(arena, first, RECORDS * SIZE);
     if orders.first() % query.record_alignment() != 0 {
         return Err(Refusal::Misaligned);
     }
-    found(alloc, m, &query, &orders, asked.count)
+    found(alloc, m, &query, &orders, count)
 }
 
 /// The same, where the records are known and aligned.

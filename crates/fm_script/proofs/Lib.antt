@@ -13,6 +13,7 @@ pub mod Beginning
 pub mod Written
 pub mod Worker
 pub mod Outside
+pub mod Fresh
 pub mod Arranged
 pub mod Crewed
 pub mod Passing

@@ -1,4 +1,4 @@
-ghost use Rattle.std.specs.Prelude.{◌≡◌, ◌∷◌, ◌++◌, IfErr, IfOk, map};
+ghost use Rattle.std.specs.Prelude.{◌≡◌, ◌∷◌, ◌++◌, IfOk, map};
 ghost use Rattle.std.specs.List.{flat_map};
 ghost use Rattle.fm_script_lines.specs.Ordering.{lines_at};
 ghost use Rattle.fm_script_lines.specs.Standings.{arena_of, standing_as};
@@ -7,7 +7,7 @@ ghost use Rattle.fm_script.specs.Runs.{HasRun};
 
 use crate::main_lines::MainLines;
 use crate::player::Player;
-use fm_base::{ArenaId, Caller, Refusal};
+use fm_base::{ArenaId, Caller};
 use fm_rule::Finished;
 use fm_script_lines::{Bound, Numbers, Reply};
 use fm_script_report::{Report, report_lines};
@@ -61,7 +61,7 @@ pub(crate) fn replies_of(
     Ok(replies)
 }
 
-/// The report of a script that has run, whose lines stand in the order of printing. Refused: `Memory`.
+/// The report of a script that has run, whose lines stand in the order of printing.
 pub(crate) fn report_run(
     alloc: Global,
     script: &Script,
@@ -71,10 +71,9 @@ pub(crate) fn report_run(
     players: &[Player],
     main: MainLines,
     finished: Finished,
-) -> Result<Report, Refusal>
+) -> Result<Report, AllocError>
     requires { HasRun script.now (lines_at order.now) names.now caller players.now main finished }
-    ensures report { IfOk result (IsRunOf script.now) }
-    ensures memory { IfErr result (λ refusal. refusal ≡ Refusal.Memory) }
+    ensures { IfOk result (IsRunOf script.now) }
 {
     let opened = opened_by(alloc, main.lent.as_slice())?;
     let callers = callers_of(alloc, caller, players)?;

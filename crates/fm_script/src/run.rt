@@ -52,7 +52,7 @@ pub fn run_script<R: Threads + Wait + Sync, G: Gate>(
     );
     let main = ran?;
     let finished = pool.finish(alloc, pass)?;
-    report_run(
+    let report = report_run(
         alloc,
         script,
         all,
@@ -61,5 +61,6 @@ pub fn run_script<R: Threads + Wait + Sync, G: Gate>(
         players.as_slice(),
         main,
         finished,
-    )
+    )?;
+    Ok(report)
 }

@@ -116,14 +116,15 @@ module _ {c : Caller} {limit : ℕ} {s : State} {all own : List Entry} (o : Own 
   hold_tidy id (Err refusal.TooManyHolds) d = quiet_as o id _ d.1.1 (tt, tt)
   hold_tidy id (Err r) d = absurd d.1
 
-  hold_there : (m : Made) (id : ArenaId) (result : Result (Unit {0}) Refusal)
-      → IsThere (state_after limit s all) (coming (λ (u : Unit {0}). outcome Fine (held_as m id)) result).made
-  hold_there m id (Ok u) = record { arena = tt; segment = tt }
-  hold_there m id (Err r) = nothing_there (state_after limit s all)
+  token_there : (out : LineOutcome) → IsThere (state_after limit s all) out.made → (result : Result (Unit {0}) Refusal)
+      → IsThere (state_after limit s all) (coming (λ (u : Unit {0}). out) result).made
+  token_there out there (Ok u) = there
+  token_there out there (Err r) = nothing_there (state_after limit s all)
 
   pub holds_come : (id : ArenaId) (out : LineOutcome) → Holds c id out own → Comes c limit s all out.made
   holds_come id out does =
-      making_comes o (DoesHold c id) (λ u. outcome Fine (held_as does.0 id)) out (hold_tidy id) (λ result d. hold_there does.0 id result) does.1
+      making_comes o (DoesHold c id) (λ u. outcome Fine (held_as does.0 id)) out (hold_tidy id)
+      (λ result d. token_there (outcome Fine (held_as does.0 id)) (record { arena = tt; segment = tt }) result) does.1
 
   pub unholds_come : (id : ArenaId) (out : LineOutcome) → Unholds c id out own → Comes c limit s all out.made
   unholds_come id out does = nothing_comes o out.made (ap (λ (x : LineOutcome). x.made) does.0) (quiet_as o id _ does.1 (tt, tt))
@@ -133,14 +134,10 @@ module _ {c : Caller} {limit : ℕ} {s : State} {all own : List Entry} (o : Own 
   again_tidy id (Err refusal.TooManyHolds) d = quiet_as o id _ d (tt, tt)
   again_tidy id (Err r) d = absurd d
 
-  again_there : (m : Made) (id : ArenaId) (result : Result (Unit {0}) Refusal)
-      → IsThere (state_after limit s all) (coming (λ (u : Unit {0}). outcome Fine (handled_as m id)) result).made
-  again_there m id (Ok u) = record { arena = tt; segment = tt }
-  again_there m id (Err r) = nothing_there (state_after limit s all)
-
   pub takes_come : (id : ArenaId) (out : LineOutcome) → TakesAgain c id out own → Comes c limit s all out.made
   takes_come id out does =
-      making_comes o (DoesAgain c id) (λ u. outcome Fine (handled_as does.0 id)) out (again_tidy id) (λ result d. again_there does.0 id result) does.1
+      making_comes o (DoesAgain c id) (λ u. outcome Fine (handled_as does.0 id)) out (again_tidy id)
+      (λ result d. token_there (outcome Fine (handled_as does.0 id)) (record { arena = tt; segment = tt }) result) does.1
 
   back_tidy : (id : ArenaId) (others_left : Bool) → DoesGiveBack c id others_left (but_loans own) → IsTidyBy c limit s all
   back_tidy id true d = quiet_but o id _ d (tt, tt)

@@ -1,4 +1,4 @@
-ghost use Rattle.std.specs.Prelude.{◌≡◌, ◌++◌, true, IfOk, OnOk, IfErr};
+ghost use Rattle.std.specs.Prelude.{◌≡◌, ◌++◌, true, IfOk, OnOk};
 ghost use Rattle.fm_base.specs.Arenas.{has_arena};
 ghost use Rattle.fm_rule.specs.GivenBytes.{state_of};
 ghost use Rattle.fm_script_lines.specs.Numbers.{number_at};
@@ -6,25 +6,24 @@ ghost use Rattle.fm_script_report.specs.Alive.{AreOpened, alive_at, alive_by, al
 
 use crate::arena::AliveArena;
 use crate::given::Given;
-use fm_base::{ArenaId, Refusal};
+use fm_base::ArenaId;
 use fm_path_text::NameText;
 use fm_rule::Finished;
 use fm_script_lines::Numbers;
 use fm_script_text::{Command, Line};
-use std::alloc::Global;
+use std::alloc::{AllocError, Global};
 
-/// The arenas that these lines open and that are alive at the end. Refused: `Memory`.
+/// The arenas that these lines open and that are alive at the end.
 pub(crate) fn alive_arenas(
     alloc: Global,
     finished: &Finished,
     names: &Numbers,
     opened: &[Option<ArenaId>],
     lines: &[Line],
-) -> Result<Vec<AliveArena>, Refusal>
+) -> Result<Vec<AliveArena>, AllocError>
     requires { AreOpened finished.now opened.now }
-    ensures alive { IfOk result (λ alive. alive.items
+    ensures { IfOk result (λ alive. alive.items
         ≡ alive_of finished.now (arena_by (number_at names.now) opened.now) lines.now) }
-    ensures memory { IfErr result (λ refusal. refusal ≡ Refusal.Memory) }
 {
     let mut alive = Vec::new(alloc);
     for line in lines {
@@ -33,7 +32,7 @@ pub(crate) fn alive_arenas(
     Ok(alive)
 }
 
-/// Adds the arena that the command opens, if it is alive at the end. Refused: `Memory`.
+/// Adds the arena that the command opens, if it is alive at the end.
 fn push_opened(
     alloc: Global,
     alive: &mut Vec<AliveArena>,
@@ -41,11 +40,10 @@ fn push_opened(
     names: &Numbers,
     opened: &[Option<ArenaId>],
     command: &Command,
-) -> Result<(), Refusal>
+) -> Result<(), AllocError>
     requires { AreOpened finished.now opened.now }
-    ensures pushed { OnOk result (alive.new.items ≡ alive.old.items
+    ensures { OnOk result (alive.new.items ≡ alive.old.items
         ++ alive_by finished.now (arena_by (number_at names.now) opened.now) command.now) }
-    ensures memory { IfErr result (λ refusal. refusal ≡ Refusal.Memory) }
 {
     let Command::Open { name, .. } = command else {
         return Ok(());
@@ -64,27 +62,27 @@ fn arena_of(names: &Numbers, opened: &[Option<ArenaId>], name: &NameText) -> Opt
     *opened.get(number)?
 }
 
-/// Adds this arena, if it is alive at the end. Refused: `Memory`.
+/// Adds this arena, if it is alive at the end.
 fn push_alive(
     alloc: Global,
     alive: &mut Vec<AliveArena>,
     finished: &Finished,
     name: &NameText,
     id: ArenaId,
-) -> Result<(), Refusal>
+) -> Result<(), AllocError>
     requires { has_arena (state_of finished.now) id ≡ true }
-    ensures pushed { OnOk result (alive.new.items ≡ alive.old.items ++ alive_at finished.now name.now (Some id)) }
-    ensures memory { IfErr result (λ refusal. refusal ≡ Refusal.Memory) }
+    ensures { OnOk result (alive.new.items ≡ alive.old.items ++ alive_at finished.now name.now (Some id)) }
 {
-    let Some(bytes) = finished.bytes_of(alloc, id)? else {
+    let Ok(found) = finished.bytes_of(alloc, id) else {
+        return Err(AllocError);
+    };
+    let Some(bytes) = found else {
         return Ok(());
     };
     let arena = AliveArena {
         name: name.clone()?,
         bytes: Given::of(bytes),
     };
-    if alive.push(arena).is_err() {
-        return Err(Refusal::Memory);
-    }
+    alive.push(arena)?;
     Ok(())
 }

@@ -17,16 +17,16 @@ pub fn print_report(alloc: Global, report: &Report) -> Result<String, Refusal>
     ensures text { IfOk result (λ text. string_bytes text ≡ report_text report.now) }
     ensures memory { IfErr result (λ refusal. refusal ≡ Refusal.Memory) }
 {
-    let text = text_of(alloc, report.lines(), report.alive())?;
+    let text = text_of(alloc, report)?;
     Ok(text)
 }
 
-fn text_of(alloc: Global, lines: &[ReportLine], alive: &[AliveArena]) -> Result<String, AllocError>
-    ensures { IfOk result (λ text. string_bytes text ≡ flat_map line_text lines.now ++ flat_map arena_text alive.now) }
+fn text_of(alloc: Global, report: &Report) -> Result<String, AllocError>
+    ensures { IfOk result (λ text. string_bytes text ≡ report_text report.now) }
 {
     let mut text = String::new(alloc);
-    push_lines(&mut text, lines)?;
-    push_arenas(alloc, &mut text, alive)?;
+    push_lines(&mut text, report.lines())?;
+    push_arenas(alloc, &mut text, report.alive())?;
     Ok(text)
 }
 

@@ -1,4 +1,4 @@
-ghost use Rattle.std.specs.Prelude.{◌≡◌, IfOk, IfErr};
+ghost use Rattle.std.specs.Prelude.{◌≡◌, IfOk};
 ghost use Rattle.fm_script_lines.specs.Numbers.{number_at};
 ghost use Rattle.fm_script_report.specs.Alive.{AreOpened, arena_by};
 ghost use Rattle.fm_script_report.specs.Told.{report_of};
@@ -6,11 +6,11 @@ ghost use Rattle.fm_script_report.specs.Told.{report_of};
 use crate::alive::alive_arenas;
 use crate::arena::AliveArena;
 use crate::line::ReportLine;
-use fm_base::{ArenaId, Caller, Refusal};
+use fm_base::{ArenaId, Caller};
 use fm_rule::Finished;
 use fm_script_lines::Numbers;
 use fm_script_text::Script;
-use std::alloc::Global;
+use std::alloc::{AllocError, Global};
 use std::marker::Model;
 
 /// What a run of a script came to: the pool that it left, who ran the lines, what each line was answered, and the bytes
@@ -39,8 +39,6 @@ impl Model for Report {
 impl Report {
     /// The report of a run of this script, whose lines, in the order of printing, have these numbers by the names that
     /// they make, opened these arenas over this pool and are told so. The callers are pass 0's and the workers'.
-    ///
-    /// Refused: `Memory`.
     pub fn of(
         alloc: Global,
         script: &Script,
@@ -49,11 +47,10 @@ impl Report {
         lines: Vec<ReportLine>,
         callers: Vec<Caller>,
         finished: Finished,
-    ) -> Result<Report, Refusal>
+    ) -> Result<Report, AllocError>
         requires { AreOpened finished opened.now }
-        ensures report { IfOk result (λ r. r ≡ report_of (arena_by (number_at names.now) opened.now)
+        ensures { IfOk result (λ r. r ≡ report_of (arena_by (number_at names.now) opened.now)
             script.now.lines lines.items callers.items finished) }
-        ensures memory { IfErr result (λ refusal. refusal ≡ Refusal.Memory) }
     {
         let alive = alive_arenas(alloc, &finished, names, opened, script.lines())?;
         Ok(Report {

@@ -164,10 +164,8 @@ pub record IsAdmitted (before : List Line) (who : Who) (command : Command) : Typ
 -- what has to be given back
 abbrev pub is_owed : Thing → Bool
 is_owed thing.Arena = false
-is_owed thing.Automatic = true
 is_owed thing.Segment = false
-is_owed thing.Hold = true
-is_owed thing.Handle = true
+is_owed t = true
 
 -- what the line makes is given back, if it has to be
 abbrev pub is_settled : (List ℕ → Bool) → Option Made → Bool

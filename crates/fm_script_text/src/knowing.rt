@@ -1,4 +1,4 @@
-ghost use Rattle.std.specs.Prelude.{◌≡◌, ◌++◌, ◌∷◌, [], OnOk, IfErr, MatchBool, List, ℕ};
+ghost use Rattle.std.specs.Prelude.{◌≡◌, ◌++◌, ◌∷◌, [], OnOk, MatchBool, List, ℕ};
 ghost use Rattle.fm_layout.specs.Name.{IsName};
 ghost use Rattle.fm_script_text.specs.Knowing.{Knows, maker_at, is_spent_at, newer, spent_more};
 ghost use Rattle.fm_script_text.specs.Rules.{may_use, uses, is_new, made, given_back, is_settled, is_owed, IsAdmitted};
@@ -10,9 +10,8 @@ use crate::maker::Maker;
 use crate::names::Names;
 use crate::thing::{Role, Thing};
 use crate::who::Who;
-use fm_base::Refusal;
 use fm_path_text::NameText;
-use std::alloc::Global;
+use std::alloc::{AllocError, Global};
 use std::collections::{BTreeMap, BTreeSet};
 use std::str;
 
@@ -37,12 +36,11 @@ impl Names {
         self.phase <= who.phase() && self.makes_new(command) && self.uses_known(who, command)
     }
 
-    /// Takes an admitted line's names in. Refused: `Memory`.
-    pub fn note(&mut self, alloc: Global, who: Who, command: &Command) -> Result<(), Refusal>
+    /// Takes an admitted line's names in.
+    pub fn note(&mut self, alloc: Global, who: Who, command: &Command) -> Result<(), AllocError>
         requires { IsWho who }
-        ensures ok { OnOk result ((before : List Line) (l : Line) → Knows self.old before → l.who ≡ who
+        ensures { OnOk result ((before : List Line) (l : Line) → Knows self.old before → l.who ≡ who
             → l.command ≡ command.now → IsAdmitted before who command.now → Knows self.new (before ++ l ∷ [])) }
-        ensures memory { IfErr result (λ refusal. refusal ≡ Refusal.Memory) }
     {
         self.make(alloc, who, command)?;
         self.give_back(alloc, command)?;
@@ -61,43 +59,33 @@ impl Names {
         }
     }
 
-    fn make(&mut self, alloc: Global, who: Who, command: &Command) -> Result<(), Refusal>
+    fn make(&mut self, alloc: Global, who: Who, command: &Command) -> Result<(), AllocError>
         ensures made { OnOk result ((name : List ℕ) →
             maker_at self.new name ≡ newer who (made command.now) name (maker_at self.old name)) }
         ensures rest { OnOk result (self.new.given_back ≡ self.old.given_back) }
         ensures phase { OnOk result (self.new.phase ≡ self.old.phase) }
         ensures passes { OnOk result (self.new.passes ≡ self.old.passes) }
-        ensures memory { IfErr result (λ refusal. refusal ≡ Refusal.Memory) }
     {
         let Some((name, thing)) = command.makes() else {
             return Ok(());
         };
-        let Ok(key) = String::from_str(alloc, text_of(name)) else {
-            return Err(Refusal::Memory);
-        };
-        let Ok(_) = self.makers.insert(key, Maker { who, thing }) else {
-            return Err(Refusal::Memory);
-        };
+        let key = String::from_str(alloc, text_of(name))?;
+        self.makers.insert(key, Maker { who, thing })?;
         Ok(())
     }
 
-    fn give_back(&mut self, alloc: Global, command: &Command) -> Result<(), Refusal>
+    fn give_back(&mut self, alloc: Global, command: &Command) -> Result<(), AllocError>
         ensures given_back { OnOk result ((name : List ℕ) →
             is_spent_at self.new name ≡ spent_more (given_back command.now) name (is_spent_at self.old name)) }
         ensures rest { OnOk result (self.new.makers ≡ self.old.makers) }
         ensures phase { OnOk result (self.new.phase ≡ self.old.phase) }
         ensures passes { OnOk result (self.new.passes ≡ self.old.passes) }
-        ensures memory { IfErr result (λ refusal. refusal ≡ Refusal.Memory) }
     {
         let Some(name) = command.gives_back() else {
             return Ok(());
         };
-        let Ok(key) = String::from_str(alloc, text_of(name)) else {
-            return Err(Refusal::Memory);
-        };
-        let Ok(_) = self.given_back.insert(key) else {
-            return Err(Refusal::Memory);
-        };
+        let key = String::from_str(alloc, text_of(name))?;
+        self.given_back.insert(key)?;
         Ok(())
     }
 

@@ -4,7 +4,7 @@ ghost use Rattle.fm_rule_facts.specs.Views.{IsKnown, given_of};
 ghost use Rattle.fm_rule_calls.specs.Kept.{Lasts};
 ghost use Rattle.fm_gate.specs.Needs.{CanAllocate, CanVisit, IsOutside};
 ghost use Rattle.fm_arena.specs.Shares.{CanShare};
-ghost use Rattle.fm_close.specs.Learnt.{CanSweep, CanWalk, IsUnderWay, StandsAfter};
+ghost use Rattle.fm_close.specs.Learnt.{CanWalk, IsToSweep, IsUnderWay, StandsAfter};
 ghost use Rattle.fm_close.specs.Does.{after_visit};
 
 mod crews;
@@ -14,7 +14,7 @@ mod kinds;
 mod reuse;
 mod threads;
 
-use crate::tests::pools::pool_of;
+use crate::tests::pools::{is_full, pool_of};
 use fm_base::{ArenaId, Kind, Refusal};
 use fm_close::{Shutting, Visit, a_close_lasts, close, shut, sweep, visit};
 use fm_gate::{a_hold_stands, allocate, enter, hold, is_alive, leave, open_arena, swap_if, unhold};
@@ -76,10 +76,7 @@ fn one_pass_uses_the_only_slot_and_closes_it(rt: HostRuntime) {
     assert_eq!(rt; s.is_ended(), true);
     sweep(&pool, &mut pass, s);
     assert_eq!(rt; enter(&pool, &mut pass, a), Err(Refusal::Closed));
-    assert_eq!(rt;
-        open_arena(&rt, &pool, &mut pass, Kind::Shared),
-        Err(Refusal::NoSlot)
-    );
+    assert!(rt; is_full(&rt, &pool, &mut pass));
 }
 
 #[test]
@@ -133,12 +130,14 @@ fn an_arena_is_closed_once_its_holds_are_spent(rt: HostRuntime) {
     assert_eq!(rt; is_over(&rt, &pool, &mut pass, a), true);
 }
 
-/// Visits another arena in the midst of a close.
+/// Visits another arena in the midst of a close, or before the one that ended is swept.
 fn look_beside(pool: &Pool, pass: &mut Pass, other: ArenaId, s: &Shutting) -> Result<bool, Refusal>
-    requires walk { CanWalk pool.now pass.old s.now }
+    requires outside { IsOutside pool.now pass.old }
     requires known { IsKnown pass.old other }
-    ensures walk { CanWalk pool.now pass.new s.now }
+    ensures outside { IsOutside pool.now pass.new }
     ensures known { IsKnown pass.new other }
+    ensures walks { IsUnderWay pass.old s.now → IsUnderWay pass.new s.now }
+    ensures sweep { IsToSweep pass.old s.now → IsToSweep pass.new s.now }
 {
     a_close_lasts();
     is_alive(pool, pass, other)
@@ -159,22 +158,6 @@ fn step_beside(pool: &Pool, pass: &mut Pass, other: ArenaId, s: &mut Shutting) -
     }
 }
 
-/// Visits another arena before the one that ended is swept.
-fn look_before_sweep(
-    pool: &Pool,
-    pass: &mut Pass,
-    other: ArenaId,
-    s: &Shutting,
-) -> Result<bool, Refusal>
-    requires sweep { CanSweep pool.now pass.old s.now }
-    requires known { IsKnown pass.old other }
-    ensures sweep { CanSweep pool.now pass.new s.now }
-    ensures known { IsKnown pass.new other }
-{
-    a_close_lasts();
-    is_alive(pool, pass, other)
-}
-
 #[test]
 fn another_arena_is_used_in_the_midst_of_a_close(rt: HostRuntime) {
     let (pool, mut pass) = made(&rt, 2);
@@ -187,7 +170,7 @@ fn another_arena_is_used_in_the_midst_of_a_close(rt: HostRuntime) {
         step_beside(&pool, &mut pass, b, &mut s),
         Some(Visit::Ended)
     );
-    assert_eq!(rt; look_before_sweep(&pool, &mut pass, b, &s), Ok(true));
+    assert_eq!(rt; look_beside(&pool, &mut pass, b, &s), Ok(true));
     sweep(&pool, &mut pass, s);
     assert_eq!(rt; close(&rt, &pool, &mut pass, b), Ok(()));
 }

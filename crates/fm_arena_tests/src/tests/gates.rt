@@ -1,15 +1,16 @@
 ghost use Rattle.std.specs.Prelude.{◌≡◌, ◌<◌, ◌≤◌, ◌*◌, bit_and};
-ghost use Rattle.fm_rule_facts.specs.Views.{IsKnown, given_of, span};
+ghost use Rattle.fm_rule_facts.specs.Views.{given_of, span};
 ghost use Rattle.fm_rule_calls.specs.Kept.{Lasts};
-ghost use Rattle.fm_gate.specs.Needs.{CanAllocate, CanVisit, IsInside, IsOutside};
+ghost use Rattle.fm_gate.specs.Needs.{CanVisit, IsOutside};
 ghost use Rattle.fm_arena.specs.Shares.{CanShare};
+ghost use Rattle.fm_arena_tests.specs.Ready.{CanAct};
 
 mod crews;
 mod finishing;
 mod holds;
 mod kinds;
 
-use crate::tests::pools::{given, pool_of, word_of};
+use crate::tests::pools::{given, is_full, pool_of, word_of};
 use fm_base::{ArenaId, Kind, Refusal};
 use fm_gate::{
     add, allocate, enter, hold, is_alive, leave, load, open_arena, patch, store, swap_if, unhold,
@@ -32,57 +33,49 @@ fn made<R: Abort + AllocGlobal>(rt: &R, slots: u32) -> (Pool, Pass)
 /// Reads a word of an arena that has given 64 bytes, and can still act in it. So do the next four.
 fn read(pool: &Pool, pass: &mut Pass, a: ArenaId, word: u64) -> u64
     requires low { word < 8 }
-    requires inside { IsInside pool.now pass.old a }
-    requires given { 64 ≤ given_of pass.old a }
-    requires known { IsKnown pass.old a }
-    ensures inside { IsInside pool.now pass.new a }
-    ensures given { 64 ≤ given_of pass.new a }
-    ensures known { IsKnown pass.new a }
+    requires can { CanAct pool.now pass.old a }
+    ensures { CanAct pool.now pass.new a }
 {
     load(pool, pass, word)
 }
 
 fn write(pool: &Pool, pass: &mut Pass, a: ArenaId, word: u64, v: u64)
     requires low { word < 8 }
-    requires inside { IsInside pool.now pass.old a }
-    requires given { 64 ≤ given_of pass.old a }
-    requires known { IsKnown pass.old a }
-    ensures inside { IsInside pool.now pass.new a }
-    ensures given { 64 ≤ given_of pass.new a }
-    ensures known { IsKnown pass.new a }
+    requires can { CanAct pool.now pass.old a }
+    ensures { CanAct pool.now pass.new a }
 {
     store(pool, pass, word, v);
 }
 
 fn swap(pool: &Pool, pass: &mut Pass, a: ArenaId, word: u64, old: u64, new: u64) -> u64
     requires low { word < 8 }
-    requires inside { IsInside pool.now pass.old a }
-    requires given { 64 ≤ given_of pass.old a }
-    requires known { IsKnown pass.old a }
-    ensures inside { IsInside pool.now pass.new a }
-    ensures given { 64 ≤ given_of pass.new a }
-    ensures known { IsKnown pass.new a }
+    requires can { CanAct pool.now pass.old a }
+    ensures { CanAct pool.now pass.new a }
 {
     swap_if(pool, pass, word, old, new)
 }
 
 fn sum(pool: &Pool, pass: &mut Pass, a: ArenaId, word: u64, n: u64) -> u64
     requires low { word < 8 }
-    requires inside { IsInside pool.now pass.old a }
-    requires given { 64 ≤ given_of pass.old a }
-    requires known { IsKnown pass.old a }
-    ensures inside { IsInside pool.now pass.new a }
-    ensures given { 64 ≤ given_of pass.new a }
-    ensures known { IsKnown pass.new a }
+    requires can { CanAct pool.now pass.old a }
+    ensures { CanAct pool.now pass.new a }
 {
     add(pool, pass, word, n)
 }
 
+/// A pool of one slot, and its pass inside an arena of this kind that has given 64 bytes.
+fn entered<R: Abort + AllocGlobal + Wait>(rt: &R, kind: Kind) -> (Pool, Pass, ArenaId)
+    ensures { CanAct result.0 result.1 result.2 }
+{
+    let (pool, mut pass) = made(rt, 1);
+    let a = given(rt, &pool, &mut pass, kind, 64);
+    assert_eq!(rt; enter(&pool, &mut pass, a), Ok(()));
+    (pool, pass, a)
+}
+
 #[test]
 fn a_pass_enters_acts_and_leaves(rt: HostRuntime) {
-    let (pool, mut pass) = made(&rt, 1);
-    let a = given(&rt, &pool, &mut pass, Kind::Shared, 64);
-    assert_eq!(rt; enter(&pool, &mut pass, a), Ok(()));
+    let (pool, mut pass, a) = entered(&rt, Kind::Shared);
     write(&pool, &mut pass, a, 0, 9);
     write(&pool, &mut pass, a, 7, u64::MAX);
     assert_eq!(rt; read(&pool, &mut pass, a, 0), 9);
@@ -90,17 +83,12 @@ fn a_pass_enters_acts_and_leaves(rt: HostRuntime) {
     assert_eq!(rt; read(&pool, &mut pass, a, 7), u64::MAX);
     leave(&pool, &mut pass);
     assert_eq!(rt; is_alive(&pool, &mut pass, a), Ok(true));
-    assert_eq!(rt;
-        open_arena(&rt, &pool, &mut pass, Kind::Shared),
-        Err(Refusal::NoSlot)
-    );
+    assert!(rt; is_full(&rt, &pool, &mut pass));
 }
 
 #[test]
 fn words_are_changed_by_what_is_found(rt: HostRuntime) {
-    let (pool, mut pass) = made(&rt, 1);
-    let a = given(&rt, &pool, &mut pass, Kind::Confined, 64);
-    assert_eq!(rt; enter(&pool, &mut pass, a), Ok(()));
+    let (pool, mut pass, a) = entered(&rt, Kind::Confined);
     write(&pool, &mut pass, a, 1, 7);
     assert_eq!(rt; swap(&pool, &mut pass, a, 1, 6, 5), 7);
     assert_eq!(rt; swap(&pool, &mut pass, a, 1, 7, u64::MAX), 7);
@@ -121,65 +109,37 @@ fn put_bits<R: Wait>(
 ) -> u64
     requires under { bit_and bits mask ≡ bits }
     requires low { word < 8 }
-    requires inside { IsInside pool.now pass.old a }
-    requires given { 64 ≤ given_of pass.old a }
-    requires known { IsKnown pass.old a }
-    ensures inside { IsInside pool.now pass.new a }
-    ensures given { 64 ≤ given_of pass.new a }
-    ensures known { IsKnown pass.new a }
+    requires can { CanAct pool.now pass.old a }
+    ensures { CanAct pool.now pass.new a }
 {
     patch(rt, pool, pass, word, mask, bits)
 }
 
 #[test]
 fn bits_are_put_beside_others(rt: HostRuntime) {
-    let (pool, mut pass) = made(&rt, 1);
-    let a = given(&rt, &pool, &mut pass, Kind::Shared, 64);
-    assert_eq!(rt; enter(&pool, &mut pass, a), Ok(()));
+    let (pool, mut pass, a) = entered(&rt, Kind::Shared);
     write(&pool, &mut pass, a, 7, 2);
     assert_eq!(rt; put_bits(&rt, &pool, &mut pass, a, 7, 0xff00, 0x4200), 2);
     assert_eq!(rt; read(&pool, &mut pass, a, 7), 0x4202);
     leave(&pool, &mut pass);
 }
 
-/// Allocates, and says what became of it.
-fn give<R: Wait>(
-    rt: &R,
-    pool: &Pool,
-    pass: &mut Pass,
-    a: ArenaId,
-    size: u64,
-    align: u64,
-) -> Result<u64, Refusal>
-    requires { CanAllocate pool.now pass.old a }
-    ensures { CanAllocate pool.now pass.new a }
-{
-    allocate(rt, pool, pass, a, size, align)
-}
-
 #[test]
 fn bytes_are_given_up_to_the_limit(rt: HostRuntime) {
     let (pool, mut pass) = made(&rt, 1);
     let a = open_arena(&rt, &pool, &mut pass, Kind::Shared).expect(&rt, "a slot");
-    assert_eq!(rt; give(&rt, &pool, &mut pass, a, 60, 4), Ok(0));
-    assert_eq!(rt;
-        give(&rt, &pool, &mut pass, a, 8, 8),
-        Err(Refusal::NoRoom(60))
-    );
-    assert_eq!(rt; give(&rt, &pool, &mut pass, a, 3, 4), Ok(60));
-    assert_eq!(rt;
-        give(&rt, &pool, &mut pass, a, 4, 3),
-        Err(Refusal::BadAlignment)
-    );
-    assert_eq!(rt;
-        give(&rt, &pool, &mut pass, a, 0, 1 << 40),
-        Err(Refusal::NoRoom(63))
-    );
-    assert_eq!(rt;
-        give(&rt, &pool, &mut pass, a, u64::MAX, 1),
-        Err(Refusal::NoRoom(63))
-    );
-    assert_eq!(rt; give(&rt, &pool, &mut pass, a, 0, 8), Ok(64));
+    let rows = [
+        (60, 4, Ok(0)),
+        (8, 8, Err(Refusal::NoRoom(60))),
+        (3, 4, Ok(60)),
+        (4, 3, Err(Refusal::BadAlignment)),
+        (0, 1 << 40, Err(Refusal::NoRoom(63))),
+        (u64::MAX, 1, Err(Refusal::NoRoom(63))),
+        (0, 8, Ok(64)),
+    ];
+    for (size, align, answer) in rows {
+        assert_eq!(rt; allocate(&rt, &pool, &mut pass, a, size, align), answer);
+    }
 }
 
 #[test]
@@ -232,10 +192,7 @@ fn arenas_of_two_slots_have_words_of_their_own(rt: HostRuntime) {
     let b = given(&rt, &pool, &mut pass, Kind::Confined, 64);
     assert_eq!(rt; a == b, false);
     assert_eq!(rt; words_of_both(&pool, &mut pass, a, b), Ok([0, 1, 2, 0]));
-    assert_eq!(rt;
-        open_arena(&rt, &pool, &mut pass, Kind::Shared),
-        Err(Refusal::NoSlot)
-    );
+    assert!(rt; is_full(&rt, &pool, &mut pass));
 }
 
 #[test]
@@ -246,8 +203,5 @@ fn each_pass_opens_until_no_slot_is_left(rt: HostRuntime) {
     let b = open_arena(&rt, &pool, &mut pass, Kind::Confined).expect(&rt, "a slot");
     assert_eq!(rt; (a.slot, a.generation, a.owner), (0, 0, 1));
     assert_eq!(rt; (b.slot, b.generation, b.owner), (1, 0, 0));
-    assert_eq!(rt;
-        open_arena(&rt, &pool, &mut other, Kind::Shared),
-        Err(Refusal::NoSlot)
-    );
+    assert!(rt; is_full(&rt, &pool, &mut other));
 }

@@ -6,6 +6,7 @@ ghost use Rattle.fm_close.specs.Does.{after_visit};
 ghost use Rattle.fm_gate.specs.Crews.{HasNothing};
 ghost use Rattle.fm_gate.specs.Needs.{CanVisit, IsInside, IsOutside};
 ghost use Rattle.fm_arena.specs.Shares.{CanShare};
+ghost use Rattle.fm_arena_tests.specs.Ready.{IsKeptOut};
 
 use crate::tests::pools::{drawn, is_whole, pool_of, takes_in};
 use fm_base::{ArenaId, Caller, Kind, Refusal};
@@ -45,7 +46,7 @@ fn come_and_go(pool: &Pool, pass: &mut Pass, a: ArenaId) -> Result<(), Refusal>
     requires nothing { HasNothing pass.old }
     ensures outside { IsOutside pool.now pass.new }
     ensures nothing { HasNothing pass.new }
-    ensures kept_out { a.kind ≡ Kind.Confined → owner_of a ≢ pass.old.caller → result ≡ Err Refusal.WrongThread }
+    ensures kept_out { IsKeptOut a pass.old.caller result }
 {
     a_crew_stands();
     enter(pool, pass, a)?;

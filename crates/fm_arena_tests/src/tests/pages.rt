@@ -4,36 +4,29 @@ ghost use Rattle.fm_base.specs.Learnt.{CanVisit};
 ghost use Rattle.fm_rule_calls.specs.Told.{view_of_pass};
 ghost use Rattle.fm_segment.specs.Access.{IsKnown};
 ghost use Rattle.fm_arena.specs.Handles.{CanGiveBack};
-ghost use Rattle.fm_arena.specs.Shares.{CanShare};
 
-use crate::tests::pools::paged;
+use crate::tests::pools::{paged, pool_as};
 use fm_arena::{Arena, AutoHandle, Shared, a_handle_lasts};
 use fm_base::{ArenaId, Kind, Memory, Refusal};
 use fm_close::GaveBack;
 use fm_lanes::{Value, ValueKind};
 use fm_layout::Layout;
-use fm_rule::{Pass, Pool};
 use fm_segment::Segment;
 use fm_words::Shape;
 use std::alloc::AllocGlobal;
 use std::process::Abort;
 use std::sync::Wait;
 
-/// A pool of one pass and four pages of 64 bytes, of which an arena has three at most. Each of its two slots has two
-/// arenas, one after another.
-fn made<R: Abort + AllocGlobal>(rt: &R) -> (Pool, Pass)
-    ensures { CanShare result.0 result.1 }
-{
-    let shape = Shape {
-        passes: 1,
-        slots: 2,
-        pages: 4,
-        page_words: 8,
-        reach: 3,
-        generations: 2,
-    };
-    Pool::make(rt.alloc(), shape).expect(rt, "words")
-}
+/// One pass and four pages of 64 bytes, of which an arena has three at most. Each of the two slots has two arenas, one
+/// after another.
+const FOUR_PAGES: Shape = Shape {
+    passes: 1,
+    slots: 2,
+    pages: 4,
+    page_words: 8,
+    reach: 3,
+    generations: 2,
+};
 
 /// What an allocation is answered where another arena has given so many bytes, and its own some.
 fn answered<R: Abort + AllocGlobal + Wait>(
@@ -43,7 +36,7 @@ fn answered<R: Abort + AllocGlobal + Wait>(
     size: u64,
     align: u64,
 ) -> Result<u64, Refusal> {
-    let (pool, pass) = made(rt);
+    let (pool, pass) = pool_as(rt, FOUR_PAGES);
     let mut m = Shared::new(&pool, pass);
     let other = m.open_arena(rt, Kind::Shared).expect(rt, "a slot");
     let a = m.open_arena(rt, Kind::Shared).expect(rt, "a slot");
@@ -80,7 +73,7 @@ fn an_allocation_wants_the_pages_of_its_range(rt: HostRuntime) {
 
 #[test]
 fn who_found_no_page_finds_it_once_another_arena_is_closed(rt: HostRuntime) {
-    let (pool, pass) = made(&rt);
+    let (pool, pass) = pool_as(&rt, FOUR_PAGES);
     let mut m = Shared::new(&pool, pass);
     let a = Arena::start(&rt, &mut m, Kind::Confined).expect(&rt, "a slot");
     let b = Arena::start(&rt, &mut m, Kind::Shared).expect(&rt, "a slot");
@@ -117,7 +110,7 @@ fn short<R: Abort + Wait>(rt: &R, m: &mut Shared, handle: &AutoHandle) -> ArenaI
 
 #[test]
 fn the_last_handle_gives_the_pages_back(rt: HostRuntime) {
-    let (pool, pass) = made(&rt);
+    let (pool, pass) = pool_as(&rt, FOUR_PAGES);
     let mut m = Shared::new(&pool, pass);
     let handle = automatic(&rt, &mut m);
     let a = short(&rt, &mut m, &handle);
@@ -154,7 +147,7 @@ fn zeros(m: &mut Shared, s: &Segment) -> u64
 
 #[test]
 fn each_page_is_zeros_when_it_is_lent_again(rt: HostRuntime) {
-    let (pool, pass) = made(&rt);
+    let (pool, pass) = pool_as(&rt, FOUR_PAGES);
     let mut m = Shared::new(&pool, pass);
     let (arena, s) = whole(&rt, &mut m);
     assert_eq!(rt; s.fill(&rt, &mut m, 255), Ok(()));

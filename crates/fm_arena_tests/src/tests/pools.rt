@@ -1,10 +1,11 @@
 //! What tests of the gate and of closing both need.
-ghost use Rattle.std.specs.Prelude.{◌≡◌, ◌<◌, ◌≤◌, ◌*◌};
+ghost use Rattle.std.specs.Prelude.{◌≡◌, ◌<◌, ◌≤◌, ◌*◌, true};
 ghost use Rattle.fm_rule_facts.specs.Views.{given_of, span};
 ghost use Rattle.fm_rule_calls.specs.Kept.{Lasts};
 ghost use Rattle.fm_gate.specs.Crews.{HasNothing, StandsOn};
 ghost use Rattle.fm_gate.specs.Needs.{CanAllocate, CanVisit, IsOutside};
 ghost use Rattle.fm_arena.specs.Shares.{CanShare};
+ghost use Rattle.fm_words.specs.Shapes.{IsValid};
 
 use fm_base::{ArenaId, Kind, Refusal};
 use fm_gate::{a_crew_stands, allocate, enter, leave, load, open_arena};
@@ -13,6 +14,14 @@ use fm_words::Shape;
 use std::alloc::AllocGlobal;
 use std::process::Abort;
 use std::sync::Wait;
+
+/// A pool of this shape, and its first pass.
+pub(crate) fn pool_as<R: Abort + AllocGlobal>(rt: &R, shape: Shape) -> (Pool, Pass)
+    requires { IsValid shape }
+    ensures { CanShare result.0 result.1 }
+{
+    Pool::make(rt.alloc(), shape).expect(rt, "words")
+}
 
 /// A pool for so many passes, whose slots have one page each, and so many arenas one after another; and its first pass.
 pub(crate) fn pool_of<R: Abort + AllocGlobal>(
@@ -31,6 +40,7 @@ pub(crate) fn pool_of<R: Abort + AllocGlobal>(
     requires some_generations { 0 < generations }
     ensures ready { CanShare result.0 result.1 }
     ensures nothing { HasNothing result.1 }
+    ensures whole { result.1.whole ≡ true }
     ensures wide { span result.0.shape ≡ page_words }
     ensures passes { result.0.shape.passes ≡ passes }
 {
@@ -70,7 +80,15 @@ pub(crate) fn paged<R: Abort + AllocGlobal>(
         reach: pages,
         generations,
     };
-    Pool::make(rt.alloc(), shape).expect(rt, "words")
+    pool_as(rt, shape)
+}
+
+/// Whether no slot is free.
+pub(crate) fn is_full<R: Wait>(rt: &R, pool: &Pool, pass: &mut Pass) -> bool
+    requires { IsOutside pool.now pass.old }
+    ensures { IsOutside pool.now pass.new }
+{
+    open_arena(rt, pool, pass, Kind::Shared) == Err(Refusal::NoSlot)
 }
 
 /// Opens an arena, and gives its first bytes, so many.
@@ -84,6 +102,7 @@ pub(crate) fn given<R: Abort + Wait>(
     requires { CanShare pool.now pass.old }
     ensures can { CanAllocate pool.now pass.new result }
     ensures given { bytes ≤ given_of pass.new result }
+    ensures whole { pass.new.whole ≡ pass.old.whole }
     ensures lasts { Lasts pass.old pass.new }
 {
     let a = open_arena(rt, pool, pass, kind).expect(rt, "a slot");

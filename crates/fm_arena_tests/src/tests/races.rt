@@ -183,50 +183,81 @@ fn two_passes_patch_a_word_at_once(rt: HostRuntime) {
     assert!(rt; last == Ok(TIMES - 1) || last == Ok(2 * TIMES - 1));
 }
 
-/// Draws 2,000 passes once the other came, and answers how many it drew.
-fn draw_often<R: Wait>(
+/// What two threads do at once.
+#[derive(Clone, Copy)]
+enum Wish {
+    Pass,
+    Arena,
+}
+
+/// Whether a pass could be drawn, or an arena opened.
+fn gets<R: Wait>(rt: &R, pool: &Pool, pass: &mut Pass, wish: Wish) -> bool
+    requires { IsOutside pool.now pass.old }
+    ensures { IsOutside pool.now pass.new }
+{
+    a_crew_stands();
+    match wish {
+        Wish::Pass => pool.draw(rt, pass).is_ok(),
+        Wish::Arena => open_arena(rt, pool, pass, Kind::Shared).is_ok(),
+    }
+}
+
+/// Gets so many of them once the other came, and answers how many it got.
+fn get_often<R: Wait>(
     rt: &R,
     pool: &Pool,
     pass: &mut Pass,
+    wish: (Wish, u32),
     mine: &AtomicBool,
     other: &AtomicBool,
 ) -> u32
     requires { IsOutside pool.now pass.old }
     ensures { IsOutside pool.now pass.new }
 {
+    let (wish, times) = wish;
     meet(mine, other);
-    for drawn in 0..2_000 {
-        if !draws(rt, pool, pass) {
-            return drawn;
+    for got in 0..times {
+        if !gets(rt, pool, pass, wish) {
+            return got;
         }
     }
-    2_000
+    times
 }
 
-/// Whether a pass could be drawn.
-fn draws<R: Wait>(rt: &R, pool: &Pool, pass: &mut Pass) -> bool
+/// How many of them each of two passes gets at once.
+fn got_at_once<R: Abort + AllocGlobal + Threads + Wait + Sync>(
+    rt: &R,
+    pool: &Pool,
+    pass: &mut Pass,
+    wish: (Wish, u32),
+) -> (u32, u32)
     requires { IsOutside pool.now pass.old }
-    ensures { IsOutside pool.now pass.new }
 {
-    a_crew_stands();
-    match pool.draw(rt, pass) {
-        Ok(_) => true,
-        Err(_) => false,
-    }
+    let mut other = drawn(rt, pool, pass);
+    let first = AtomicBool::new(false);
+    let second = AtomicBool::new(false);
+    join_mut(
+        rt,
+        &mut || get_often(rt, pool, pass, wish, &first, &second),
+        &mut || get_often(rt, pool, &mut other, wish, &second, &first),
+    )
 }
 
 #[test]
 fn two_passes_draw_at_once(rt: HostRuntime) {
     let (pool, mut pass) = pool_of(&rt, 4_096, 1, 1, 1);
-    let mut other = drawn(&rt, &pool, &mut pass);
-    let first = AtomicBool::new(false);
-    let second = AtomicBool::new(false);
-    let both = join_mut(
-        &rt,
-        &mut || draw_often(&rt, &pool, &mut pass, &first, &second),
-        &mut || draw_often(&rt, &pool, &mut other, &second, &first),
-    );
+    let both = got_at_once(&rt, &pool, &mut pass, (Wish::Pass, 2_000));
     assert_eq!(rt; both, (2_000, 2_000));
+}
+
+/// There are slots for all arenas.
+#[test]
+fn two_passes_open_arenas_at_once(rt: HostRuntime) {
+    for _ in 0..200 {
+        let (pool, mut pass) = pool_of(&rt, 2, 64, 1, 1);
+        let both = got_at_once(&rt, &pool, &mut pass, (Wish::Arena, 30));
+        assert_eq!(rt; both, (30, 30));
+    }
 }
 
 /// Draws 2,000 passes once the other came, each of which it gathers before the next.
@@ -276,44 +307,4 @@ fn two_passes_draw_and_gather_at_once(rt: HostRuntime) {
     takes_in(&pool, &mut pass, other);
     assert_eq!(rt; is_whole(&pool, &mut pass), true);
     assert_eq!(rt; terms_of_three(&rt, &pool, &mut pass), [1, 4_000]);
-}
-
-/// Opens 30 arenas once the other came, and answers how many it opened.
-fn open_often<R: Wait>(
-    rt: &R,
-    pool: &Pool,
-    pass: &mut Pass,
-    mine: &AtomicBool,
-    other: &AtomicBool,
-) -> u32
-    requires { IsOutside pool.now pass.old }
-    ensures { IsOutside pool.now pass.new }
-{
-    meet(mine, other);
-    for opened in 0..30 {
-        if open_arena(rt, pool, pass, Kind::Shared).is_err() {
-            return opened;
-        }
-    }
-    30
-}
-
-/// How many arenas each of two passes of one pool opens at once; there are slots for all of them.
-fn opened_at_once<R: Abort + AllocGlobal + Threads + Wait + Sync>(rt: &R) -> (u32, u32) {
-    let (pool, mut pass) = pool_of(rt, 2, 64, 1, 1);
-    let mut other = drawn(rt, &pool, &mut pass);
-    let first = AtomicBool::new(false);
-    let second = AtomicBool::new(false);
-    join_mut(
-        rt,
-        &mut || open_often(rt, &pool, &mut pass, &first, &second),
-        &mut || open_often(rt, &pool, &mut other, &second, &first),
-    )
-}
-
-#[test]
-fn two_passes_open_arenas_at_once(rt: HostRuntime) {
-    for _ in 0..200 {
-        assert_eq!(rt; opened_at_once(&rt), (30, 30));
-    }
 }

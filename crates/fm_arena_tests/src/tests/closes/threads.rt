@@ -3,6 +3,7 @@ ghost use Rattle.std.specs.Prelude.{◌≤◌, All};
 ghost use Rattle.fm_rule_facts.specs.Views.{given_of};
 ghost use Rattle.fm_gate.specs.Crews.{HasNothing};
 ghost use Rattle.fm_gate.specs.Needs.{CanVisit};
+ghost use Rattle.fm_arena_tests.specs.Ready.{CanWork};
 
 use super::made;
 use crate::tests::pools::{drawn, word_of};
@@ -10,6 +11,7 @@ use fm_base::{ArenaId, Kind, Refusal};
 use fm_close::close;
 use fm_gate::{a_crew_stands, add, allocate, enter, leave, open_arena};
 use fm_rule::{Pass, Pool};
+use std::alloc::AllocGlobal;
 use std::process::Abort;
 use std::sync::Wait;
 use std::thread;
@@ -33,12 +35,8 @@ fn add_one(pool: &Pool, pass: &mut Pass, a: ArenaId) -> Result<u64, Refusal>
 
 /// Adds 1 so often, or until the arena is closed, and answers how often it did.
 fn add_often(pool: &Pool, pass: &mut Pass, a: ArenaId, times: u64) -> u64
-    requires visit { CanVisit pool.now pass.old a }
-    requires given { 8 ≤ given_of pass.old a }
-    requires nothing { HasNothing pass.old }
-    ensures visit { CanVisit pool.now pass.new a }
-    ensures given { 8 ≤ given_of pass.new a }
-    ensures nothing { HasNothing pass.new }
+    requires { CanWork pool.now pass.old a }
+    ensures { CanWork pool.now pass.new a }
 {
     for done in 0..times {
         if add_one(pool, pass, a).is_err() {
@@ -50,76 +48,48 @@ fn add_often(pool: &Pool, pass: &mut Pass, a: ArenaId, times: u64) -> u64
 
 /// Closes the arena, which nobody comes into after that.
 fn close_once<R: Abort + Wait>(rt: &R, pool: &Pool, pass: &mut Pass, a: ArenaId)
-    requires visit { CanVisit pool.now pass.old a }
-    requires given { 8 ≤ given_of pass.old a }
-    requires nothing { HasNothing pass.old }
-    ensures visit { CanVisit pool.now pass.new a }
-    ensures given { 8 ≤ given_of pass.new a }
-    ensures nothing { HasNothing pass.new }
+    requires { CanWork pool.now pass.old a }
+    ensures { CanWork pool.now pass.new a }
 {
     a_crew_stands();
     assert_eq!(rt; close(rt, pool, pass, a), Ok(()));
 }
 
-/// Each pass adds, in a thread of its own.
-fn add_all<R: Abort + Threads + Sync>(
+/// Each pass adds, in a thread of its own. Where the arena is to be closed, the first pass closes it before it adds.
+fn add_all<R: Abort + Threads + Wait + Sync>(
     rt: &R,
     pool: &Pool,
     crew: &mut [Pass],
     a: ArenaId,
     times: u64,
+    closes: bool,
 )
-    requires { All (λ p. CanVisit pool.now p a × (8 ≤ given_of p a) × HasNothing p) crew.old }
-    ensures { All (λ p. CanVisit pool.now p a × (8 ≤ given_of p a) × HasNothing p) crew.new }
-{
-    thread::for_each_mut(
-        rt,
-        crew,
-        16,
-        &|_: usize, pass: &mut Pass|
-            requires { CanVisit pool.now pass.now a × (8 ≤ given_of pass.now a) × HasNothing pass.now }
-            ensures { CanVisit pool.entry.now pass.exit.now a × (8 ≤ given_of pass.exit.now a) × HasNothing pass.exit.now }
-        {
-            let added = add_often(pool, pass, a, times);
-            assert_eq!(rt; added, times);
-        },
-    );
-}
-
-/// The first pass closes the arena while the others add to it.
-fn close_amid_adds<R: Abort + Threads + Wait + Sync>(
-    rt: &R,
-    pool: &Pool,
-    crew: &mut [Pass],
-    a: ArenaId,
-)
-    requires { All (λ p. CanVisit pool.now p a × (8 ≤ given_of p a) × HasNothing p) crew.old }
-    ensures { All (λ p. CanVisit pool.now p a × (8 ≤ given_of p a) × HasNothing p) crew.new }
+    requires { All (λ p. CanWork pool.now p a) crew.old }
+    ensures { All (λ p. CanWork pool.now p a) crew.new }
 {
     thread::for_each_mut(
         rt,
         crew,
         16,
         &|place: usize, pass: &mut Pass|
-            requires { CanVisit pool.now pass.now a × (8 ≤ given_of pass.now a) × HasNothing pass.now }
-            ensures { CanVisit pool.entry.now pass.exit.now a × (8 ≤ given_of pass.exit.now a) × HasNothing pass.exit.now }
+            requires { CanWork pool.now pass.now a }
+            ensures { CanWork pool.entry.now pass.exit.now a }
         {
-            if place == 0 {
+            if closes && place == 0 {
                 close_once(rt, pool, pass, a);
             }
-            add_often(pool, pass, a, 1_000_000);
+            let added = add_often(pool, pass, a, times);
+            assert!(rt; closes || added == times);
         },
     );
 }
 
 /// One pass more that knows the arena.
 fn enlist<R: Abort + Wait>(rt: &R, pool: &Pool, pass: &mut Pass, a: ArenaId, crew: &mut Vec<Pass>)
-    requires visit { CanVisit pool.now pass.old a }
-    requires given { 8 ≤ given_of pass.old a }
-    requires crew { All (λ p. CanVisit pool.now p a × (8 ≤ given_of p a) × HasNothing p) crew.old.items }
-    ensures visit { CanVisit pool.now pass.new a }
-    ensures given { 8 ≤ given_of pass.new a }
-    ensures crew { All (λ p. CanVisit pool.now p a × (8 ≤ given_of p a) × HasNothing p) crew.new.items }
+    requires ready { CanVisit pool.now pass.old a × (8 ≤ given_of pass.old a) }
+    requires crew { All (λ p. CanWork pool.now p a) crew.old.items }
+    ensures ready { CanVisit pool.now pass.new a × (8 ≤ given_of pass.new a) }
+    ensures crew { All (λ p. CanWork pool.now p a) crew.new.items }
 {
     let one = drawn(rt, pool, pass);
     crew.push(one).expect(rt, "memory");
@@ -127,12 +97,10 @@ fn enlist<R: Abort + Wait>(rt: &R, pool: &Pool, pass: &mut Pass, a: ArenaId, cre
 
 /// The last pass of the crew is gathered.
 fn gather_last(pool: &Pool, pass: &mut Pass, a: ArenaId, crew: &mut Vec<Pass>)
-    requires visit { CanVisit pool.now pass.old a }
-    requires given { 8 ≤ given_of pass.old a }
-    requires crew { All (λ p. CanVisit pool.now p a × (8 ≤ given_of p a) × HasNothing p) crew.old.items }
-    ensures visit { CanVisit pool.now pass.new a }
-    ensures given { 8 ≤ given_of pass.new a }
-    ensures crew { All (λ p. CanVisit pool.now p a × (8 ≤ given_of p a) × HasNothing p) crew.new.items }
+    requires ready { CanVisit pool.now pass.old a × (8 ≤ given_of pass.old a) }
+    requires crew { All (λ p. CanWork pool.now p a) crew.old.items }
+    ensures ready { CanVisit pool.now pass.new a × (8 ≤ given_of pass.new a) }
+    ensures crew { All (λ p. CanWork pool.now p a) crew.new.items }
 {
     a_crew_stands();
     if let Some(other) = crew.pop() {
@@ -150,30 +118,31 @@ fn found_by(pool: &Pool, pass: &mut Pass, a: ArenaId) -> (bool, Result<u64, Refu
     (whole, word_of(pool, pass, a, 0))
 }
 
+/// What is found once two passes have added so often, or until the first one closed the arena.
+fn found_after<R: Abort + AllocGlobal + Threads + Wait + Sync>(
+    rt: &R,
+    times: u64,
+    closes: bool,
+) -> (bool, Result<u64, Refusal>) {
+    let (pool, mut pass) = made(rt, 1);
+    let a = open_arena(rt, &pool, &mut pass, Kind::Shared).expect(rt, "a slot");
+    assert_eq!(rt; allocate(rt, &pool, &mut pass, a, 8, 8), Ok(0));
+    let mut crew = Vec::new(rt.alloc());
+    enlist(rt, &pool, &mut pass, a, &mut crew);
+    enlist(rt, &pool, &mut pass, a, &mut crew);
+    add_all(rt, &pool, crew.as_mut_slice(), a, times, closes);
+    gather_last(&pool, &mut pass, a, &mut crew);
+    gather_last(&pool, &mut pass, a, &mut crew);
+    found_by(&pool, &mut pass, a)
+}
+
 #[test]
 fn what_threads_add_adds_up(rt: HostRuntime) {
-    let (pool, mut pass) = made(&rt, 1);
-    let a = open_arena(&rt, &pool, &mut pass, Kind::Shared).expect(&rt, "a slot");
-    assert_eq!(rt; allocate(&rt, &pool, &mut pass, a, 8, 8), Ok(0));
-    let mut crew = Vec::new(rt.alloc());
-    enlist(&rt, &pool, &mut pass, a, &mut crew);
-    enlist(&rt, &pool, &mut pass, a, &mut crew);
-    add_all(&rt, &pool, crew.as_mut_slice(), a, 1_000);
-    gather_last(&pool, &mut pass, a, &mut crew);
-    gather_last(&pool, &mut pass, a, &mut crew);
-    assert_eq!(rt; found_by(&pool, &mut pass, a), (true, Ok(2_000)));
+    assert_eq!(rt; found_after(&rt, 1_000, false), (true, Ok(2_000)));
 }
 
 #[test]
 fn an_arena_is_closed_while_threads_add(rt: HostRuntime) {
-    let (pool, mut pass) = made(&rt, 1);
-    let a = open_arena(&rt, &pool, &mut pass, Kind::Shared).expect(&rt, "a slot");
-    assert_eq!(rt; allocate(&rt, &pool, &mut pass, a, 8, 8), Ok(0));
-    let mut crew = Vec::new(rt.alloc());
-    enlist(&rt, &pool, &mut pass, a, &mut crew);
-    enlist(&rt, &pool, &mut pass, a, &mut crew);
-    close_amid_adds(&rt, &pool, crew.as_mut_slice(), a);
-    gather_last(&pool, &mut pass, a, &mut crew);
-    gather_last(&pool, &mut pass, a, &mut crew);
-    assert_eq!(rt; found_by(&pool, &mut pass, a), (true, Err(Refusal::Closed)));
+    let found = found_after(&rt, 1_000_000, true);
+    assert_eq!(rt; found, (true, Err(Refusal::Closed)));
 }

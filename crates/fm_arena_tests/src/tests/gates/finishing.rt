@@ -5,10 +5,10 @@ ghost use Rattle.fm_rule.specs.GivenBytes.{state_of};
 ghost use Rattle.fm_gate.specs.Needs.{IsInside, IsOutside};
 ghost use Rattle.fm_arena.specs.Shares.{CanShare};
 
+use crate::tests::pools::{given, pool_of};
 use fm_base::{ArenaId, Kind};
-use fm_gate::{allocate, enter, leave, open_arena, store};
+use fm_gate::{enter, leave, store};
 use fm_rule::{Finished, Pass, Pool};
-use fm_words::Shape;
 use std::alloc::AllocGlobal;
 use std::process::Abort;
 use std::sync::Wait;
@@ -34,8 +34,7 @@ fn nine<R: Abort + Wait>(rt: &R, pool: &Pool, pass: &mut Pass) -> ArenaId
     ensures whole { pass.new.whole ≡ true }
     ensures known { IsKnown pass.new result }
 {
-    let a = open_arena(rt, pool, pass, Kind::Shared).expect(rt, "a slot");
-    assert_eq!(rt; allocate(rt, pool, pass, a, 8, 8), Ok(0));
+    let a = given(rt, pool, pass, Kind::Shared, 8);
     assert_eq!(rt; enter(pool, pass, a), Ok(()));
     store_nine(pool, pass, a);
     leave(pool, pass);
@@ -54,15 +53,7 @@ fn finished<R: Abort + AllocGlobal>(rt: &R, pool: Pool, pass: Pass, a: ArenaId) 
 
 #[test]
 fn a_finished_pool_tells_the_bytes_of_its_arenas(rt: HostRuntime) {
-    let shape = Shape {
-        passes: 1,
-        slots: 1,
-        pages: 1,
-        page_words: 2,
-        reach: 1,
-        generations: 2,
-    };
-    let (pool, mut pass) = Pool::make(rt.alloc(), shape).expect(&rt, "words");
+    let (pool, mut pass) = pool_of(&rt, 1, 1, 2, 2);
     let a = nine(&rt, &pool, &mut pass);
     let finished = finished(&rt, pool, pass, a);
     let bytes = finished

@@ -1,6 +1,5 @@
 use Rattle.fm_bench.proofs.gates.filled.Given as goal
-use Rattle.fm_bench.specs.Ready.{IsOpen}
-use Rattle.fm_gate.specs.Needs.{IsOutside}
+use Rattle.fm_bench.specs.Ready.{CanRead}
 
 abbrev pub invariant-loop-word : goal.invariant-loop-word
-invariant-loop-word g l = IsOutside l.pool l.pass × IsOpen l.pass 65536 l.arena
+invariant-loop-word g l = CanRead l.pool l.pass 65536 l.arena

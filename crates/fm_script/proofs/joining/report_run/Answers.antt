@@ -24,8 +24,8 @@ of-requires c =
     c.as_slice-4.result.now
     (c.as_slice-4.ensures.value ∙ (c.in_ok-opened.ensures ∙ ap (λ (ls : List Bound). arenas_lent ls) c.as_slice.ensures.value))
 
-pub returns-clause-report : goal.returns-clause-report
-returns-clause-report c =
+pub returns : goal.returns
+returns c =
     let order = lines_at c.args.order.now in
     let players = c.args.players.now in
     IfOk-weaker c.of.result _ _
@@ -35,4 +35,4 @@ returns-clause-report c =
     c.in_ok-callers.ensures
     (replies_put c.args.script.now order c.args.names.now c.args.caller players c.args.main c.args.finished c.requires
     c.as_slice-3.ensures.value c.in_ok-replies.ensures c.as_slice-2.ensures.value)
-    c.in_ok-lines.ensures.lines is) c.of.ensures.report
+    c.in_ok-lines.ensures is) c.of.ensures

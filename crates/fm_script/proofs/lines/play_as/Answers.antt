@@ -1,11 +1,11 @@
-use Rattle.std.proofs.Common.{◌≡◌, List, length, [], Result, refl, sym, ap, subst, arith}
+use Rattle.std.proofs.Common.{List, length, [], Result, refl, sym, ap, subst, arith}
 use Rattle.std.proofs.lemmas.Result.{err_from_is_err_and, on_ok_weaker}
 use Rattle.fm_script_lines.specs.declared.numbers.Numbers.{Numbers}
 use Rattle.fm_script_lines.specs.declared.standing.Standing.{Standing}
 use Rattle.fm_script_lines.specs.Playing.{LinesRan}
-use Rattle.fm_script_lines.specs.Tokens.{Backs}
 use Rattle.fm_script.specs.declared.player.Player.{Player}
 use Rattle.fm_script.specs.Players.{PlayedAs, lines_for, playing}
+use Rattle.fm_script.proofs.Fresh.{fresh_ready, played_backs, played_ready}
 use Rattle.fm_script.proofs.Passing.{ran_from}
 use Rattle.fm_script.proofs.Running.{all_spelled}
 use Rattle.fm_script.proofs.Worker.{played_as, played_none}
@@ -22,7 +22,6 @@ returns-in_err-table g c =
 pub play-played-requires : goal.play-played-requires
 play-played-requires g c =
     let m = c.args.memory.now in
-    let t = c.in_ok-table.table in
     let e = c.in_ok-table.ensures in
     let p = c.requires.can.player in
     record {
@@ -33,11 +32,7 @@ play-played-requires g c =
           let many = c.count_lines-count.ensures in
           let room = e.room in
           omega (arith, none, many, room);
-      ready = record {
-        other_holds = m.holds;
-        other_handles = m.handles;
-        backs = subst (λ (bs : List Standing). Backs m m.holds m.handles bs t.own.items) (sym e.base) (e.backs m c.requires.can.known);
-      };
+      ready = fresh_ready m e c.requires.can.known;
       no_reply = p.no_reply;
       answers = p.room;
     }
@@ -46,21 +41,13 @@ pub settle-requires : goal.settle-requires
 settle-requires g c =
     let m = c.args.memory.now in
     let q = c.play-played.new.m in
-    let t = c.in_ok-table.table in
     let u = c.play-played.new.table in
     let e = c.in_ok-table.ensures in
     let a = c.play-played.ensures in
     let p = c.requires.can.player in
-    let same : u.base.now ≡ t.base.now = λ i. (a.keeps.base i).now in
     record {
       outside = a.went.outside;
-      ready = record {
-        other_holds = m.holds;
-        other_handles = m.handles;
-        backs = subst (λ (bs : List Standing). Backs q m.holds m.handles bs u.own.items) (sym same)
-            (a.backs m.holds m.handles
-            (subst (λ (bs : List Standing). Backs m m.holds m.handles bs t.own.items) (sym e.base) (e.backs m c.requires.can.known)));
-      };
+      ready = played_ready m e c.requires.can.known q u a;
       no_other = p.no_name;
       room =
           let none = ap (λ (xs : List Standing). length xs) e.own in
@@ -80,11 +67,7 @@ returns g c =
     let e = c.in_ok-table.ensures in
     let a = c.play-played.ensures in
     let s = c.settle.ensures in
-    let same : u.base.now ≡ t.base.now = λ i. (a.keeps.base i).now in
-    let backs : Backs q m.holds m.handles u.base.now u.own.items =
-    subst (λ (bs : List Standing). Backs q m.holds m.handles bs u.own.items) (sym same)
-    (a.backs m.holds m.handles
-    (subst (λ (bs : List Standing). Backs m m.holds m.handles bs t.own.items) (sym e.base) (e.backs m c.requires.can.known))) in
+    let backs = played_backs m e c.requires.can.known q u a in
     let new : Player = record old { replies = c.play-played.new.replies; lent = c.settle.new.others } in
     played_as w m q c.settle.new.m old new u.own.items c.play-played.result c.requires.can refl refl
     (on_ok_weaker c.play-played.result

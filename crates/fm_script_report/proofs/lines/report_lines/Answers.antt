@@ -28,7 +28,7 @@ loop-k-preserved c =
     let room = c.loop-k.invariant.room in
     let pushed = c.push_reserved.ensures.len in
     let space = c.push_reserved.ensures.capacity in
-    let line_is = c.in_ok-report_line.ensures.line in
+    let line_is = c.in_ok-report_line.ensures in
     record {
       told = subst (λ (ts : List ReportLine). AreTold (take (k + 1) lines) (take (k + 1) replies) ts)
           (sym (c.push_reserved.ensures.items ∙ ap (λ (t : ReportLine). c.loop-k.lines.items ++ t ∷ []) line_is)) more;

@@ -5,5 +5,5 @@ use Rattle.fm_script_text.proofs.names.Names.give_back.Goals as goal
 
 pub returns-clause-given_back : goal.returns-clause-given_back
 returns-clause-given_back c =
-    given_more c.args.self.now.given_back c.insert.new.self c.in-Ok.key c.in-Some.name.now (given_back c.args.command.now) c.in-Ok-insert.ensures.updates
-    (c.in-Ok.ensures.ok ∙ c.text_of.ensures) c.in-Some.ensures
+    given_more c.args.self.now.given_back c.insert.new.self c.in_ok-key.key c.in-Some.name.now (given_back c.args.command.now) c.in_ok-insert.ensures.updates
+    (c.in_ok-key.ensures.ok ∙ c.text_of.ensures) c.in-Some.ensures

@@ -6,8 +6,8 @@ use Rattle.fm_script_text.specs.Rules.{given_back}
 use Rattle.fm_script_text.proofs.Keeping.{knows_more}
 use Rattle.fm_script_text.proofs.names.Names.note.Goals as goal
 
-pub returns-clause-ok : goal.returns-clause-ok
-returns-clause-ok c = λ before l knows is_who is_command admitted.
+pub returns : goal.returns
+returns c = λ before l knows is_who is_command admitted.
     knows_more c.args.self.now _ before l c.args.who c.args.command.now knows is_who is_command admitted
     (λ name. ap (λ m. maker_of_map m name) c.in_ok-give_back.ensures.rest ∙ c.in_ok-make.ensures.made name)
     (λ name. c.in_ok-give_back.ensures.given_back name

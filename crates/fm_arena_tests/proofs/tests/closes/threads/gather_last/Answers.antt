@@ -6,26 +6,22 @@ use Rattle.fm_rule_facts.specs.Views.{View, given_of}
 use Rattle.fm_rule_facts.specs.Hands.{no_number}
 use Rattle.fm_rule.specs.declared.pool.Pool.{Pool}
 use Rattle.fm_rule.specs.Draws.{Gathers}
-use Rattle.fm_gate.specs.Crews.{CrewStands, HasNothing}
+use Rattle.fm_gate.specs.Crews.{CrewStands}
 use Rattle.fm_gate.specs.Needs.{CanVisit}
+use Rattle.fm_arena_tests.specs.Ready.{CanWork}
 use Rattle.fm_arena_tests.proofs.tests.closes.threads.gather_last.Goals as goal
 
 -- The pass that took the other in stands on.
-stands : CrewStands → (pool : Pool) (p other q : View) (a : ArenaId) → CanVisit pool p a → 8 ≤ given_of p a
-    → CanVisit pool other a × (8 ≤ given_of other a) × HasNothing other → Gathers p other no_number q → CanVisit pool q a × (8 ≤ given_of q a)
-stands law pool p other q a can given ready gathers =
-    let stood = (law.at_gather pool p other q can.outside.of (law.can_gather pool other ready.0.outside ready.2) gathers).stands in
+stands : CrewStands → (pool : Pool) (p other q : View) (a : ArenaId) → CanVisit pool p a × (8 ≤ given_of p a)
+    → CanWork pool other a → Gathers p other no_number q → CanVisit pool q a × (8 ≤ given_of q a)
+stands law pool p other q a was ready gathers =
+    let stood = (law.at_gather pool p other q was.0.outside.of (law.can_gather pool other ready.0.outside ready.2) gathers).stands in
     let more = stood.lasts.given a in
-    (record { outside = stood.outside can.outside; known = stood.lasts.known a can.known }, omega arith)
+    let given = was.1 in
+    (record { outside = stood.outside was.0.outside; known = stood.lasts.known a was.0.known }, omega (arith, given, more))
 
-pub returns-in-Some-clause-visit : goal.returns-in-Some-clause-visit
-returns-in-Some-clause-visit c =
-    let P : View → Type 0 = λ p. CanVisit c.args.pool.now p c.args.a × (8 ≤ given_of p c.args.a) × HasNothing p in
+pub returns-in-Some-clause-ready : goal.returns-in-Some-clause-ready
+returns-in-Some-clause-ready c =
+    let P : View → Type 0 = λ p. CanWork c.args.pool.now p c.args.a in
     let ready = subst (λ (r : Option View). IfSome r P) c.in-Some.is (All-pop P _ _ c.pop.result c.pop.ensures.items c.requires.crew).1 in
-    (stands c.a_crew_stands.ensures c.args.pool.now _ c.in-Some.other _ c.args.a c.requires.visit c.requires.given ready c.gather.ensures).0
-
-pub returns-in-Some-clause-given : goal.returns-in-Some-clause-given
-returns-in-Some-clause-given c =
-    let P : View → Type 0 = λ p. CanVisit c.args.pool.now p c.args.a × (8 ≤ given_of p c.args.a) × HasNothing p in
-    let ready = subst (λ (r : Option View). IfSome r P) c.in-Some.is (All-pop P _ _ c.pop.result c.pop.ensures.items c.requires.crew).1 in
-    (stands c.a_crew_stands.ensures c.args.pool.now _ c.in-Some.other _ c.args.a c.requires.visit c.requires.given ready c.gather.ensures).1
+    stands c.a_crew_stands.ensures c.args.pool.now _ c.in-Some.other _ c.args.a c.requires.ready ready c.gather.ensures

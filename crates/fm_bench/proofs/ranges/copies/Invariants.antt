@@ -1,5 +1,0 @@
-use Rattle.fm_bench.proofs.ranges.copies.Given as goal
-use Rattle.fm_bench.specs.Ready.{AreReady}
-
-abbrev pub invariant-loop-turn : goal.invariant-loop-turn
-invariant-loop-turn g l = AreReady l.memory l.source l.target

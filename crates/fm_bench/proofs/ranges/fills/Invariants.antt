@@ -1,5 +1,0 @@
-use Rattle.fm_bench.proofs.ranges.fills.Given as goal
-use Rattle.fm_bench.specs.Ready.{CanAccess}
-
-abbrev pub invariant-loop-turn : goal.invariant-loop-turn
-invariant-loop-turn g l = CanAccess l.memory l.segment
