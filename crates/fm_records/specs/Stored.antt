@@ -1,7 +1,8 @@
 -- The numbers that stand in a width.
 use Rattle.std.specs.Prelude.{ℕ, List, ℤ}
 use Rattle.fm_lanes.specs.declared.value_kind.ValueKind.{ValueKind}
-use Rattle.fm_lanes.specs.declared.value_kind.ValueKind.TheVariants.{Byte, Boolean, Char, Short, Int, Long}
+use Rattle.fm_lanes.specs.declared.value_kind.ValueKind.TheVariants.{Char}
+use Rattle.fm_lanes.specs.Kind.{width_of}
 use Rattle.fm_records.specs.declared.stored.Stored.{Stored}
 use Rattle.fm_records.specs.declared.stored.Stored.TheVariants.{Bytes, Shorts, Ints, Longs}
 
@@ -18,11 +19,7 @@ width_in (Shorts v) = 2
 width_in (Ints v) = 4
 width_in (Longs v) = 8
 
--- how many each number of a kind takes
+-- how many each number of a kind takes: a character's is one that no short holds
 abbrev pub number_width : ValueKind → ℕ
-number_width Byte = 1
-number_width Boolean = 1
 number_width Char = 4
-number_width Short = 2
-number_width Int = 4
-number_width Long = 8
+number_width kind = width_of kind

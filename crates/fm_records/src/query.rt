@@ -64,23 +64,9 @@ fn add_records<M: Memory>(
         add_count(s, q, &mut found[0]);
         return Ok(());
     }
-    match column_of(q) {
-        Some(path) => add_column(m, s, q, path, &mut found[0]),
-        None => add_each(m, s, q, found),
+    if let Some(path) = column_of(q) {
+        return add_column(m, s, q, path, &mut found[0]);
     }
-}
-
-/// The same, record by record.
-fn add_each<M: Memory>(
-    m: &mut M,
-    s: &Segment,
-    q: &Query,
-    found: &mut [Found],
-) -> Result<(), Refusal>
-    requires can { CanRead (M.view m.old) s.now }
-    requires few { AreFew 0 q.now found.old }
-    ensures { AddsSegment (M.view m.old) (M.view m.new) s.now q.now found.old found.new result }
-{
     let size = q.record_size();
     let count = s.size() / size;
     let mut kept = Kept::none();

@@ -12,7 +12,7 @@ use Rattle.fm_records_query.specs.declared.number.Number.{Number}
 use Rattle.fm_records_query.specs.declared.number.Number.TheVariants.{Up, Down}
 use Rattle.fm_records_query.specs.declared.stage.Stage.TheVariants.{Compare, Minus, Literal}
 use Rattle.fm_records_query.specs.Grammar.{IsLiteral}
-use Rattle.fm_records_query.specs.Reader.{value_of, spot, reads, onward, run}
+use Rattle.fm_records_query.specs.Reader.{value_of, spot, reads, run}
 use Rattle.std.proofs.lemmas.Bool.{ne_eqb, le-leb, lt-ltb}
 
 value_back : (d : ℕ) → 48 + d - 48 ≡ d
@@ -20,26 +20,26 @@ value_back d = omega arith
 
 -- the first digit of a number from 0 up
 first_up : (is : List ItemSyntax) (cs : List ConditionSyntax) (p : List PathStep) (o : Operator) (d : ℕ) → d < 10
-    → onward (Some (spot is cs (Compare p o))) (48 + d) ≡ Some (spot is cs (Literal p o (Up d) 0))
+    → reads (spot is cs (Compare p o)) (48 + d) ≡ Some (spot is cs (Literal p o (Up d) 0))
 first_up is cs p o d h =
     rw (ne_eqb (48 + d) 61 (λ x. omega arith), ne_eqb (48 + d) 45 (λ x. omega arith), yes_digit d h)
     (ap (λ n. Some (spot is cs (Literal p o (Up n) 0))) (value_back d))
 
 -- a further digit
 next_up : (is : List ItemSyntax) (cs : List ConditionSyntax) (p : List PathStep) (o : Operator) (n d : ℕ) → d < 10 → 0 < n → 10 * n + d < 2 ^ 63
-    → onward (Some (spot is cs (Literal p o (Up n) 0))) (48 + d) ≡ Some (spot is cs (Literal p o (Up (10 * n + d)) 0))
+    → reads (spot is cs (Literal p o (Up n) 0)) (48 + d) ≡ Some (spot is cs (Literal p o (Up (10 * n + d)) 0))
 next_up is cs p o n d h gt lt =
     rw (yes_digit d h, value_back d, ne_eqb n 0 (λ x. omega arith), lt-ltb (10 * n + d) (2 ^ 63) lt) refl
 
 -- the first digit of a number below 0
 first_down : (is : List ItemSyntax) (cs : List ConditionSyntax) (p : List PathStep) (o : Operator) (d : ℕ) → d < 10 → 0 < d
-    → onward (Some (spot is cs (Minus p o))) (48 + d) ≡ Some (spot is cs (Literal p o (Down d) 0))
+    → reads (spot is cs (Minus p o)) (48 + d) ≡ Some (spot is cs (Literal p o (Down d) 0))
 first_down is cs p o d h gt =
     rw (yes_digit d h, ne_eqb (48 + d) 48 (λ x. omega arith)) (ap (λ n. Some (spot is cs (Literal p o (Down n) 0))) (value_back d))
 
 -- a further digit
 next_down : (is : List ItemSyntax) (cs : List ConditionSyntax) (p : List PathStep) (o : Operator) (n d : ℕ) → d < 10 → 0 < n → 10 * n + d ≤ 2 ^ 63
-    → onward (Some (spot is cs (Literal p o (Down n) 0))) (48 + d) ≡ Some (spot is cs (Literal p o (Down (10 * n + d)) 0))
+    → reads (spot is cs (Literal p o (Down n) 0)) (48 + d) ≡ Some (spot is cs (Literal p o (Down (10 * n + d)) 0))
 next_down is cs p o n d h gt le =
     rw (yes_digit d h, value_back d, le-leb (10 * n + d) (2 ^ 63) le) refl
 

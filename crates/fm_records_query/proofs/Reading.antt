@@ -11,6 +11,7 @@ use Rattle.fm_path_text.specs.Reader as path
 use Rattle.fm_path_text.proofs.Language.{IsReader, only, leaves_at, leaves_behind}
 use Rattle.fm_path_text.proofs.Machine.{run_keeps, run_more}
 use Rattle.fm_path_text.proofs.Parsing as path_parsing
+use Rattle.fm_path_text.specs.Machine as machine
 use Rattle.fm_records_query.specs.declared.syntax.ItemSyntax.{ItemSyntax}
 use Rattle.fm_records_query.specs.declared.syntax.ConditionSyntax.{ConditionSyntax}
 use Rattle.fm_records_query.specs.declared.stage.Role.TheVariants.{OfCondition}
@@ -19,7 +20,7 @@ use Rattle.fm_records_query.specs.declared.stage.Stage.TheVariants.{Spelling, In
 use Rattle.fm_records_query.specs.declared.stage.Turn.{Turn}
 use Rattle.fm_records_query.specs.declared.stage.Turn.TheVariants.{Dead, Stay, NextItem, NextCondition}
 use Rattle.fm_records_query.specs.Grammar.{most_parts, Syntax, syntax, item_text, query_text, IsItem, IsCondition, IsQuery, IsTextOf, BeginsUpTo}
-use Rattle.fm_records_query.specs.Reader.{condition, next, Spot, spot, moved, reads, onward, run, start, whole, whole_at, IsReady, IsReadySpot}
+use Rattle.fm_records_query.specs.Reader.{condition, next, Spot, spot, moved, reads, run, start, whole, whole_at, IsReady, IsReadySpot}
 use Rattle.fm_records_query.proofs.Shown.{so_far, join_led, base, own, IsCounted, IsLive, HasRead, HasReadTo, Leaves}
 use Rattle.fm_records_query.proofs.Leaving.{leaves}
 use Rattle.fm_records_query.proofs.LeavingConditions.{literal_of}
@@ -150,17 +151,17 @@ begun text s e = reading text 0 s (sym e)
 
 -- where the next byte leads
 goes_on : (text : List ℕ) (i : ℕ) (s : Spot) (b : ℕ) → IsReading text i s → i < length text → b ≡ get_or text i 0
-    → run (take (i + 1) text) start ≡ onward (Some s) b
+    → run (take (i + 1) text) start ≡ reads s b
 goes_on text i s b h lt e =
-    run_more reads text i start lt ∙ ap (λ o. onward o (get_or text i 0)) h.there ∙ ap (λ x. onward (Some s) x) (sym e)
+    run_more reads text i start lt ∙ ap (λ o. machine.onward reads o (get_or text i 0)) h.there ∙ ap (reads s) (sym e)
 
 -- the loop after a byte
-pub stays : (text : List ℕ) (i : ℕ) (s t : Spot) (b : ℕ) → IsReading text i s → i < length text → b ≡ get_or text i 0 → Some t ≡ onward (Some s) b
+pub stays : (text : List ℕ) (i : ℕ) (s t : Spot) (b : ℕ) → IsReading text i s → i < length text → b ≡ get_or text i 0 → Some t ≡ reads s b
     → IsReading text (i + 1) t
 stays text i s t b h lt e m = reading text (i + 1) t (goes_on text i s b h lt e ∙ sym m)
 
 -- where the reader dies the longest prefix ends
-pub ends_at : (text : List ℕ) (i : ℕ) (s : Spot) (b : ℕ) → IsReading text i s → i < length text → b ≡ get_or text i 0 → None ≡ onward (Some s) b
+pub ends_at : (text : List ℕ) (i : ℕ) (s : Spot) (b : ℕ) → IsReading text i s → i < length text → b ≡ get_or text i 0 → None ≡ reads s b
     → BeginsUpTo i text
 ends_at text i s b h lt e m =
     leaves_at reader text i lt (can_end (take i text) s.items s.conditions s.stage (there_read (take i text) s h.there)) (goes_on text i s b h lt e ∙ sym m)

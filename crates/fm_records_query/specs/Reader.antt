@@ -160,9 +160,6 @@ moved items conditions (NextCondition c to) = Some (spot items (conditions ++ c 
 abbrev pub reads : Spot → ℕ → Option Spot
 reads s byte = moved s.items s.conditions (next (length s.items) (length s.conditions) s.stage byte)
 
-abbrev pub onward : Option Spot → ℕ → Option Spot
-onward = machine.onward reads
-
 -- where the bytes lead, unless one of them is refused
 abbrev pub run : List ℕ → Option Spot → Option Spot
 run = machine.run reads

@@ -4,7 +4,7 @@ ghost use Rattle.fm_records_query.specs.Records.{IsRecord};
 
 use crate::fold::Fold;
 use crate::query::Query;
-use crate::resolving::resolve_items;
+use crate::resolving::resolve_all;
 use crate::steps::Steps;
 use crate::syntax::ItemSyntax;
 use fm_base::Refusal;
@@ -26,7 +26,7 @@ pub fn parse_list(alloc: Global, text: &str, layout: &Layout) -> Result<Query, R
         Err(refusal) => return Err(refusal),
     };
     let item = ItemSyntax::Of(Fold::All, Steps::of(path));
-    match resolve_items(alloc, layout, &[item]) {
+    match resolve_all(alloc, layout, &[item]) {
         Ok(items) => Ok(Query::of(layout.size(), layout.alignment(), items, Vec::new(alloc))),
         Err(refusal) => Err(refusal),
     }

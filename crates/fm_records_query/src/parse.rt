@@ -4,7 +4,7 @@ ghost use Rattle.fm_records_query.specs.Grammar.{IsTextOf, IsNoText};
 ghost use Rattle.fm_records_query.specs.Parsed.{IsParsed, IsNoQuery};
 
 use crate::query::Query;
-use crate::resolving::{resolve_conditions, resolve_items};
+use crate::resolving::resolve_all;
 use crate::spot::Spot;
 use crate::syntax::QuerySyntax;
 use fm_base::Refusal;
@@ -27,8 +27,8 @@ pub fn parse_query(alloc: Global, text: &str, layout: &Layout) -> Result<Query, 
     ensures refused { IfErr result (IsNoQuery text.now layout.now) }
 {
     let syntax = read(alloc, text)?;
-    let items = resolve_items(alloc, layout, syntax.items())?;
-    let conditions = resolve_conditions(alloc, layout, syntax.conditions())?;
+    let items = resolve_all(alloc, layout, syntax.items.as_slice())?;
+    let conditions = resolve_all(alloc, layout, syntax.conditions.as_slice())?;
     Ok(Query::of(layout.size(), layout.alignment(), items, conditions))
 }
 
@@ -39,15 +39,13 @@ fn read(alloc: Global, text: &str) -> Result<QuerySyntax, Refusal>
 {
     let mut spot = Spot::start(alloc);
     for (at, byte) in text.as_bytes().iter().enumerate() {
-        match spot.take(alloc, *byte) {
-            Ok(Some(to)) => spot = to,
-            Ok(None) => return Err(Refusal::BadQuery(at as u64)),
-            Err(refusal) => return Err(refusal),
+        match spot.take(alloc, *byte)? {
+            Some(to) => spot = to,
+            None => return Err(Refusal::BadQuery(at as u64)),
         }
     }
-    match spot.finish() {
-        Ok(Some(query)) => Ok(query),
-        Ok(None) => Err(Refusal::BadQuery(text.len() as u64)),
-        Err(refusal) => Err(refusal),
+    match spot.finish()? {
+        Some(query) => Ok(query),
+        None => Err(Refusal::BadQuery(text.len() as u64)),
     }
 }

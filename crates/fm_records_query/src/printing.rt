@@ -4,6 +4,7 @@ ghost use Rattle.fm_path_text.specs.Grammar.{piece_of, path_text};
 ghost use Rattle.fm_records_query.specs.Grammar.{item_text, condition_text};
 
 use crate::syntax::{ConditionSyntax, ItemSyntax};
+use crate::word::Word;
 use fm_base_text::Text;
 use fm_path::{NameText, PathStep};
 use std::alloc::{AllocError, Global};
@@ -16,8 +17,8 @@ pub fn item_text(alloc: Global, item: &ItemSyntax) -> Result<Text, AllocError>
         ItemSyntax::Count => Ok(Text::of(String::from_str(alloc, "count")?)),
         ItemSyntax::Of(fold, path) => {
             let path = path_text(alloc, path.as_slice())?;
-            let fold = fold.text();
-            Ok(Text::of(format!(in alloc; "{fold}({path})")?))
+            let word = Word::Folding(*fold).text();
+            Ok(Text::of(format!(in alloc; "{word}{path})")?))
         }
     }
 }

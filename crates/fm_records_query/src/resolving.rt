@@ -1,6 +1,6 @@
 ghost use Rattle.std.specs.Prelude.{◌≡◌, IfOk, IfErr};
 ghost use Rattle.std.specs.List.{AllZip};
-ghost use Rattle.fm_records_query.specs.Parsed.{AreItemsRefused, IsItemOf, IsItemRefused, AreConditionsRefused, IsConditionOf, IsConditionRefused, OrMemory, first_open, is_open};
+ghost use Rattle.fm_records_query.specs.Parsed.{IsFirstRefused, OrMemory, first_open, is_open};
 
 use crate::condition::Condition;
 use crate::item::{Asked, Item};
@@ -12,71 +12,81 @@ use fm_layout::Layout;
 use fm_path::{PathStep, resolve};
 use std::alloc::Global;
 
-/// The items with their paths resolved, or the first refusal.
-pub fn resolve_items(
+/// What a query's text writes, and what that comes to over a layout.
+pub trait Written<F> {
+    ghost use Rattle.std.specs.Prelude.{IfOk, IfErr};
+    ghost use Rattle.fm_base.specs.declared.refusal.Refusal.{Refusal};
+    ghost use Rattle.fm_layout.specs.Tree.{Tree};
+    ghost use Rattle.fm_records_query.specs.Parsed.{OrMemory};
+
+    /// Whether it comes to this.
+    ghost is_of: { Tree → Self → F → Type 0 };
+
+    /// Whether it is refused so.
+    ghost is_refused: { Tree → Self → Refusal → Type 0 };
+
+    /// It with its path resolved.
+    fn resolved(&self, alloc: Global, layout: &Layout) -> Result<F, Refusal>
+        ensures resolved { IfOk result (is_of layout.now self.now) }
+        ensures refused { IfErr result (OrMemory (is_refused layout.now self.now)) };
+}
+
+/// All of these with their paths resolved, or the first refusal.
+pub fn resolve_all<W: Written<F>, F: Drop>(
     alloc: Global,
     layout: &Layout,
-    items: &[ItemSyntax],
-) -> Result<Vec<Item>, Refusal>
-    ensures resolved { IfOk result (λ found. AllZip (IsItemOf layout.now) items.now found.items) }
-    ensures refused { IfErr result (OrMemory (AreItemsRefused layout.now items.now)) }
+    written: &[W],
+) -> Result<Vec<F>, Refusal>
+    ensures resolved { IfOk result (λ found. AllZip (W.is_of layout.now) written.now found.items) }
+    ensures refused { IfErr result (OrMemory
+        (IsFirstRefused (λ one. (f : F) × W.is_of layout.now one f) (W.is_refused layout.now) written.now)) }
 {
     let mut found = Vec::new(alloc);
-    for (k, item) in items.iter().enumerate() {
-        let item = resolve_item(alloc, layout, item)?;
-        found = with_more(found, item)?;
+    for (k, one) in written.iter().enumerate() {
+        let one = one.resolved(alloc, layout)?;
+        found = with_more(found, one)?;
     }
     Ok(found)
 }
 
-/// The conditions with their paths resolved, or the first refusal.
-pub fn resolve_conditions(
-    alloc: Global,
-    layout: &Layout,
-    conditions: &[ConditionSyntax],
-) -> Result<Vec<Condition>, Refusal>
-    ensures resolved { IfOk result (λ found. AllZip (IsConditionOf layout.now) conditions.now found.items) }
-    ensures refused { IfErr result (OrMemory (AreConditionsRefused layout.now conditions.now)) }
-{
-    let mut found = Vec::new(alloc);
-    for (k, condition) in conditions.iter().enumerate() {
-        let condition = resolve_condition(alloc, layout, condition)?;
-        found = with_more(found, condition)?;
+impl Written<Item> for ItemSyntax {
+    ghost use Rattle.fm_records_query.specs.Parsed.{IsItemOf, IsItemRefused};
+
+    ghost is_of = { IsItemOf };
+
+    ghost is_refused = { IsItemRefused };
+
+    fn resolved(&self, alloc: Global, layout: &Layout) -> Result<Item, Refusal> {
+        let text = item_text(alloc, self)?;
+        let asked = match self {
+            ItemSyntax::Count => Asked::Count,
+            ItemSyntax::Of(fold, path) => {
+                Asked::Of(*fold, resolve(alloc, layout, path.as_slice())?)
+            }
+        };
+        Ok(Item { text, asked })
     }
-    Ok(found)
 }
 
-fn resolve_item(alloc: Global, layout: &Layout, item: &ItemSyntax) -> Result<Item, Refusal>
-    ensures resolved { IfOk result (IsItemOf layout.now item.now) }
-    ensures refused { IfErr result (OrMemory (IsItemRefused layout.now item.now)) }
-{
-    let text = item_text(alloc, item)?;
-    let asked = match item {
-        ItemSyntax::Count => Asked::Count,
-        ItemSyntax::Of(fold, path) => Asked::Of(*fold, resolve(alloc, layout, path.as_slice())?),
-    };
-    Ok(Item { text, asked })
-}
+impl Written<Condition> for ConditionSyntax {
+    ghost use Rattle.fm_records_query.specs.Parsed.{IsConditionOf, IsConditionRefused};
 
-/// A path that leaves an index open is refused after all its other refusals.
-fn resolve_condition(
-    alloc: Global,
-    layout: &Layout,
-    condition: &ConditionSyntax,
-) -> Result<Condition, Refusal>
-    ensures resolved { IfOk result (IsConditionOf layout.now condition.now) }
-    ensures refused { IfErr result (OrMemory (IsConditionRefused layout.now condition.now)) }
-{
-    let text = condition_text(alloc, condition)?;
-    let path = resolve(alloc, layout, condition.path.as_slice())?;
-    match first_open(condition.path.as_slice()) {
-        Some(step) => Err(Refusal::StillOpen(step)),
-        None => Ok(Condition {
-            text,
-            path,
-            operator: condition.operator,
-            literal: condition.literal,
-        }),
+    ghost is_of = { IsConditionOf };
+
+    ghost is_refused = { IsConditionRefused };
+
+    /// A path that leaves an index open is refused after all its other refusals.
+    fn resolved(&self, alloc: Global, layout: &Layout) -> Result<Condition, Refusal> {
+        let path = resolve(alloc, layout, self.path.as_slice())?;
+        match first_open(self.path.as_slice()) {
+            Some(step) => Err(Refusal::StillOpen(step)),
+            None => Ok(Condition {
+                text: condition_text(alloc, self)?,
+                path,
+                operator: self.operator,
+                literal: self.literal,
+            }),
+        }
     }
 }
 

@@ -1,11 +1,10 @@
-ghost use Rattle.std.specs.Prelude.{◌≡◌, Some, IfOk, IfErr};
-ghost use Rattle.fm_records_query.specs.Reader.{start, onward, whole, IsReadySpot};
+ghost use Rattle.std.specs.Prelude.{◌≡◌, Some, IfOk};
+ghost use Rattle.fm_records_query.specs.Reader.{start, reads, whole, IsReadySpot};
 
 use crate::pushing::with_more;
 use crate::stage::{Stage, Turn};
 use crate::syntax::{ConditionSyntax, ItemSyntax, QuerySyntax};
-use fm_base::Refusal;
-use std::alloc::Global;
+use std::alloc::{AllocError, Global};
 use std::marker::Model;
 
 /// What has been read of a query's text: its whole items and conditions, and how far the next one.
@@ -37,10 +36,9 @@ impl Spot {
     }
 
     /// Where a byte leads, if some query's text goes on so.
-    pub fn take(self, alloc: Global, byte: u8) -> Result<Option<Spot>, Refusal>
+    pub fn take(self, alloc: Global, byte: u8) -> Result<Option<Spot>, AllocError>
         requires { IsReadySpot self }
-        ensures spot { IfOk result (λ spot. spot ≡ onward (Some self) byte) }
-        ensures memory { IfErr result (λ refusal. refusal ≡ Refusal.Memory) }
+        ensures { IfOk result (λ spot. spot ≡ reads self byte) }
     {
         let Spot {
             mut items,
@@ -67,10 +65,9 @@ impl Spot {
     }
 
     /// The query that was read, if the text may end here.
-    pub fn finish(self) -> Result<Option<QuerySyntax>, Refusal>
+    pub fn finish(self) -> Result<Option<QuerySyntax>, AllocError>
         requires { IsReadySpot self }
-        ensures query { IfOk result (λ query. query ≡ whole self) }
-        ensures memory { IfErr result (λ refusal. refusal ≡ Refusal.Memory) }
+        ensures { IfOk result (λ query. query ≡ whole self) }
     {
         let Spot {
             mut items,
@@ -90,6 +87,6 @@ impl Spot {
             }
             _ => return Ok(None),
         }
-        Ok(Some(QuerySyntax::of(items, conditions)))
+        Ok(Some(QuerySyntax { items, conditions }))
     }
 }

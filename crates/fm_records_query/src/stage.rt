@@ -1,4 +1,4 @@
-ghost use Rattle.std.specs.Prelude.{◌≡◌, ◌<◌, ◌≤◌, IfOk, IfErr, length, [], get_or, nat_eq};
+ghost use Rattle.std.specs.Prelude.{◌≡◌, ◌<◌, ◌≤◌, IfOk, length, [], get_or, nat_eq};
 ghost use Rattle.fm_path_text.specs.Reader.{IsBounded};
 ghost use Rattle.fm_records_query.specs.Reader.{starts, spelled, turns, spells, is_mark, marks, in_path, behind, compares, negates, in_literal, next, where_word, and_word, word_text, IsNumber, IsReady};
 ghost use Rattle.fm_records_query.specs.Read.{steps_if_any};
@@ -9,10 +9,9 @@ use crate::operator::Operator;
 use crate::steps::Steps;
 use crate::syntax::{ConditionSyntax, ItemSyntax};
 use crate::word::Word;
-use fm_base::Refusal;
 use fm_path::PathStep;
 use fm_path_text::{Move, Part, Sign};
-use std::alloc::Global;
+use std::alloc::{AllocError, Global};
 
 /// Whose path is read.
 #[derive(Clone, Copy, Debug)]
@@ -66,12 +65,11 @@ impl Stage {
         items: usize,
         conditions: usize,
         byte: u8,
-    ) -> Result<Turn, Refusal>
+    ) -> Result<Turn, AllocError>
         requires items { items ≤ 16 }
         requires conditions { conditions ≤ 16 }
         requires ready { IsReady self }
-        ensures turn { IfOk result (λ turn. turn ≡ next items conditions self byte) }
-        ensures memory { IfErr result (λ refusal. refusal ≡ Refusal.Memory) }
+        ensures { IfOk result (λ turn. turn ≡ next items conditions self byte) }
     {
         match self {
             Stage::Start => Ok(starts(byte)),
@@ -148,15 +146,16 @@ fn turns(word: Word, n: usize, byte: u8) -> Turn
     }
 }
 
-fn in_path(role: Role, mut steps: Steps, part: Part, byte: u8) -> Result<Turn, Refusal>
+fn in_path(role: Role, mut steps: Steps, part: Part, byte: u8) -> Result<Turn, AllocError>
     requires short { length steps ≤ 64 }
     requires bounded { IsBounded part }
-    ensures turn { IfOk result (λ turn. turn ≡ in_path role steps part byte) }
-    ensures memory { IfErr result (λ refusal. refusal ≡ Refusal.Memory) }
+    ensures { IfOk result (λ turn. turn ≡ in_path role steps part byte) }
 {
     if is_mark(byte) {
-        let path = part.finish(steps.into_vec())?;
-        return Ok(marks(role, byte, path));
+        return match part.finish(steps.into_vec()) {
+            Ok(path) => Ok(marks(role, byte, path)),
+            Err(_) => Err(AllocError),
+        };
     }
     match part.next(steps.len(), Sign::of(byte)) {
         Move::Dead => Ok(Turn::Dead),

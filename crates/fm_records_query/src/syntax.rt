@@ -1,6 +1,3 @@
-ghost use Rattle.std.specs.Prelude.{◌≡◌};
-ghost use Rattle.fm_records_query.specs.Grammar.{syntax};
-
 use crate::fold::Fold;
 use crate::operator::Operator;
 use crate::steps::Steps;
@@ -26,8 +23,8 @@ pub struct ConditionSyntax {
 /// A query as its text writes it.
 #[derive(Debug, Drop)]
 pub struct QuerySyntax {
-    items: Vec<ItemSyntax>,
-    conditions: Vec<ConditionSyntax>,
+    pub items: Vec<ItemSyntax>,
+    pub conditions: Vec<ConditionSyntax>,
 }
 
 impl Model for QuerySyntax {
@@ -36,25 +33,4 @@ impl Model for QuerySyntax {
     ghost Value = { Syntax };
 
     ghost view = { λ q. syntax q.items.items q.conditions.items };
-}
-
-impl QuerySyntax {
-    /// The query of these items and conditions.
-    pub fn of(items: Vec<ItemSyntax>, conditions: Vec<ConditionSyntax>) -> QuerySyntax
-        ensures { result ≡ syntax items.items conditions.items }
-    {
-        QuerySyntax { items, conditions }
-    }
-
-    pub fn items(&self) -> &[ItemSyntax]
-        ensures { result.now ≡ self.now.items }
-    {
-        self.items.as_slice()
-    }
-
-    pub fn conditions(&self) -> &[ConditionSyntax]
-        ensures { result.now ≡ self.now.conditions }
-    {
-        self.conditions.as_slice()
-    }
 }

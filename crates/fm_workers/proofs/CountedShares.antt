@@ -105,22 +105,18 @@ module _ (w : Tallying) (more : List Entry) (cs : List Caller) (taken : List (Li
       all_shares w.plan w.segment w.each cs more slots some even long there
 
   -- What is listed over all shares is what was listed over all that were taken.
-  pub same_numbers : (n : ℤ) → how_many n (all_listed counted_shares.shares) ≡ how_many n (all_numbers (all_of taken))
+  pub same_numbers : (n : ℤ) → how_many n (all_listed counted_shares.all.shares) ≡ how_many n (all_numbers (all_of taken))
   same_numbers n =
       let weight : List Found → ℕ = λ fs. how_many n (listed fs) in
       let stand = ap (λ (us : List Slot). sum_by (slot_weight (λ (fs : List Found). how_many n (listed fs))) us) counted_shares.stand in
       let weigh = placed_weigh (λ (fs : List Found). how_many n (listed fs)) many (all_of taken) (λ k. let same = once k in omega (arith, same)) in
-      let here = stand_list n counted_shares.shares in
+      let here = stand_list n counted_shares.all.shares in
       let there = taken_list n (all_of taken) in
       sym here ∙ sym stand ∙ weigh ∙ there
 
   pub tallied_by : (ns : List ℕ) → AreCounts (all_numbers (all_of taken)) ns → TalliedBy w.plan w.segment w.counts w.each cs more ns
   tallied_by ns are = record {
-    shares = counted_shares.shares;
-    cut = counted_shares.cut;
-    numbered = counted_shares.numbered;
-    callers = counted_shares.callers;
-    done = counted_shares.done;
+    all = counted_shares.all;
     are = record { all = are.all; each = λ k below. are.each k below ∙ sym (same_numbers (number_of k)) };
     taken = taken;
     by_each = by_each;

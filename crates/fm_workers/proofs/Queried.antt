@@ -172,7 +172,7 @@ module _ {pool : Pool} {old new : View} {k : Asking} {threads : ℕ} {b : Batch}
       let n = as_many in
       let small = can.small in
       let few = subst (AreFew k.segment.size k.plan) (sym by.joined)
-      (shares_join k.plan k.segment w.crew.more by.shares can.plan by.cut by.done (omega (arith, small))).few in
+      (shares_join k.plan k.segment w.crew.more by.all.shares can.plan by.all.cut by.all.done (omega (arith, small))).few in
       record {
         crew = w.crew;
         one_each = omega (arith, n);

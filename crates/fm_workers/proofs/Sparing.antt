@@ -111,8 +111,8 @@ is_answer {old = old} {new = new} {p = p} {s = s} c plan sound by visits nobody 
     let spared : IsSpared (limit_of old.shape) (state_in old) c.more s =
     record { legal = r.legal; spared = spared_by s (callers c.crew) c.more nobody visits } in
     record {
-      value = by.joined ∙ shares_answer (limit_of old.shape) (state_in old) c.more p s by.shares plan spared by.cut by.done;
+      value = by.joined ∙ shares_answer (limit_of old.shape) (state_in old) c.more p s by.all.shares plan spared by.all.cut by.all.done;
       read = λ index path is word asked of.
-          let x = shares_read (limit_of old.shape) (state_in old) c.more p s by.shares index path is word plan spared by.cut by.done asked of in
-          record { caller = x.share.caller; among = share_caller (callers c.crew) by.shares x.share x.among by.callers; read = x.read };
+          let x = shares_read (limit_of old.shape) (state_in old) c.more p s by.all.shares index path is word plan spared by.all.cut by.all.done asked of in
+          record { caller = x.share.caller; among = share_caller (callers c.crew) by.all.shares x.share x.among by.all.callers; read = x.read };
     }

@@ -173,7 +173,7 @@ module _ {pool : Pool} {old new : View} {k : Tallying} {threads : ℕ} {b : Tall
     few : (n : ℤ) → how_many n (all_numbers (all_of counted.taken)) ≤ k.segment.size
     few n =
         let same = same_numbers k w.crew.more (callers w.crew.crew) counted.taken can.some can.can.even counted.by_each once n in
-        let most = shares_list k.plan k.segment w.crew.more shares.shares n can.plan can.can.tally shares.cut shares.done in
+        let most = shares_list k.plan k.segment w.crew.more shares.all.shares n can.plan can.can.tally shares.all.cut shares.all.done in
         omega (arith, same, most)
 
     -- So no sum passes 64 bits.
@@ -194,17 +194,17 @@ module _ {pool : Pool} {old new : View} {k : Tallying} {threads : ℕ} {b : Tall
 
       the_counts : AreTheCounts old k.plan k.segment (callers w.crew.crew) w.crew.more ns
       the_counts nobody =
-          let is = shares_answer (limit_of old.shape) (state_in old) w.crew.more k.plan k.segment by_shares.shares can.plan (spared nobody) by_shares.cut
-          by_shares.done in
-          subst (λ ms. AreCounts ms ns) (listed_joined k.plan w.crew.more by_shares.shares can.plan can.can.tally by_shares.done ∙ ap listed is) by_shares.are
+          let is = shares_answer (limit_of old.shape) (state_in old) w.crew.more k.plan k.segment by_shares.all.shares can.plan (spared nobody) by_shares.all.cut
+          by_shares.all.done in
+          subst (λ ms. AreCounts ms ns) (listed_joined k.plan w.crew.more by_shares.all.shares can.plan can.can.tally by_shares.all.done ∙ ap listed is) by_shares.are
 
       all_read : AreAllRead old k.plan k.segment (callers w.crew.crew) w.crew.more
       all_read nobody index path is word asked of =
-          let x = shares_read (limit_of old.shape) (state_in old) w.crew.more k.plan k.segment by_shares.shares index path is word can.plan (spared nobody)
-          by_shares.cut by_shares.done asked of in
+          let x = shares_read (limit_of old.shape) (state_in old) w.crew.more k.plan k.segment by_shares.all.shares index path is word can.plan (spared nobody)
+          by_shares.all.cut by_shares.all.done asked of in
           record {
             caller = x.share.caller;
-            among = all_among (λ (v : Share). IsAmong v.caller (callers w.crew.crew)) x.share by_shares.shares by_shares.callers x.among;
+            among = all_among (λ (v : Share). IsAmong v.caller (callers w.crew.crew)) x.share by_shares.all.shares by_shares.all.callers x.among;
             read = x.read;
           }
 

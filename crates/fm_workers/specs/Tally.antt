@@ -25,10 +25,10 @@ use Rattle.fm_records.specs.Alone.{bytes_at_places}
 use Rattle.fm_records.specs.Answers.{answer}
 use Rattle.fm_records.specs.Laws.{IsAsked, value_in}
 use Rattle.fm_records.specs.Reads.{IsWordOf}
-use Rattle.fm_records.specs.Shares.{AreCut, AreDone, Share}
+use Rattle.fm_records.specs.Shares.{Share}
 use Rattle.fm_workers_jobs.specs.Turns.{times}
 use Rattle.fm_workers_shares.specs.declared.taker.Done.{Done}
-use Rattle.fm_workers_shares.specs.Answered.{AreNumbered, all_of}
+use Rattle.fm_workers_shares.specs.Answered.{AnsweredShares, all_of}
 use Rattle.fm_workers_shares.specs.Shares.{each_of, many_of}
 use Rattle.fm_workers_shares.specs.Taking.{jobs_of}
 use Rattle.fm_workers.specs.Adding.{HasCounts, count_word}
@@ -83,12 +83,8 @@ all_listed (w ∷ ws) = listed w.found ++ all_listed ws
 
 -- The segment was cut into shares of so many records; each was answered by a caller of the crew, and these are the counts of all numbers
 pub record TalliedBy (p : Plan) (s counts : Region) (each : ℕ) (crew : List Caller) (more : List Entry) (ns : List ℕ) : Type 0 where
-  pub shares : List Share
-  pub cut : AreCut p s shares
-  pub numbered : AreNumbered p s each 0 shares
-  pub callers : AllByRecursion (λ w. IsAmong w.caller crew) shares
-  pub done : AreDone p more shares
-  pub are : AreCounts (all_listed shares) ns
+  pub all : AnsweredShares p s each crew more s 0
+  pub are : AreCounts (all_listed all.shares) ns
   -- by nothing else: each caller counted the shares that it took and added their counts, and no share was taken twice
   pub taken : List (List Done)
   pub by_each : AllZip (IsCounted p s counts each more) crew taken

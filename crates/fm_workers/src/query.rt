@@ -93,7 +93,7 @@ pub fn query_with<R: Threads + Wait + Sync, G: Gate>(
     let each = records_each(count, threads);
     match Batch::new(rt, alloc, count_shares(count, threads), threads) {
         Ok(batch) => take_batch(rt, alloc, pool, pass, q, s, each, batch, gate),
-        Err(refusal) => Err(refusal),
+        Err(_) => Err(Refusal::Memory),
     }
 }
 

@@ -114,7 +114,7 @@ pub fn tally_with<R: Threads + Wait + Sync, G: Gate>(
     let each = records_each(count, threads);
     match TallyBatch::new(rt, alloc, count_shares(count, threads), threads) {
         Ok(batch) => take_batch(rt, alloc, pool, pass, q, s, counts, each, batch, gate),
-        Err(refusal) => Err(refusal),
+        Err(_) => Err(Refusal::Memory),
     }
 }
 

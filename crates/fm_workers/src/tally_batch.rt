@@ -1,4 +1,4 @@
-ghost use Rattle.std.specs.Prelude.{◌≡◌, ◌<◌, IfOk, IfErr, length};
+ghost use Rattle.std.specs.Prelude.{◌≡◌, ◌<◌, IfOk, length};
 ghost use Rattle.std.specs.List.{AllByRecursion};
 ghost use Rattle.fm_workers_jobs.specs.Turns.{account_of, HasAccount, IsGiver};
 ghost use Rattle.fm_workers_shares.specs.Batches.{after_turns};
@@ -7,9 +7,8 @@ ghost use Rattle.fm_workers.specs.Summing.{IsBegun};
 
 use crate::counts::Counts;
 use crate::tallier::Tallier;
-use fm_base::Refusal;
 use fm_workers_jobs::{Jobs, Turn};
-use std::alloc::Global;
+use std::alloc::{AllocError, Global};
 use std::sync::Wait;
 
 /// Shares to be counted: all of them stand in the queue, and behind them a stop for each tallier.
@@ -22,49 +21,41 @@ pub(crate) struct TallyBatch {
 }
 
 impl TallyBatch {
-    /// So many shares for so many talliers, who are numbered from 1 on. Refused: `Memory`.
+    /// So many shares for so many talliers, who are numbered from 1 on.
     pub(crate) fn new<R: Wait>(
         rt: &R,
         alloc: Global,
         shares: u32,
         talliers: u32,
-    ) -> Result<TallyBatch, Refusal>
+    ) -> Result<TallyBatch, AllocError>
         requires some { 0 < talliers }
-        ensures begun { IfOk result (IsBegun shares talliers) }
-        ensures memory { IfErr result (λ refusal. refusal ≡ Refusal.Memory) }
+        ensures { IfOk result (IsBegun shares talliers) }
     {
-        let Ok((jobs, mut giver)) = Jobs::new(alloc, shares as usize + talliers as usize) else {
-            return Err(Refusal::Memory);
-        };
+        let (jobs, mut giver) = Jobs::new(alloc, shares as usize + talliers as usize)?;
         jobs.push_batch(rt, &mut giver, 0, shares, talliers);
-        match call_talliers(alloc, &jobs, &mut giver, talliers) {
-            Ok(talliers) => Ok(TallyBatch {
-                jobs,
-                giver,
-                talliers,
-            }),
-            Err(refusal) => Err(refusal),
-        }
+        let talliers = call_talliers(alloc, &jobs, &mut giver, talliers)?;
+        Ok(TallyBatch {
+            jobs,
+            giver,
+            talliers,
+        })
     }
 }
 
-/// So many talliers, each with a turn of its own. Refused: `Memory`.
+/// So many talliers, each with a turn of its own.
 fn call_talliers(
     alloc: Global,
     jobs: &Jobs,
     giver: &mut Turn,
     count: u32,
-) -> Result<Vec<Tallier>, Refusal>
+) -> Result<Vec<Tallier>, AllocError>
     requires { IsGiver jobs.now giver.old }
     ensures ready { IfOk result (λ talliers. AllByRecursion (IsReady jobs.now) talliers.items) }
     ensures count { IfOk result (λ talliers. length talliers.items ≡ count) }
     ensures giver { IfOk result
         (λ _. HasAccount jobs.now giver.new (after_turns (account_of giver.old) count)) }
-    ensures memory { IfErr result (λ refusal. refusal ≡ Refusal.Memory) }
 {
-    let Ok(mut talliers) = Vec::with_capacity(alloc, count as usize) else {
-        return Err(Refusal::Memory);
-    };
+    let mut talliers = Vec::with_capacity(alloc, count as usize)?;
     for k in 0..count {
         talliers.push_reserved(Tallier {
             number: k + 1,

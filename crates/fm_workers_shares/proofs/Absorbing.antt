@@ -4,6 +4,7 @@ use Rattle.std.specs.List.{AllZip, range_with_len}
 use Rattle.std.proofs.lemmas.List.{map-append}
 use Rattle.fm_workers_jobs.specs.declared.account.Account.{Account}
 use Rattle.fm_workers_jobs.specs.declared.jobs.Jobs.{Jobs}
+use Rattle.fm_workers_jobs.specs.Accounts.{after_absorb}
 use Rattle.fm_workers_jobs.specs.Turns.{CanSettle, HasAccount, IsGiver, IsSettled, Turn, account_of, times}
 use Rattle.fm_workers_shares.specs.declared.taker.Done.{Done}
 use Rattle.fm_workers_shares.specs.Answered.{all_of}
@@ -23,6 +24,15 @@ out_absorbed v (u ∷ us) = let rest = out_absorbed v us in omega (arith, rest)
 pushed_absorbed : (v : Account) (us : List Turn) → (absorbed v us).pushed ≡ v.pushed
 pushed_absorbed v [] = refl
 pushed_absorbed v (u ∷ us) = pushed_absorbed v us
+
+-- No turn was taken back yet.
+pub absorbed_none : {jobs : Jobs} {turn : Turn} → IsGiver jobs turn → HasAccount jobs turn (absorbed (account_of turn) [])
+absorbed_none giver = record { is_of = giver.is_of; is = refl }
+
+-- One more is.
+pub absorbed_one : {jobs : Jobs} {home later : Turn} (v : Account) (us : List Turn) (u : Turn) → HasAccount jobs home (absorbed v us)
+    → HasAccount jobs later (after_absorb (account_of home) (account_of u)) → HasAccount jobs later (absorbed v (u ∷ us))
+absorbed_one v us u h one = record { is_of = one.is_of; is = one.is ∙ ap (λ (a : Account). after_absorb a (account_of u)) h.is }
 
 module _ {jobs : Jobs} {turn home : Turn} (us : List Turn) (giver : IsGiver jobs turn) (account : HasAccount jobs home (absorbed (account_of turn) us)) where
   -- Who takes turns back stays the giver.

@@ -9,9 +9,9 @@ use Rattle.fm_workers_jobs.specs.Turns.{times}
 use Rattle.fm_segment.specs.Region.{Region}
 use Rattle.fm_records_query.specs.Plan.{Plan}
 use Rattle.fm_records.specs.Joined.{joined}
-use Rattle.fm_records.specs.Shares.{AreCut, AreDone, Share, all_joined}
+use Rattle.fm_records.specs.Shares.{AreCut, Share, all_joined}
 use Rattle.fm_workers_shares.specs.declared.taker.Done.{Done}
-use Rattle.fm_workers_shares.specs.Answered.{AnsweredBy, AreNumbered, all_of}
+use Rattle.fm_workers_shares.specs.Answered.{AnsweredBy, AnsweredShares, all_of}
 use Rattle.fm_workers_shares.specs.Joining.{joined_all}
 use Rattle.fm_workers_shares.specs.Placing.{Slot}
 use Rattle.fm_workers_shares.specs.Shares.{many_of, piece, share_of, start_of}
@@ -32,12 +32,8 @@ standing_joined p (w ∷ ws) = ap (joined w.found) (standing_joined p ws)
 module _ (p : Plan) (s : Region) (each : ℕ) (crew : List Caller) (more : List Entry) where
   -- the shares from this number on, which are all of this part, and whose answers stand there
   pub record HasShares (part : Region) (k : ℕ) (us : List Slot) : Type 0 where
-    pub shares : List Share
-    pub cut : AreCut p part shares
-    pub numbered : AreNumbered p s each k shares
-    pub callers : AllByRecursion (λ w. IsAmong w.caller crew) shares
-    pub done : AreDone p more shares
-    pub stand : us ≡ map stands shares
+    pub all : AnsweredShares p s each crew more part k
+    pub stand : us ≡ map stands all.shares
 
   shares_from : (k : ℕ) (us : List Slot) → 0 < each → k + length us ≡ many_of (s.size / p.size) each → AreAll (IsAnsweredAt p s each crew more) k us
       → HasShares (piece p s (start_of (s.size / p.size) each k) (s.size / p.size)) k us
@@ -45,15 +41,17 @@ module _ (p : Plan) (s : Region) (each : ℕ) (crew : List Caller) (more : List 
       let here : k ≡ many_of (s.size / p.size) each = omega (arith, ends) in
       let all : start_of (s.size / p.size) each k ≡ s.size / p.size = ap (start_of (s.size / p.size) each) here ∙ start_last (s.size / p.size) each some in
       record {
-        shares = [];
-        cut = (
-            let none : s.size / p.size - start_of (s.size / p.size) each k ≡ 0 = omega (arith, all) in
-            let bytes = ap (λ (n : ℕ). n * p.size) none in
-            omega (arith, bytes)
-            );
-        numbered = here;
-        callers = tt;
-        done = tt;
+        all = record {
+          shares = [];
+          cut = (
+              let none : s.size / p.size - start_of (s.size / p.size) each k ≡ 0 = omega (arith, all) in
+              let bytes = ap (λ (n : ℕ). n * p.size) none in
+              omega (arith, bytes)
+              );
+          numbered = here;
+          callers = tt;
+          done = tt;
+        };
         stand = refl;
       }
   shares_from k (u ∷ us) some ends h =
@@ -65,14 +63,16 @@ module _ (p : Plan) (s : Region) (each : ℕ) (crew : List Caller) (more : List 
       let is_behind = behind_piece p s (share_of p s each k) (start_of (s.size / p.size) each k) (start_of (s.size / p.size) each (k + 1)) (s.size / p.size)
       order within refl in
       record {
-        shares = w ∷ rest.shares;
-        cut = (
-          first_of_piece p s (start_of (s.size / p.size) each k) (start_of (s.size / p.size) each (k + 1)) (s.size / p.size) w order within refl,
-          subst (λ (r : Region). AreCut p r rest.shares) is_behind rest.cut,
-        );
-        numbered = (refl, rest.numbered);
-        callers = (here.among, rest.callers);
-        done = (record { run = here.run; does = here.does }, rest.done);
+        all = record {
+          shares = w ∷ rest.all.shares;
+          cut = (
+            first_of_piece p s (start_of (s.size / p.size) each k) (start_of (s.size / p.size) each (k + 1)) (s.size / p.size) w order within refl,
+            subst (λ (r : Region). AreCut p r rest.all.shares) is_behind rest.all.cut,
+          );
+          numbered = (refl, rest.all.numbered);
+          callers = (here.among, rest.all.callers);
+          done = (record { run = here.run; does = here.does }, rest.all.done);
+        };
         stand = (λ i. h.0.1 i ∷ rest.stand i);
       }
 
@@ -90,14 +90,10 @@ module _ (p : Plan) (s : Region) (each : ℕ) (crew : List Caller) (more : List 
       → ((number : ℕ) → times number (jobs_of (all_of taken)) ≡ times number (range_with_len 0 (many_of (s.size / p.size) each)))
       → AnsweredBy p s each crew more (joined_all p us)
   answered_by us taken some even long h by_each once =
-      let all = all_shares us some even long h in
+      let have = all_shares us some even long h in
       record {
-        shares = all.shares;
-        cut = all.cut;
-        numbered = all.numbered;
-        callers = all.callers;
-        done = all.done;
-        joined = ap (joined_all p) all.stand ∙ standing_joined p all.shares;
+        all = have.all;
+        joined = ap (joined_all p) have.stand ∙ standing_joined p have.all.shares;
         taken = taken;
         by_each = by_each;
         once = once;

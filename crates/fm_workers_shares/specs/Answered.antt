@@ -23,14 +23,18 @@ abbrev pub all_of : List (List Done) → List Done
 all_of [] = []
 all_of (ds ∷ dss) = ds ++ all_of dss
 
--- the segment was cut into shares of so many records; each was answered by a caller of the crew, and the answers joined
-pub record AnsweredBy (p : Plan) (s : Region) (each : ℕ) (crew : List Caller) (more : List Entry) (a : List Found) : Type 0 where
+-- the shares of so many records from this number on, which are all of the part; each was answered by a caller of the crew
+pub record AnsweredShares (p : Plan) (s : Region) (each : ℕ) (crew : List Caller) (more : List Entry) (part : Region) (number : ℕ) : Type 0 where
   pub shares : List Share
-  pub cut : AreCut p s shares
-  pub numbered : AreNumbered p s each 0 shares
+  pub cut : AreCut p part shares
+  pub numbered : AreNumbered p s each number shares
   pub callers : AllByRecursion (λ w. IsAmong w.caller crew) shares
   pub done : AreDone p more shares
-  pub joined : a ≡ all_joined p shares
+
+-- the segment was cut into such shares, and their answers joined
+pub record AnsweredBy (p : Plan) (s : Region) (each : ℕ) (crew : List Caller) (more : List Entry) (a : List Found) : Type 0 where
+  pub all : AnsweredShares p s each crew more s 0
+  pub joined : a ≡ all_joined p all.shares
   -- by nothing else: each caller's entries are the queries over the shares that it took, and no share was taken twice
   pub taken : List (List Done)
   pub by_each : AllZip (λ c ds. DoesEach p s each c ds (made_by c more)) crew taken

@@ -1,14 +1,13 @@
-ghost use Rattle.std.specs.Prelude.{◌≡◌, ◌+◌, ◌<◌, ◌^◌, ◌≤◌, IfOk, IfErr, length, vec_len, vec_capacity};
+ghost use Rattle.std.specs.Prelude.{◌≡◌, ◌+◌, ◌<◌, ◌^◌, ◌≤◌, IfOk, length, vec_len, vec_capacity};
 ghost use Rattle.std.specs.List.{AllByRecursion};
 ghost use Rattle.fm_workers_jobs.specs.Turns.{account_of, HasAccount, IsGiver};
 ghost use Rattle.fm_workers_shares.specs.Taking.{IsReady};
 ghost use Rattle.fm_workers_shares.specs.Batches.{IsBegun, after_turns, nones};
 
 use crate::taker::Taker;
-use fm_base::Refusal;
 use fm_records::Answer;
 use fm_workers_jobs::{Jobs, Turn};
-use std::alloc::Global;
+use std::alloc::{AllocError, Global};
 use std::sync::Wait;
 
 /// Shares to be taken: all of them stand in the queue, and behind them a stop for each taker.
@@ -23,24 +22,20 @@ pub struct Batch {
 }
 
 impl Batch {
-    /// So many shares for so many takers, who are numbered from 1 on. Refused: `Memory`.
-    pub fn new<R: Wait>(rt: &R, alloc: Global, shares: u32, takers: u32) -> Result<Batch, Refusal>
+    /// So many shares for so many takers, who are numbered from 1 on.
+    pub fn new<R: Wait>(
+        rt: &R,
+        alloc: Global,
+        shares: u32,
+        takers: u32,
+    ) -> Result<Batch, AllocError>
         requires some { 0 < takers }
-        ensures begun { IfOk result (IsBegun shares takers) }
-        ensures memory { IfErr result (λ refusal. refusal ≡ Refusal.Memory) }
+        ensures { IfOk result (IsBegun shares takers) }
     {
-        let Ok((jobs, mut giver)) = Jobs::new(alloc, shares as usize + takers as usize) else {
-            return Err(Refusal::Memory);
-        };
+        let (jobs, mut giver) = Jobs::new(alloc, shares as usize + takers as usize)?;
         jobs.push_batch(rt, &mut giver, 0, shares, takers);
-        let slots = match empty_slots(alloc, shares) {
-            Ok(slots) => slots,
-            Err(refusal) => return Err(refusal),
-        };
-        let takers = match call_takers(alloc, &jobs, &mut giver, takers) {
-            Ok(takers) => takers,
-            Err(refusal) => return Err(refusal),
-        };
+        let slots = empty_slots(alloc, shares)?;
+        let takers = call_takers(alloc, &jobs, &mut giver, takers)?;
         Ok(Batch {
             jobs,
             giver,
@@ -50,37 +45,31 @@ impl Batch {
     }
 }
 
-/// A place for each answer, with none yet. Refused: `Memory`.
-fn empty_slots(alloc: Global, count: u32) -> Result<Vec<Option<Answer>>, Refusal>
-    ensures slots { IfOk result (λ slots. slots.items ≡ nones count) }
-    ensures memory { IfErr result (λ refusal. refusal ≡ Refusal.Memory) }
+/// A place for each answer, with none yet.
+fn empty_slots(alloc: Global, count: u32) -> Result<Vec<Option<Answer>>, AllocError>
+    ensures { IfOk result (λ slots. slots.items ≡ nones count) }
 {
-    let Ok(mut slots) = Vec::with_capacity(alloc, count as usize) else {
-        return Err(Refusal::Memory);
-    };
+    let mut slots = Vec::with_capacity(alloc, count as usize)?;
     for _ in 0..count {
         slots.push_reserved(None);
     }
     Ok(slots)
 }
 
-/// So many takers, each with a turn of its own. Refused: `Memory`.
+/// So many takers, each with a turn of its own.
 fn call_takers(
     alloc: Global,
     jobs: &Jobs,
     giver: &mut Turn,
     count: u32,
-) -> Result<Vec<Taker>, Refusal>
+) -> Result<Vec<Taker>, AllocError>
     requires { IsGiver jobs.now giver.old }
     ensures ready { IfOk result (λ takers. AllByRecursion (IsReady jobs.now) takers.items) }
     ensures count { IfOk result (λ takers. length takers.items ≡ count) }
     ensures giver { IfOk result
         (λ _. HasAccount jobs.now giver.new (after_turns (account_of giver.old) count)) }
-    ensures memory { IfErr result (λ refusal. refusal ≡ Refusal.Memory) }
 {
-    let Ok(mut takers) = Vec::with_capacity(alloc, count as usize) else {
-        return Err(Refusal::Memory);
-    };
+    let mut takers = Vec::with_capacity(alloc, count as usize)?;
     for k in 0..count {
         takers.push_reserved(Taker {
             number: k + 1,

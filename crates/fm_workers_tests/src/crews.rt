@@ -3,7 +3,7 @@ mod ample;
 mod gates;
 mod tallies;
 
-ghost use Rattle.std.specs.Prelude.{◌≡◌, ◌<◌, ◌≤◌, ◌≢◌, []};
+ghost use Rattle.std.specs.Prelude.{◌≡◌, ◌<◌, ◌≤◌, ◌≢◌, [], IfOk};
 ghost use Rattle.fm_rule_calls.specs.Kept.{Lasts};
 ghost use Rattle.fm_rule_calls.specs.Told.{view_of_pass};
 ghost use Rattle.fm_gate.specs.Needs.{IsInside, IsOutside};
@@ -129,6 +129,24 @@ fn query(alloc: Global) -> Result<Query, Fail> {
     Ok(parse_query(alloc, ASKED, &layout)?)
 }
 
+/// That query, and those records in an arena of this kind, in a pool of so many passes.
+fn at_records<R: Abort + AllocGlobal + Wait>(
+    rt: &R,
+    passes: u32,
+    kind: Kind,
+) -> Result<(Query, Pool, Pass, Segment), Fail>
+    requires some { 0 < passes }
+    requires few { passes < 65 }
+    ensures outside { IfOk result (λ r. IsOutside r.1 r.2) }
+    ensures known { IfOk result (λ r. IsKnown (view_of_pass r.2) r.3) }
+    ensures size { IfOk result (λ r. r.3.size ≡ 64) }
+{
+    let q = query(rt.alloc())?;
+    let (pool, mut pass) = made(rt, passes, 8);
+    let s = stocked(rt, &pool, &mut pass, kind);
+    Ok((q, pool, pass, s))
+}
+
 /// What so many passes answer, as text.
 fn asked<R: Abort + AllocGlobal + Threads + Wait + Sync, G: Gate>(
     rt: &R,
@@ -159,9 +177,7 @@ const ANSWER: &[u8] = b"count 5\nsum(.amount) 26\nlist(.id) 1 3 5 6 8\n";
 
 #[test]
 fn answers_are_the_same_for_each_count_of_threads(rt: HostRuntime) -> Result<(), Fail> {
-    let q = query(rt.alloc())?;
-    let (pool, mut pass) = made(&rt, 17, 8);
-    let s = stocked(&rt, &pool, &mut pass, Kind::Shared);
+    let (q, pool, mut pass, s) = at_records(&rt, 17, Kind::Shared)?;
     let by_one = asked(&rt, &pool, &mut pass, &q, &s, 1, &FreeGate);
     assert_eq!(rt; by_one.as_deref(), Ok(ANSWER));
     let by_two = asked(&rt, &pool, &mut pass, &q, &s, 2, &FreeGate);
@@ -176,11 +192,8 @@ fn answers_are_the_same_for_each_count_of_threads(rt: HostRuntime) -> Result<(),
 
 #[test]
 fn sixteen_passes_answer_over_no_records(rt: HostRuntime) -> Result<(), Fail> {
-    let q = query(rt.alloc())?;
-    let (pool, mut pass) = made(&rt, 17, 8);
-    let none = stocked(&rt, &pool, &mut pass, Kind::Shared)
-        .as_slice(64, 0)
-        .expect(&rt, "no bytes");
+    let (q, pool, mut pass, s) = at_records(&rt, 17, Kind::Shared)?;
+    let none = s.as_slice(64, 0).expect(&rt, "no bytes");
     let answer = asked(&rt, &pool, &mut pass, &q, &none, 16, &FreeGate);
     assert_eq!(rt;
         answer.as_deref(),
@@ -191,9 +204,7 @@ fn sixteen_passes_answer_over_no_records(rt: HostRuntime) -> Result<(), Fail> {
 
 #[test]
 fn ragged_records_are_not_asked(rt: HostRuntime) -> Result<(), Fail> {
-    let q = query(rt.alloc())?;
-    let (pool, mut pass) = made(&rt, 3, 8);
-    let s = stocked(&rt, &pool, &mut pass, Kind::Shared);
+    let (q, pool, mut pass, s) = at_records(&rt, 3, Kind::Shared)?;
     let ragged = s.as_slice(0, 20).expect(&rt, "two records and a half");
     assert_eq!(rt;
         asked(&rt, &pool, &mut pass, &q, &ragged, 2, &FreeGate),
@@ -205,9 +216,7 @@ fn ragged_records_are_not_asked(rt: HostRuntime) -> Result<(), Fail> {
 
 #[test]
 fn a_confined_arena_is_not_asked(rt: HostRuntime) -> Result<(), Fail> {
-    let q = query(rt.alloc())?;
-    let (pool, mut pass) = made(&rt, 3, 8);
-    let s = stocked(&rt, &pool, &mut pass, Kind::Confined);
+    let (q, pool, mut pass, s) = at_records(&rt, 3, Kind::Confined)?;
     assert_eq!(rt;
         asked(&rt, &pool, &mut pass, &q, &s, 2, &FreeGate),
         Err(Refusal::WrongThread)
@@ -217,9 +226,7 @@ fn a_confined_arena_is_not_asked(rt: HostRuntime) -> Result<(), Fail> {
 
 #[test]
 fn a_closed_arena_is_not_asked(rt: HostRuntime) -> Result<(), Fail> {
-    let q = query(rt.alloc())?;
-    let (pool, mut pass) = made(&rt, 3, 8);
-    let s = stocked(&rt, &pool, &mut pass, Kind::Shared);
+    let (q, pool, mut pass, s) = at_records(&rt, 3, Kind::Shared)?;
     assert_eq!(rt; close(&rt, &pool, &mut pass, s.arena()), Ok(()));
     assert_eq!(rt;
         asked(&rt, &pool, &mut pass, &q, &s, 2, &FreeGate),

@@ -1,6 +1,5 @@
-use Rattle.std.proofs.Common.{◌≡◌, ◌%◌, ◌/◌, arith, refl, sym, ap, ◌∙◌, subst, inr, Err}
+use Rattle.std.proofs.Common.{◌≡◌, ◌%◌, ◌/◌, arith, refl, sym, ap, ◌∙◌, subst, inr}
 use Rattle.fm_base.specs.declared.arena_id.ArenaId.{ArenaId}
-use Rattle.fm_base.specs.declared.refusal.Refusal.{Refusal}
 use Rattle.fm_base.specs.declared.refusal.Refusal.TheVariants.{Memory, Ragged, WrongThread}
 use Rattle.fm_workers_shares.specs.Batches.{IsBegun}
 use Rattle.fm_workers_shares.specs.Shares.{each_of, many_of}
@@ -25,8 +24,7 @@ pub returns-in-Err-clause-queried : goal.returns-in-Err-clause-queried
 returns-in-Err-clause-queried g c =
     let shared = open_to_all c.args.q.now c.args.s.now c.size.result c.record_size.result c.arena.result c.size.ensures.size c.record_size.ensures.size
     c.if-rest-ne0.false c.arena.ensures (c.is_confined.ensures.no c.if-is_confined.false) in
-    subst (λ (r : Refusal). QueriedWith c.args.threads c.args.pass.now c.args.pass.now c.args.q.now c.args.s.now (Err r)) (sym c.in-Err.ensures.memory)
-    (queried_none c.args.pass.now c.args.q.now c.args.s.now c.args.threads Memory tt c.requires.known (shared, inr tt))
+    queried_none c.args.pass.now c.args.q.now c.args.s.now c.args.threads Memory tt c.requires.known (shared, inr tt)
 
 pub take_batch-requires-after_bounds : goal.take_batch-requires-after_bounds
 take_batch-requires-after_bounds g c κs within =
@@ -37,17 +35,17 @@ take_batch-requires-after_bounds g c κs within =
     let many : c.count_shares.result ≡ many_of (c.args.s.now.size / c.args.q.now.size) c.records_each-each.result =
     c.count_shares.ensures.many ∙ (λ i. many_of (count i) (sym c.records_each-each.ensures.each i)) in
     subst (λ n. CanTakeBatch c.args.pool.now c.args.pass.now c.args.q.now c.args.s.now n c.records_each-each.result c.in-Ok.batch)
-    (sym c.in-Ok.ensures.begun.count) (record {
+    (sym c.in-Ok.ensures.count) (record {
       query = c.requires;
       open_to_all = shared;
       plan = c.record_size.ensures.plan;
       small = (let ends = c.size.ensures.ends in omega (arith, ends));
       cut = c.records_each-each.ensures.each ∙ ap (λ n. each_of n c.args.threads) count;
       some = c.records_each-each.ensures.some;
-      begun = subst (λ n. IsBegun n c.args.threads c.in-Ok.batch) many c.in-Ok.ensures.begun;
+      begun = subst (λ n. IsBegun n c.args.threads c.in-Ok.batch) many c.in-Ok.ensures;
     })
 
 pub returns-in-Ok-clause-queried : goal.returns-in-Ok-clause-queried
 returns-in-Ok-clause-queried g c =
-    subst (λ n. QueriedWith n c.args.pass.now c.take_batch.new.pass c.args.q.now c.args.s.now c.take_batch.result) c.in-Ok.ensures.begun.count
+    subst (λ n. QueriedWith n c.args.pass.now c.take_batch.new.pass c.args.q.now c.args.s.now c.take_batch.result) c.in-Ok.ensures.count
     c.take_batch.ensures.queried

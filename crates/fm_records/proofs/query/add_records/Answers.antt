@@ -2,7 +2,7 @@
 use Rattle.std.proofs.Common.{◌≡◌, ◌+◌, ◌*◌, ◌/◌, ◌<◌, ◌∙◌, ap, suc, subst, arith}
 use Rattle.fm_records.proofs.Recording.{next_lies, next_room, recorded_all, recorded_more, recorded_none, recorded_stops}
 use Rattle.fm_records.proofs.Visiting.{can_still}
-use Rattle.fm_records.proofs.query.add_each.Goals as goal
+use Rattle.fm_records.proofs.query.add_records.Goals as goal
 
 pub loop-init : goal.loop-init
 loop-init g c =

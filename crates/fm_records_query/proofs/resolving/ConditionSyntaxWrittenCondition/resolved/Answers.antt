@@ -2,11 +2,11 @@
 use Rattle.std.proofs.Common.{◌∙◌, ap, inl, sym}
 use Rattle.fm_records_query.specs.Parsed.{first_open, at_path, left_open}
 use Rattle.fm_records_query.proofs.Plans.{passed_on}
-use Rattle.fm_records_query.proofs.resolving.resolve_condition.Goals as goal
+use Rattle.fm_records_query.proofs.resolving.ConditionSyntaxWrittenCondition.resolved.Goals as goal
 
 pub returns-in_err-path-clause-refused : goal.returns-in_err-path-clause-refused
 returns-in_err-path-clause-refused c =
-    passed_on _ _ _ c.from_residual-in_err-path.ensures.1
+    passed_on _ _ _ c.from_residual.ensures.1
     (inl (at_path c.in_err-path.field-0.0 (rw c.as_slice.ensures at c.in_err-path.ensures.refused)))
 
 pub returns-in-Some-clause-refused : goal.returns-in-Some-clause-refused
