@@ -14,7 +14,7 @@ use Rattle.fm_rule_facts.specs.declared.step.Step.{Step}
 use Rattle.fm_rule_facts.specs.declared.step.Step.TheVariants.{Draws, Marks, Checks, Loads, Stores, SwapsIf, Adds, Allocates, Holds, Unholds, Backs, Unmarks, Shuts, Visits, TakesSlot, LearnsGeneration, Opens, Claims, Maps, ReadsMap, SweepsGiven, SweepsMap, Unmaps, Wipes, GivesPage, ReturnsPage, ResetsGiven, Retires, GivesSlot, Looks, TakesNumber, LearnsTerm, RaisesTerm, GivesNumber}
 use Rattle.fm_rule_facts.specs.Views.{Met, View, In, IsSound, IsNew, IsNumberGone, all_gathered, brought}
 use Rattle.fm_rule_facts.specs.Hands.{Hand, Number, no_number, number_drawn, number_after, drawn_by}
-use Rattle.fm_rule_facts.specs.Steps.{Stepped, part, draws}
+use Rattle.fm_rule_facts.specs.Steps.{Stepped, part, entries, noted, draws}
 use Rattle.fm_rule_facts.specs.Facts.{Rule}
 use Rattle.fm_rule_facts.specs.Parts.{Mapping, Swept, mapping_of, reads_after, reads_mapped}
 use Rattle.fm_rule_facts.specs.Moves.{Same, Gives, Tells, MayStep, MayStore}
@@ -53,8 +53,20 @@ StaysInside (Checks a) = ⊥
 StaysInside Unmarks = ⊥
 StaysInside step = ⊤
 
--- what no step changes by itself, and what it leaves under a condition
-pub record Leaves (C : Type 0) (v p : View) : Type 0 where
+-- what a step makes of a view: the view after, the entries, and what is noted
+abbrev pub Outcome : Type 0
+Outcome = View × List Entry × (ℕ → List Find)
+
+abbrev pub outcome : Step → View → ℕ → Outcome
+outcome s v x = (part s v x, entries s v x, noted s v x)
+
+-- it is the same in every pool
+abbrev pub IsSteady : Step → View → ℕ → Type 0
+IsSteady s v x = (home : List ℕ) → (homed home (part s v x), entries s v x, noted s v x) ≡ outcome s (homed home v) x
+
+-- what no step changes by itself, what it leaves under a condition, and what is true of it
+pub record Leaves (C S : Type 0) (v p : View) : Type 0 where
+  pub holds : S
   pub same : Same v (record p { whole = v.whole })
   pub inside : C → p.inside ≡ v.inside
   pub reads : C → (y : Mapping) → In y v.reads → In y p.reads
@@ -62,10 +74,10 @@ pub record Leaves (C : Type 0) (v p : View) : Type 0 where
 pub all_same : (v : View) → Same v v
 all_same v = record { home = refl; shape = refl; live = refl; caller = refl; seen = refl; met = refl; finds = refl; gathered = refl; whole = refl }
 
-module _ {C : Type 0} {v : View} {m : Option ArenaId} {cs : List Close} {ss : List Sweep} {swept : Swept} {hand : Hand} {hs gs : List ArenaId}
+module _ {C S : Type 0} {v : View} {m : Option ArenaId} {cs : List Close} {ss : List Sweep} {swept : Swept} {hand : Hand} {hs gs : List ArenaId}
     {ps : List ℕ} {number : Number} {whole : Bool} where
   -- a step may change these
-  leaves_reads : {ms : List Mapping} → ((y : Mapping) → In y v.reads → In y ms) → Leaves C v (record v {
+  leaves_reads : {ms : List Mapping} → S → ((y : Mapping) → In y v.reads → In y ms) → Leaves C S v (record v {
     mark = m;
     closes = cs;
     sweeps = ss;
@@ -78,23 +90,29 @@ module _ {C : Type 0} {v : View} {m : Option ArenaId} {cs : List Close} {ss : Li
     number = number;
     whole = whole;
   })
-  leaves_reads more = record {
+  leaves_reads holds more = record {
+    holds = holds;
     same = record { home = refl; shape = refl; live = refl; caller = refl; seen = refl; met = refl; finds = refl; gathered = refl; whole = refl };
     inside = λ _. refl;
     reads = λ _. more;
   }
 
 -- or, where the condition fails, these
-leaves_arena : {C : Type 0} {v : View} {i m : Option ArenaId} {ms : List Mapping} → ¬ C → Leaves C v (record v { inside = i; mark = m; reads = ms })
-leaves_arena never = record {
+leaves_arena : {C S : Type 0} {v : View} {i m : Option ArenaId} {ms : List Mapping} → S → ¬ C → Leaves C S v (record v { inside = i; mark = m; reads = ms })
+leaves_arena holds never = record {
+  holds = holds;
   same = record { home = refl; shape = refl; live = refl; caller = refl; seen = refl; met = refl; finds = refl; gathered = refl; whole = refl };
   inside = λ c. absurd (never c);
   reads = λ c. absurd (never c);
 }
 
-leaves_draws : {C : Type 0} (o : Option Caller) (k : Number) (e x : ℕ) (v : View) → Leaves C v (draws o k e x v)
-leaves_draws None k e x v = leaves_reads (λ y i. i)
-leaves_draws (Some n) k e x v = leaves_reads (λ y i. i)
+leaves_draws : {C S : Type 0} (o : Option Caller) (k : Number) (e x : ℕ) (v : View) → S → Leaves C S v (draws o k e x v)
+leaves_draws None k e x v holds = leaves_reads holds (λ y i. i)
+leaves_draws (Some n) k e x v holds = leaves_reads holds (λ y i. i)
+
+homed_draws : (o : Option Caller) (k : Number) (e x : ℕ) (home : List ℕ) (v : View) → homed home (draws o k e x v) ≡ draws o k e x (homed home v)
+homed_draws None k e x home v = refl
+homed_draws (Some n) k e x home v = refl
 
 more_mapped : (b p x : ℕ) (ms : List Mapping) (y : Mapping) → In y ms → In y (reads_mapped b p x ms)
 more_mapped b p x ms y i = go (x == 0)
@@ -110,42 +128,44 @@ more_read b x ms y i = go (x == 0)
     go true = i
     go false = inr i
 
-pub leaves : (s : Step) (v : View) (x : ℕ) → Leaves (StaysInside s) v (part s v x)
-unfolding part
-leaves (Checks a) v x = leaves_arena (λ c. c)
-leaves Unmarks v x = leaves_arena (λ c. c)
-leaves (Draws e) v x = leaves_draws (drawn_by v.number e x) (number_after v.number e x) e x v
-leaves (Maps a i p) v x = leaves_reads (more_mapped i p x v.reads)
-leaves (ReadsMap a i) v x = leaves_reads (more_read i x v.reads)
-leaves (Marks a) v x = leaves_reads (λ y i. i)
-leaves (Loads w) v x = leaves_reads (λ y i. i)
-leaves (Stores w y) v x = leaves_reads (λ y i. i)
-leaves (SwapsIf w o y) v x = leaves_reads (λ y i. i)
-leaves (Adds w n) v x = leaves_reads (λ y i. i)
-leaves (Allocates g n a) v x = leaves_reads (λ y i. i)
-leaves (Holds a w) v x = leaves_reads (λ y i. i)
-leaves (Unholds a) v x = leaves_reads (λ y i. i)
-leaves (Backs a w) v x = leaves_reads (λ y i. i)
-leaves (Shuts a) v x = leaves_reads (λ y i. i)
-leaves (Visits a k) v x = leaves_reads (λ y i. i)
-leaves (Opens a) v x = leaves_reads (λ y i. i)
-leaves (TakesSlot e b) v x = leaves_reads (λ y i. i)
-leaves (LearnsGeneration s) v x = leaves_reads (λ y i. i)
-leaves (Claims g e b) v x = leaves_reads (λ y i. i)
-leaves (SweepsGiven a) v x = leaves_reads (λ y i. i)
-leaves (SweepsMap a i) v x = leaves_reads (λ y i. i)
-leaves (Unmaps a i p) v x = leaves_reads (λ y i. i)
-leaves (Wipes a i p w) v x = leaves_reads (λ y i. i)
-leaves (GivesPage p) v x = leaves_reads (λ y i. i)
-leaves (ReturnsPage a p) v x = leaves_reads (λ y i. i)
-leaves (ResetsGiven a) v x = leaves_reads (λ y i. i)
-leaves (Retires a) v x = leaves_reads (λ y i. i)
-leaves (GivesSlot s) v x = leaves_reads (λ y i. i)
-leaves Looks v x = leaves_reads (λ y i. i)
-leaves (TakesNumber g e b) v x = leaves_reads (λ y i. i)
-leaves (LearnsTerm n) v x = leaves_reads (λ y i. i)
-leaves (RaisesTerm n) v x = leaves_reads (λ y i. i)
-leaves (GivesNumber n) v x = leaves_reads (λ y i. i)
+pub leaves : (s : Step) (v : View) (x : ℕ) → Leaves (StaysInside s) (IsSteady s v x) v (part s v x)
+unfolding part entries noted
+leaves (Checks a) v x = leaves_arena (λ h. refl) (λ c. c)
+leaves Unmarks v x = leaves_arena (λ h. refl) (λ c. c)
+leaves (Draws e) v x =
+    leaves_draws (drawn_by v.number e x) (number_after v.number e x) e x v
+    (λ h j. (homed_draws (drawn_by v.number e x) (number_after v.number e x) e x h v j, entries (Draws e) v x, noted (Draws e) v x))
+leaves (Maps a i p) v x = leaves_reads (λ h. refl) (more_mapped i p x v.reads)
+leaves (ReadsMap a i) v x = leaves_reads (λ h. refl) (more_read i x v.reads)
+leaves (Marks a) v x = leaves_reads (λ h. refl) (λ y i. i)
+leaves (Loads w) v x = leaves_reads (λ h. refl) (λ y i. i)
+leaves (Stores w y) v x = leaves_reads (λ h. refl) (λ y i. i)
+leaves (SwapsIf w o y) v x = leaves_reads (λ h. refl) (λ y i. i)
+leaves (Adds w n) v x = leaves_reads (λ h. refl) (λ y i. i)
+leaves (Allocates g n a) v x = leaves_reads (λ h. refl) (λ y i. i)
+leaves (Holds a w) v x = leaves_reads (λ h. refl) (λ y i. i)
+leaves (Unholds a) v x = leaves_reads (λ h. refl) (λ y i. i)
+leaves (Backs a w) v x = leaves_reads (λ h. refl) (λ y i. i)
+leaves (Shuts a) v x = leaves_reads (λ h. refl) (λ y i. i)
+leaves (Visits a k) v x = leaves_reads (λ h. refl) (λ y i. i)
+leaves (Opens a) v x = leaves_reads (λ h. refl) (λ y i. i)
+leaves (TakesSlot e b) v x = leaves_reads (λ h. refl) (λ y i. i)
+leaves (LearnsGeneration s) v x = leaves_reads (λ h. refl) (λ y i. i)
+leaves (Claims g e b) v x = leaves_reads (λ h. refl) (λ y i. i)
+leaves (SweepsGiven a) v x = leaves_reads (λ h. refl) (λ y i. i)
+leaves (SweepsMap a i) v x = leaves_reads (λ h. refl) (λ y i. i)
+leaves (Unmaps a i p) v x = leaves_reads (λ h. refl) (λ y i. i)
+leaves (Wipes a i p w) v x = leaves_reads (λ h. refl) (λ y i. i)
+leaves (GivesPage p) v x = leaves_reads (λ h. refl) (λ y i. i)
+leaves (ReturnsPage a p) v x = leaves_reads (λ h. refl) (λ y i. i)
+leaves (ResetsGiven a) v x = leaves_reads (λ h. refl) (λ y i. i)
+leaves (Retires a) v x = leaves_reads (λ h. refl) (λ y i. i)
+leaves (GivesSlot s) v x = leaves_reads (λ h. refl) (λ y i. i)
+leaves Looks v x = leaves_reads (λ h. refl) (λ y i. i)
+leaves (TakesNumber g e b) v x = leaves_reads (λ h. refl) (λ y i. i)
+leaves (LearnsTerm n) v x = leaves_reads (λ h. refl) (λ y i. i)
+leaves (RaisesTerm n) v x = leaves_reads (λ h. refl) (λ y i. i)
+leaves (GivesNumber n) v x = leaves_reads (λ h. refl) (λ y i. i)
 
 pub all_of_in : {A : Type 0} (P : A → Type 0) (xs : List A) → ((x : A) → In x xs → P x) → All P xs
 all_of_in P [] f = All-nil P

@@ -7,7 +7,7 @@ use Rattle.std.proofs.lemmas.Bool.{cases_lt}
 use Rattle.std.proofs.lemmas.Nat.Bits.{bit_at-zero, bit_at_ones, bit_at_ones_above}
 use Rattle.fm_words.specs.declared.shape.Shape.{Shape}
 use Rattle.fm_words.specs.Shapes.{IsValid}
-use Rattle.fm_words.specs.Places.{at, number_bits, groups, page_bits, page_groups, words}
+use Rattle.fm_words.specs.Places.{Place, IsPlace, at, number_bits, groups, page_bits, page_groups, words}
 use Rattle.fm_words.specs.Bits.{ones, number_at, bit_of, IsWithout}
 use Rattle.fm_base_machine.specs.Functions.{put}
 use Rattle.fm_base_machine.proofs.Putting.{put_here, put_else}
@@ -29,46 +29,47 @@ begun_none z valid = record {
   numbers_set = λ g l. absurd (omega arith);
 }
 
-module _ (z : Shape) (ws : List ℕ) (g w : ℕ) (valid : IsValid z) where
+module _ {z : Shape} {ws : List ℕ} {g w i end : ℕ} (valid : IsValid z) where
   -- one more word of page bits
-  pub more_pages : g < page_groups z → IsFull z.pages g w → IsBegun z ws g 0 → IsBegun z (set ws (at z (page_bits g)) w) (g + 1) 0
-  more_pages low here begun = record {
+  pub more_pages : end ≡ page_groups z → g < end → i ≡ at z (page_bits g) → IsFull z.pages g w → IsBegun z ws g 0 → IsBegun z (set ws i w) (g + 1) 0
+  more_pages all l is here begun = subst (λ (n : ℕ). IsBegun z (set ws n w) (g + 1) 0) (sym is) (record {
     page_bits = put begun.page_bits g w;
     number_bits = begun.number_bits;
-    shows = shows_pages z valid ws begun.page_bits begun.number_bits g w begun.shows low;
+    shows = shows_pages z valid ws begun.page_bits begun.number_bits g w begun.shows (subst (λ (n : ℕ). g < n) all l);
     pages_set = λ k l. dite (ℕ_discrete k g)
         (λ e. subst (λ (n : ℕ). IsFull z.pages n (put begun.page_bits g w n)) (sym e) (subst (IsFull z.pages g) (sym (put_here begun.page_bits g w)) here))
         (λ ne. subst (IsFull z.pages k) (sym (put_else begun.page_bits g w k ne)) (begun.pages_set k (omega arith)));
     pages_left = λ k l. put_else begun.page_bits g w k (λ e. omega arith) ∙ begun.pages_left k (omega arith);
     numbers_set = begun.numbers_set;
-  }
+  })
 
   -- one more word of number bits
-  pub more_numbers : (pages : ℕ) → g < groups z → AreFirst z g w → IsBegun z ws pages g → IsBegun z (set ws (at z (number_bits g)) w) pages (g + 1)
-  more_numbers pages low here begun = record {
+  pub more_numbers : {pages : ℕ} → end ≡ groups z → g < end → i ≡ at z (number_bits g) → AreFirst z g w → IsBegun z ws pages g
+      → IsBegun z (set ws i w) pages (g + 1)
+  more_numbers {pages = pages} all l is here begun = subst (λ (n : ℕ). IsBegun z (set ws n w) pages (g + 1)) (sym is) (record {
     page_bits = begun.page_bits;
     number_bits = put begun.number_bits g w;
-    shows = shows_group z valid ws begun.page_bits begun.number_bits g w begun.shows low;
+    shows = shows_group z valid ws begun.page_bits begun.number_bits g w begun.shows (subst (λ (n : ℕ). g < n) all l);
     pages_set = begun.pages_set;
     pages_left = begun.pages_left;
     numbers_set = λ k l. dite (ℕ_discrete k g)
         (λ e. subst (λ (n : ℕ). AreFirst z n (put begun.number_bits g w n)) (sym e) (subst (AreFirst z g) (sym (put_here begun.number_bits g w)) here))
         (λ ne. subst (AreFirst z k) (sym (put_else begun.number_bits g w k ne)) (begun.numbers_set k (omega arith)));
-  }
+  })
 
-module _ (z : Shape) (ws : List ℕ) (pages numbers : ℕ) (begun : IsBegun z ws pages numbers) where
-  -- the words of bits are within the table
-  pub pages_within : (g i : ℕ) → g < page_groups z → i ≡ at z (page_bits g) → i < length ws
-  pages_within g i low is =
-      let n : ℕ = length ws in
-      let long : n ≡ words z = begun.shows.wide in
-      let below : i < words z = place_below z (page_bits g) low is in omega arith
+-- the words of bits are within the table
+within : (z : Shape) (ws : List ℕ) (p : Place) {pages numbers i : ℕ} → IsBegun z ws pages numbers → IsPlace z p → i ≡ at z p → i < length ws
+within z ws p {i = i} begun low is =
+    let n : ℕ = length ws in
+    let long : n ≡ words z = begun.shows.wide in
+    let below : i < words z = place_below z p low is in omega arith
 
-  pub numbers_within : (g i : ℕ) → g < groups z → i ≡ at z (number_bits g) → i < length ws
-  numbers_within g i low is =
-      let n : ℕ = length ws in
-      let long : n ≡ words z = begun.shows.wide in
-      let below : i < words z = place_below z (number_bits g) low is in omega arith
+module _ {z : Shape} {ws : List ℕ} {pages numbers : ℕ} (begun : IsBegun z ws pages numbers) {g i end : ℕ} where
+  pub pages_within : end ≡ page_groups z → g < end → i ≡ at z (page_bits g) → i < length ws
+  pages_within e l = within z ws (page_bits g) begun (subst (λ (n : ℕ). g < n) e l)
+
+  pub numbers_within : end ≡ groups z → g < end → i ≡ at z (number_bits g) → i < length ws
+  numbers_within e l = within z ws (number_bits g) begun (subst (λ (n : ℕ). g < n) e l)
 
 -- ---- where all are set, the words keep the rule
 

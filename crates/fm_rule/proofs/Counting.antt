@@ -9,11 +9,11 @@ use Rattle.fm_rule_facts.specs.Views.{View, In, IsSound}
 use Rattle.fm_rule_facts.specs.Steps.{Stepped, draws, note_draw, none_noted, is_clear}
 use Rattle.fm_rule_facts.specs.Hands.{Number, no_number, number_taken, number_learnt, number_left, number_drawn, most_draws, drawn_by, number_after}
 use Rattle.fm_rule_facts.specs.Moves.{LearnsCount}
-use Rattle.fm_rule_facts.specs.Splits.{view_of, drawn_left}
+use Rattle.fm_rule_facts.specs.Splits.{drawn_left}
 use Rattle.fm_rule_facts.proofs.Founds.{draw_found, draw_drew, draw_is}
 use Rattle.fm_rule_facts.proofs.Keeping.{in_append, in_left, in_right}
 use Rattle.fm_rule.specs.Passes.{IsOf}
-use Rattle.fm_rule.specs.Draws.{Asks, Seeks, Follow, LearnsAnew, FoundZero, Takes, Counts, Drawn, NoneDrawn}
+use Rattle.fm_rule.specs.Draws.{cut_from, Asks, Seeks, Follow, LearnsAnew, FoundZero, Takes, Counts, Drawn, NoneDrawn}
 use Rattle.fm_rule.specs.declared.pool.Pool.{Pool}
 use Rattle.fm_rule.proofs.Following.{last_found, follows_more, last_more}
 use Rattle.fm_rule.proofs.Asking.{asked_then, asked_both, asks_none, asks_both, asks_step, Draw, whole_after, not_made, draw_counts}
@@ -204,7 +204,7 @@ none_after pool old p q k of t y =
     }
 
 pub drawn_of : (pool : Pool) (old p q d : View) (k : Number) (c : Caller) → (t : Seeks pool old p k) → Counts p q c
-    → d ≡ record (view_of q.shape true q.seen) { home = q.home; caller = c } → IsSound d → Drawn old (drawn_left q) d
+    → d ≡ cut_from q c → IsSound d → Drawn old (drawn_left q) d
 drawn_of pool old p q d k c t y is sound =
     let a = asked_both old p q t.finds y.finds k (number_drawn c) t.asks.asked y.asked t.asks.same in
     let mine : q.number ≡ number_drawn c = ap (λ (v : View). v.number) y.asked.is in
@@ -212,18 +212,9 @@ drawn_of pool old p q d k c t y is sound =
     record {
       caller = c;
       finds = t.finds ++ y.finds;
-      asked = record {
-        more = a.more;
-        seen = a.seen;
-        quiet = a.quiet;
-        apart = a.apart;
-        alone = a.alone;
-        found = a.found;
-        only = a.only;
-        gathered = a.gathered;
-        later = a.later;
-        is = λ i. record (a.is i) { number = no_number };
-      };
+      asked = (
+          let left : drawn_left q ≡ record old { seen = q.seen; finds = q.finds; whole = q.whole; number = no_number } =
+          λ i. record (a.is i) { number = no_number } in search (left, a.only, a.gathered, a.later));
       tries = tries_after t.finds y.finds t.looks
           (record { looks = []; draws = y.finds; are = refl; are_looks = λ f i. absurd i; guess = y.guess; follow = y.follow });
       drew = record {

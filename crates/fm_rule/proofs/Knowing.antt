@@ -2,7 +2,7 @@
 use Rattle.std.proofs.Common.{◌≡◌, ℕ, ◌+◌, ◌-◌, ◌*◌, ◌/◌, ◌%◌, ◌^◌, ◌<◌, ◌≤◌, List, [], ◌∷◌, inl, true, refl, Option, Some, sym, ap, ◌∙◌, subst, arith}
 use Rattle.fm_words.specs.declared.shape.Shape.{Shape}
 use Rattle.fm_words.specs.Shapes.{IsValid}
-use Rattle.fm_words.specs.Places.{Place, IsPlace, at, page_word, groups, words}
+use Rattle.fm_words.specs.Places.{Place, IsPlace, at, page_word, groups, page_groups, words}
 use Rattle.fm_words.proofs.Tables.{at-within, words-le}
 use Rattle.atomic_table.specs.declared.shared.Seat.{Seat}
 use Rattle.fm_base.specs.declared.caller.Caller.{Caller}
@@ -12,6 +12,7 @@ use Rattle.fm_rule_facts.specs.Views.{View, Fits, In, IsKnown, IsOver, IsSound}
 use Rattle.fm_rule_facts.specs.Closes.{passed_of}
 use Rattle.fm_rule_facts.specs.Steps.{HasPlace, number_at, CanDraw, can_draw, can_look}
 use Rattle.fm_rule_facts.specs.Parts.{wiping, mapping_of}
+use Rattle.fm_rule_facts.proofs.Groups.{page_group}
 use Rattle.std.proofs.Math.Nat.{mod-lt}
 use Rattle.fm_rule_steps.proofs.Closes.{Found, passed_of-found}
 use Rattle.fm_rule.specs.declared.pass.Part.{Part}
@@ -25,17 +26,14 @@ use Rattle.fm_rule.specs.Views.{homed, numbers_of, IsPart, Keeps}
 
 -- ---- the table
 
+table_of : List ℕ → TableId
+table_of (w ∷ s ∷ v ∷ a ∷ b ∷ o ∷ names) = record { words = w; slots = s; views_name = v; atom = a; block = b; offset = o; slot_names = names }
+table_of other = record { words = 0; slots = 0; views_name = 0; atom = 0; block = 0; offset = 0; slot_names = [] }
+
 -- numbers tell one table
 pub one_table : (s t : TableId) → numbers_of s ≡ numbers_of t → s ≡ t
-one_table s t e =
-    let a : s.words ≡ t.words = cc in
-    let b : s.slots ≡ t.slots = cc in
-    let c : s.views_name ≡ t.views_name = cc in
-    let d : s.atom ≡ t.atom = cc in
-    let f : s.block ≡ t.block = cc in
-    let g : s.offset ≡ t.offset = cc in
-    let h : s.slot_names ≡ t.slot_names = cc in
-    λ i. record { words = a i; slots = b i; views_name = c i; atom = d i; block = f i; offset = g i; slot_names = h i }
+unfolding table_of
+one_table s t e = ap table_of e
 
 -- a pass of a pool has a seat at its table
 pub in_pool : (t : TableId) (v now : View) (pool : Pool) → homed (numbers_of t) v ≡ now → IsOf pool now → t ≡ pool.table.shared.table_id
@@ -161,10 +159,24 @@ module _ {z : Shape} {now : View} {home : List ℕ} {v : View} (k : Sees z now h
   page_in_hand {p = p} e =
       in_shape (λ (x : Shape). p < x.pages) (k.sound.own_pages p (subst (In p) (sym (ap (λ (x : View). x.pages) k.is ∙ e)) (inl refl)))
 
+  pub group_in_hand : {p : ℕ} → now.pages ≡ p ∷ [] → p / 64 < page_groups z
+  group_in_hand {p = p} e = page_group z p (page_in_hand e)
+
   -- and that of its sweep
   pub page_in_sweep : {a : ArenaId} {i p w : ℕ} → now.swept ≡ wiping a i p w → p < z.pages
   page_in_sweep {a = a} {i = i} {p = p} {w = w} e =
       in_shape (λ (x : Shape). p < x.pages) (k.sound.swept_page a i p w (ap (λ (x : View). x.swept) k.is ∙ e))
+
+  pub group_in_sweep : {a : ArenaId} {i p w : ℕ} → now.swept ≡ wiping a i p w → p / 64 < page_groups z
+  group_in_sweep {p = p} e = page_group z p (page_in_sweep e)
+
+-- what an open pass knows of an arena: its slot and its owner are the pool's
+module _ {z : Shape} {now : View} {home : List ℕ} {c : Caller} {i : Option ArenaId} {part : Part} {count : ℕ} {me : Me (Unit {0}) View} (a : ArenaId) where
+  pub known_slot : homed home me.0 ≡ now → now.shape ≡ z → Keeps c i part count me → IsKnown now a → a.slot < z.slots
+  known_slot is of k known = (fits (sees is of k) a known).slot
+
+  pub known_owner : homed home me.0 ≡ now → now.shape ≡ z → Keeps c i part count me → IsKnown now a → a.owner < 4096
+  known_owner is of k known = owner_below (sees is of k) a known
 
 -- what it may draw is the same in every pool
 pub can_draw_in : {z : Shape} {now : View} {home : List ℕ} {v : View} {e : ℕ} → Sees z now home v → CanDraw now e → CanDraw v e

@@ -38,13 +38,13 @@ use Rattle.fm_rule_steps.proofs.Claiming.{claim_steps, give_page_steps}
 use Rattle.fm_rule_steps.proofs.Mapping.{map_steps, read_map_steps}
 use Rattle.fm_rule_steps.proofs.Retiring.{retire_steps}
 use Rattle.fm_rule_steps.proofs.Giving.{give_steps}
-use Rattle.fm_rule_facts.proofs.Groups.{page_group, group_of_page}
+use Rattle.fm_rule_facts.proofs.Groups.{group_of_page}
 use Rattle.atomic_table.specs.declared.shared.Seat.{Seat}
 use Rattle.fm_rule.specs.declared.pool.Pool.{Pool}
 use Rattle.fm_rule.specs.declared.seen.Seen.{Seen}
 use Rattle.fm_rule.specs.Acts.{CanAct, CanStore}
 use Rattle.fm_rule.specs.Views.{numbers_of}
-use Rattle.fm_rule.proofs.Knowing.{IsOpen, Sees, WordPlace, place_below, group_low, group_of_low, at_number, inner, in_shape, shape_is, knows, fits, number_below, slot_in_hand, swept_fits, swept_over, inside_slot, word_place, page_in_hand, page_in_sweep, can_draw_in}
+use Rattle.fm_rule.proofs.Knowing.{IsOpen, Sees, WordPlace, place_below, group_low, group_of_low, at_number, inner, in_shape, shape_is, knows, fits, number_below, slot_in_hand, swept_fits, swept_over, inside_slot, word_place, page_in_sweep, group_in_hand, group_in_sweep, can_draw_in}
 use Rattle.fm_rule_steps.proofs.TakingNumbers.{take_number_steps}
 
 module _ {pool : Pool} {now : View} {seat : Seat (Unit {0}) Seen} (k : IsOpen pool now seat) where
@@ -226,7 +226,7 @@ module _ {pool : Pool} {now : View} {seat : Seat (Unit {0}) Seen} (k : IsOpen po
     pub can_give_page : {q n : ℕ} → now.pages ≡ q ∷ [] → i ≡ at z (page_bits (q / 64)) → n ≡ 2 ^ (q % 64)
         → CanAct pool seat i (GivesPage q) (λ w. bit_or w n)
     can_give_page {q = q} h p e =
-        raised (page_bits (q / 64)) p (page_group z q (page_in_hand s h)) e
+        raised (page_bits (q / 64)) p (group_in_hand s h) e
         (give_page_steps z seat.id v q k.live (inner s (λ (x : View). x.pages ≡ q ∷ []) h))
 
     pub can_give : {n w : ℕ} → now.hand ≡ retired n → i ≡ at z slot_bits → w ≡ 2 ^ n → CanAct pool seat i (GivesSlot n) (λ x. bit_or x w)
@@ -260,7 +260,7 @@ module _ {pool : Pool} {now : View} {seat : Seat (Unit {0}) Seen} (k : IsOpen po
     pub can_return_page : {i q w bits : ℕ} → n < z.reach → now.swept ≡ wiping a n q w → AreAllGiven now a n w → i ≡ at z (page_bits (q / 64))
         → bits ≡ 2 ^ (q % 64) → CanAct pool seat i (ReturnsPage a q) (λ w. bit_or w bits)
     can_return_page {q = q} {w = w} h u g p e =
-        raised (page_bits (q / 64)) p (page_group z q (page_in_sweep s u)) e
+        raised (page_bits (q / 64)) p (group_in_sweep s u) e
         (return_steps z seat.id v a n k.live so_far q w h (inner s (λ (x : View). x.swept ≡ wiping a n q w) u)
         (inner s (λ (x : View). AreAllGiven x a n w) g) (swept_over s sweep))
 

@@ -28,18 +28,7 @@ some_words z n e = let t = two_words z in omega arith
 -- the look after a note was put to what a pass has met is a look of the pass
 met_gives : (v n w : View) (x : ℕ) → Tells Looks (met v n) x w → Gives v v [] none_noted w
 unfolding part entries noted
-met_gives v n w x t =
-    let g = t.gives in
-    record {
-      others = g.others;
-      is = g.is;
-      quiet = g.quiet;
-      apart = g.apart;
-      alone = g.alone;
-      met = λ x i. g.met x (inr i);
-      came = λ x i. g.came x (inr i);
-      sound = g.sound;
-    }
+met_gives v n w x t = let g = t.gives in search (g.met, g.came, inr)
 
 -- and it has seen what the note has
 pub meet_met : (v n u w : View) (x : ℕ) → u ≡ met v n → Tells Looks u x w → (more : List Entry) × (w.seen ≡ n.seen ++ more)

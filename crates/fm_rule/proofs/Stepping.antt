@@ -1,53 +1,35 @@
 -- What each step tells is that the pass stepped.
-use Rattle.std.proofs.Common.{◌≡◌, ℕ, ap, List, Option, Some, None, refl, sym, subst}
+use Rattle.std.proofs.Common.{◌≡◌, ℕ, ap, List, Option, sym, subst}
 use Rattle.atomic_table.specs.declared.shared.Seat.{Seat}
 use Rattle.fm_base.specs.declared.arena_id.ArenaId.{ArenaId}
 use Rattle.fm_base.specs.declared.caller.Caller.{Caller}
-use Rattle.fm_base.specs.Calls.{Entry}
-use Rattle.fm_base.specs.Finds.{Find}
 use Rattle.fm_rule_facts.specs.declared.step.Step.{Step}
-use Rattle.fm_rule_facts.specs.declared.step.Step.TheVariants.{Draws}
 use Rattle.fm_rule_facts.specs.Views.{View}
-use Rattle.fm_rule_facts.specs.Hands.{Number, number_after, drawn_by}
-use Rattle.fm_rule_facts.specs.Steps.{Stepped, draws, part, entries, noted}
+use Rattle.fm_rule_facts.specs.Steps.{Stepped, part, entries, noted}
 use Rattle.fm_rule_facts.specs.Moves.{LearnsCount, LearnsSlots, LearnsMap}
 use Rattle.fm_rule.specs.declared.pass.Part.{Part}
 use Rattle.fm_rule.specs.declared.seen.Seen.{Seen}
 use Rattle.fm_rule.specs.Acts.{Acted}
 use Rattle.fm_rule.specs.Views.{homed, numbers_of, Keeps}
-use Rattle.fm_rule.proofs.Allowed.{leaves, stepped}
-
--- what a step makes of a view: the view after, the entries, and what is noted
-abbrev pub Outcome : Type 0
-Outcome = View × List Entry × (ℕ → List Find)
-
-abbrev pub outcome : Step → View → ℕ → Outcome
-outcome s v x = (part s v x, entries s v x, noted s v x)
-
--- it is the same in every pool
-abbrev pub IsSteady : Step → List ℕ → View → ℕ → Type 0
-IsSteady s home v x = (homed home (part s v x), entries s v x, noted s v x) ≡ outcome s (homed home v) x
-
-homed_draws : (o : Option Caller) (k : Number) (e x : ℕ) (home : List ℕ) (v : View) → homed home (draws o k e x v) ≡ draws o k e x (homed home v)
-homed_draws None k e x home v = refl
-homed_draws (Some n) k e x home v = refl
-
-pub draws_steady : (e : ℕ) (home : List ℕ) (v : View) (x : ℕ) → IsSteady (Draws e) home v x
-unfolding part entries noted
-draws_steady e home v x = λ j. (homed_draws (drawn_by v.number e x) (number_after v.number e x) e x home v j, entries (Draws e) v x, noted (Draws e) v x)
+use Rattle.fm_rule.proofs.Allowed.{Outcome, leaves, stepped}
+use Rattle.fm_rule.proofs.Keeping.{step_keeps}
+use Rattle.fm_rule.proofs.Knowing.{known_slot, known_owner}
 
 module _ {now : View} {c : Caller} {i : Option ArenaId} {part' : Part} {count : ℕ} {old : Seat (Unit {0}) Seen} where
   -- the step of the views in the table is one of the views that contracts see
-  pub step_stepped : {new : Seat (Unit {0}) Seen} (s : Step) {x : ℕ} → homed (numbers_of old.table_id) old.me.0 ≡ now → Keeps c i part' count old.me
-      → Acted old new s x → IsSteady s (numbers_of old.table_id) old.me.0 x
-      → Stepped now (homed (numbers_of new.table_id) new.me.0) (part s now x) (entries s now x) (noted s now x)
-  step_stepped {new = new} s {x = x} is k a steady =
+  pub step_stepped : {new : Seat (Unit {0}) Seen} {s : Step} {x : ℕ} → homed (numbers_of old.table_id) old.me.0 ≡ now → Keeps c i part' count old.me
+      → Acted old new s x → Stepped now (homed (numbers_of new.table_id) new.me.0) (part s now x) (entries s now x) (noted s now x)
+  step_stepped {new = new} {s = s} {x = x} is k a =
       let v = old.me.0 in
       let home = numbers_of old.table_id in
-      let made = stepped home v (part s v x) new.me.0 (entries s v x) (noted s v x) (leaves s v x).same k.met a.tells.gives in
+      let l = leaves s v x in
+      let made = stepped home v (part s v x) new.me.0 (entries s v x) (noted s v x) l.same k.met a.tells.gives in
       subst (λ (y : View × List ℕ). Stepped y.0 (homed y.1 new.me.0) (part s y.0 x) (entries s y.0 x) (noted s y.0 x))
       (λ j. (is j, sym (ap numbers_of a.table) j))
-      (subst (λ (y : Outcome). Stepped (homed home v) (homed home new.me.0) y.0 y.1 y.2) steady made)
+      (subst (λ (y : Outcome). Stepped (homed home v) (homed home new.me.0) y.0 y.1 y.2) (l.holds home) made)
+
+-- what the steps' own goals rest on
+pub ruleset step_rules = (step_keeps, known_slot, known_owner)
 
 -- what is learnt is true of the view that contracts see
 module _ {now v : View} {home : List ℕ} (is : homed home v ≡ now) {x : ℕ} where

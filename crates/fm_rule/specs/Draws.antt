@@ -100,6 +100,10 @@ pub record Counts (old new : View) (c : Caller) : Type 0 where
   pub whole : new.whole ≡ false
   pub sound : IsSound new
 
+-- the pass of the caller that is cut from the giver: it has seen what the giver has, and has nothing
+abbrev pub cut_from : View → Caller → View
+cut_from giver caller = record (view_of giver.shape true giver.seen) { home = giver.home; caller = caller }
+
 -- of `draw`, where it answers the pass d
 pub record Drawn (old new d : View) : Type 0 where
   pub caller : Caller
@@ -109,8 +113,7 @@ pub record Drawn (old new d : View) : Type 0 where
   pub drew : Drew caller finds
   pub fresh : IsNew new caller
   pub whole : new.whole ≡ false
-  -- the new pass has seen what the giver has, and has nothing
-  pub is : d ≡ record (view_of new.shape true new.seen) { home = new.home; caller = caller }
+  pub is : d ≡ cut_from new caller
   pub giver_sound : IsSound new
   pub sound : IsSound d
 

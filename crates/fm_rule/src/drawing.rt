@@ -4,9 +4,8 @@ ghost use Rattle.fm_rule_facts.specs.Steps as steps;
 ghost use Rattle.fm_rule_facts.specs.Steps.{CanDraw, Stepped, draws, note_draw};
 ghost use Rattle.fm_rule_facts.specs.Hands.{drawn_by, number_after, number_drawn, number_learnt, no_number};
 ghost use Rattle.fm_base.specs.declared.refusal.Refusal.TheVariants.{NoPass};
-ghost use Rattle.fm_rule.specs.Draws.{Drawn, NoneDrawn, Takes, Tried, FoundIn, Counts};
+ghost use Rattle.fm_rule.specs.Draws.{cut_from, Drawn, NoneDrawn, Takes, Tried, FoundIn, Counts};
 ghost use Rattle.fm_rule_facts.specs.Moves.{LearnsCount};
-ghost use Rattle.fm_rule_facts.specs.Splits.{view_of};
 ghost use Rattle.fm_rule_facts.specs.Views.{IsSound};
 ghost use Rattle.fm_rule.specs.Passes.{IsOf};
 
@@ -25,6 +24,7 @@ use std::sync::Wait;
 /// Answers how many draws were made. Where they are as many as expected, and one more can be counted, the pass has the next
 /// caller of its number in its hand from this step on. Without a number in its hand it only looks, and expects 0, since
 /// every pool has made a draw; a pass that has as many callers as draws were found is known to be whole then.
+#[tactic(auto, using(crate::proofs::Stepping::step_rules), unfolding(fm_rule_facts::specs::Steps::part))]
 pub fn step_draw(pool: &Pool, pass: &mut Pass, expected: u64) -> u64
     requires of { IsOf pool.now pass.old }
     requires can { CanDraw pass.old expected }
@@ -187,7 +187,7 @@ impl Pool {
         requires drawn { giver.old.number ≡ number_drawn caller }
         requires drew { giver.old.whole ≡ false }
         ensures giver { giver.new ≡ record giver.old { number = no_number } }
-        ensures pass { result ≡ record (view_of giver.old.shape true giver.old.seen) { home = giver.old.home; caller = caller } }
+        ensures pass { result ≡ cut_from giver.old caller }
         ensures sound { IsSound result }
     {
         let seat = self.table.shared.split_seat::<SplitOff>(&mut giver.seat);

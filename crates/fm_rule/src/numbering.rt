@@ -1,4 +1,6 @@
 //! Numbers are taken by their bit, and given back with their next term.
+#![tactic(auto, using(crate::proofs::Stepping::step_rules), unfolding(fm_rule_facts::specs::Steps::part))]
+
 ghost use Rattle.std.specs.Prelude.{◌≡◌, ◌<◌, ◌≤◌, []};
 ghost use Rattle.fm_base.specs.Finds.{TakesNumber as Taking};
 ghost use Rattle.fm_rule_facts.specs.Hands.{no_number, number_taken, number_learnt, number_left, number_joined, number_taken_by, takes, last_term};
@@ -28,14 +30,8 @@ pub fn step_take_number(pool: &Pool, pass: &mut Pass, group: u32, expected: u64,
     let seat = &mut pass.seat;
     let place = pool.shape.number_bits_place(group);
     let next = without_bit(expected, bit);
-    exchange_as::<Brand>(
-        pool,
-        seat,
-        place,
-        expected,
-        next,
-        Step::TakesNumber(group, expected, bit),
-    )
+    let step = Step::TakesNumber(group, expected, bit);
+    exchange_as::<Brand>(pool, seat, place, expected, next, step)
 }
 
 /// Answers the term of the number that the pass took.
@@ -43,7 +39,8 @@ pub fn step_learn_term(pool: &Pool, pass: &mut Pass, number: u32) -> u64
     requires of { IsOf pool.now pass.old }
     requires taken { pass.old.number ≡ number_taken number }
     requires fits { number < pool.now.shape.passes }
-    ensures stepped { Stepped pass.old pass.new (record pass.old { number = number_learnt number result }) [] none_noted }
+    ensures stepped { Stepped pass.old pass.new
+        (record pass.old { number = number_learnt number result }) [] none_noted }
     ensures term { result ≤ last_term }
 {
     let seat = &mut pass.seat;

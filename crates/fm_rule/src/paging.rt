@@ -1,4 +1,6 @@
 //! The steps by which a pass gets pages for an arena, and finds them.
+#![tactic(auto, using(crate::proofs::Stepping::step_rules), unfolding(fm_rule_facts::specs::Steps::part))]
+
 ghost use Rattle.std.specs.Prelude.{◌≡◌, ◌<◌, ◌≤◌, ◌==◌, [], ◌∷◌, Some};
 ghost use Rattle.fm_base.specs.Calls as machine;
 ghost use Rattle.fm_base.specs.Calls.{entry_of};

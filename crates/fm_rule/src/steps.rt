@@ -1,4 +1,6 @@
 //! The steps of a pass, one function for each kind. None of them takes memory or waits.
+#![tactic(auto, using(crate::proofs::Stepping::step_rules), unfolding(fm_rule_facts::specs::Steps::part))]
+
 ghost use Rattle.std.specs.Prelude.{◌≡◌, ◌≢◌, ◌<◌, [], ◌∷◌, None, Some};
 ghost use Rattle.fm_base.specs.Arenas.{MayUse};
 ghost use Rattle.fm_base.specs.Calls as machine;
@@ -139,7 +141,8 @@ pub fn step_open(pool: &Pool, pass: &mut Pass, slot: Slot, kind: Kind) -> ArenaI
       owner = pass.old.caller.number;
       term = pass.old.caller.term;
     } }
-    ensures stepped { Stepped pass.old pass.new (record pass.old { hand = nothing; handles = handles_with result pass.old.handles })
+    ensures stepped { Stepped pass.old pass.new
+        (record pass.old { hand = nothing; handles = handles_with result pass.old.handles })
         (entry_of pass.old.caller (machine.Open result) machine.Fine ∷ []) none_noted }
 {
     let a = ArenaId {

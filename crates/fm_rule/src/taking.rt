@@ -1,3 +1,5 @@
+#![tactic(auto, using(crate::proofs::Stepping::step_rules), unfolding(fm_rule_facts::specs::Steps::part))]
+
 ghost use Rattle.std.specs.Prelude.{◌≡◌, ◌<◌, ◌/◌, ◌^◌, []};
 ghost use Rattle.fm_base.specs.Finds.{TakesSlot as Taking};
 ghost use Rattle.fm_rule_facts.specs.Hands.{nothing, taken, learnt, takes, hand_taken};
@@ -18,21 +20,16 @@ pub fn step_take_slot(pool: &Pool, pass: &mut Pass, expected: u64, bit: u32) -> 
     requires of { IsOf pool.now pass.old }
     requires none { pass.old.hand ≡ nothing }
     requires low { bit < pool.now.shape.slots }
-    ensures stepped { Stepped pass.old pass.new (record pass.old { hand = hand_taken (takes expected bit result) bit pass.old.hand }) []
+    ensures stepped { Stepped pass.old pass.new
+        (record pass.old { hand = hand_taken (takes expected bit result) bit pass.old.hand }) []
         (note_of (Taking expected bit) result pass.old) }
     ensures slots { LearnsSlots pass.old result }
 {
     let seat = &mut pass.seat;
     let place = pool.shape.slot_bits_place();
     let next = without_bit(expected, bit);
-    exchange_as::<Brand>(
-        pool,
-        seat,
-        place,
-        expected,
-        next,
-        Step::TakesSlot(expected, bit),
-    )
+    let step = Step::TakesSlot(expected, bit);
+    exchange_as::<Brand>(pool, seat, place, expected, next, step)
 }
 
 /// Answers the session word of the slot that the pass took. The next arena of the slot has the generation in its high

@@ -1,9 +1,6 @@
-use Rattle.std.proofs.Common.{refl}
-use Rattle.fm_rule_facts.specs.declared.step.Step.TheVariants.{GivesNumber}
 use Rattle.fm_rule_facts.specs.Steps.{part, entries, noted}
 use Rattle.fm_rule.proofs.Knowing.{opened, fits}
 use Rattle.fm_rule.proofs.Making.{can_give_number}
-use Rattle.fm_rule.proofs.Keeping.{step_keeps}
 use Rattle.fm_rule.proofs.Stepping.{step_stepped}
 use Rattle.fm_rule.proofs.numbering.step_give_number.Goals as goal
 
@@ -12,9 +9,6 @@ or_as-requires-clause-can c =
     can_give_number (opened c.pass.view_is c.requires.of c.pass.invariant)
     c.requires.left c.requires.fits c.number_bits_place-place.ensures c.bit-one.ensures
 
-pub invariant_of-pass : goal.invariant_of-pass
-invariant_of-pass c = step_keeps c.pass.invariant c.or_as.ensures tt
-
 pub returns : goal.returns
 unfolding part entries noted
-returns c = step_stepped (GivesNumber c.args.number) c.pass.view_is c.pass.invariant c.or_as.ensures refl
+returns c = step_stepped c.pass.view_is c.pass.invariant c.or_as.ensures

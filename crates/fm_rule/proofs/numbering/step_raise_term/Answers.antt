@@ -1,9 +1,7 @@
-use Rattle.std.proofs.Common.{ap, refl, ℕ, ◌+◌}
-use Rattle.fm_rule_facts.specs.declared.step.Step.TheVariants.{RaisesTerm}
+use Rattle.std.proofs.Common.{ap, ℕ, ◌+◌}
 use Rattle.fm_rule_facts.specs.Steps.{part, entries, noted}
 use Rattle.fm_rule.proofs.Knowing.{opened, fits}
 use Rattle.fm_rule.proofs.Making.{can_raise_term}
-use Rattle.fm_rule.proofs.Keeping.{step_keeps}
 use Rattle.fm_rule.proofs.Stepping.{step_stepped}
 use Rattle.fm_rule.proofs.numbering.step_raise_term.Goals as goal
 
@@ -12,9 +10,6 @@ store_as-requires-clause-can c =
     can_raise_term (opened c.pass.view_is c.requires.of c.pass.invariant)
     c.requires.joined c.requires.fits c.term_place-place.ensures (ap (λ (n : ℕ). n + 1) c.from-next.ensures)
 
-pub invariant_of-pass : goal.invariant_of-pass
-invariant_of-pass c = step_keeps c.pass.invariant c.store_as.ensures tt
-
 pub returns : goal.returns
 unfolding part entries noted
-returns c = step_stepped (RaisesTerm c.args.caller.number) c.pass.view_is c.pass.invariant c.store_as.ensures refl
+returns c = step_stepped c.pass.view_is c.pass.invariant c.store_as.ensures

@@ -1,9 +1,6 @@
-use Rattle.std.proofs.Common.{refl}
-use Rattle.fm_rule_facts.specs.declared.step.Step.TheVariants.{TakesNumber}
 use Rattle.fm_rule_facts.specs.Steps.{part, entries, noted}
 use Rattle.fm_rule.proofs.Knowing.{opened, fits, group_of_low}
 use Rattle.fm_rule.proofs.Making.{can_take_number}
-use Rattle.fm_rule.proofs.Keeping.{step_keeps}
 use Rattle.fm_rule.proofs.Stepping.{step_stepped}
 use Rattle.fm_rule.proofs.numbering.step_take_number.Goals as goal
 
@@ -15,9 +12,6 @@ exchange_as-requires-clause-can c =
     can_take_number (opened c.pass.view_is c.requires.of c.pass.invariant)
     c.requires.none c.requires.few c.requires.fits c.without_bit-next.ensures c.number_bits_place-place.ensures
 
-pub invariant_of-pass : goal.invariant_of-pass
-invariant_of-pass c = step_keeps c.pass.invariant c.exchange_as.ensures tt
-
 pub returns : goal.returns
 unfolding part entries noted
-returns c = step_stepped (TakesNumber c.args.group c.args.expected c.args.bit) c.pass.view_is c.pass.invariant c.exchange_as.ensures refl
+returns c = step_stepped c.pass.view_is c.pass.invariant c.exchange_as.ensures

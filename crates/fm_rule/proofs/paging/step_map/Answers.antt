@@ -1,15 +1,10 @@
-use Rattle.std.proofs.Common.{refl, subst, arith, ◌≤◌}
+use Rattle.std.proofs.Common.{subst, arith, ◌≤◌}
 use Rattle.fm_rule_facts.specs.Views.{View}
-use Rattle.fm_rule_facts.specs.declared.step.Step.TheVariants.{Maps}
 use Rattle.fm_rule_facts.specs.Steps.{part, entries, noted}
 use Rattle.fm_rule.proofs.Knowing.{opened, sees, inside_slot, page_in_hand, valid}
 use Rattle.fm_rule.proofs.Making.{can_map}
-use Rattle.fm_rule.proofs.Keeping.{step_keeps}
 use Rattle.fm_rule.proofs.Stepping.{step_stepped}
 use Rattle.fm_rule.proofs.paging.step_map.Goals as goal
-
-pub map_place-place-requires-clause-valid : goal.map_place-place-requires-clause-valid
-map_place-place-requires-clause-valid c = valid (sees c.pass.view_is c.requires.of.1 c.pass.invariant)
 
 pub map_place-place-requires-clause-place : goal.map_place-place-requires-clause-place
 map_place-place-requires-clause-place c = (inside_slot (sees c.pass.view_is c.requires.of.1 c.pass.invariant) c.requires.inside, c.requires.low)
@@ -25,12 +20,9 @@ exchange_as-requires-clause-can c =
     can_map (opened c.pass.view_is c.requires.of c.pass.invariant)
     c.requires.inside c.requires.low c.requires.page c.map_place-place.ensures c.map_word-new.ensures.word
 
-pub invariant_of-pass : goal.invariant_of-pass
-invariant_of-pass c = step_keeps c.pass.invariant c.exchange_as.ensures tt
-
 pub returns-clause-stepped : goal.returns-clause-stepped
 unfolding part entries noted
-returns-clause-stepped c = step_stepped (Maps c.args.id c.args.index c.args.page) c.pass.view_is c.pass.invariant c.exchange_as.ensures refl
+returns-clause-stepped c = step_stepped c.pass.view_is c.pass.invariant c.exchange_as.ensures
 
 pub returns-clause-low : goal.returns-clause-low
 returns-clause-low c = subst (λ (x : View). c.exchange_as.result ≤ x.shape.pages) c.pass.view_is c.exchange_as.ensures.tells.learns

@@ -1,15 +1,11 @@
-use Rattle.std.proofs.Common.{ap, refl, arith}
+use Rattle.std.proofs.Common.{ap, arith}
 use Rattle.fm_words.specs.declared.shape.Shape.{Shape}
-use Rattle.fm_rule_facts.specs.declared.step.Step.TheVariants.{ReadsMap}
 use Rattle.fm_rule_facts.specs.Steps.{part, entries, noted}
-use Rattle.fm_rule.proofs.Knowing.{opened, sees, inside_slot, valid, shape_is}
+use Rattle.fm_rule.proofs.Knowing.{opened, sees, inside_slot, shape_is}
 use Rattle.fm_rule.proofs.Making.{can_read_map}
 use Rattle.fm_rule.proofs.Keeping.{read_map_keeps}
 use Rattle.fm_rule.proofs.Stepping.{step_stepped, map_learnt}
 use Rattle.fm_rule.proofs.paging.step_read_map.Goals as goal
-
-pub map_place-place-requires-clause-valid : goal.map_place-place-requires-clause-valid
-map_place-place-requires-clause-valid c = valid (sees c.pass.view_is c.requires.of.1 c.pass.invariant)
 
 pub map_place-place-requires-clause-place : goal.map_place-place-requires-clause-place
 map_place-place-requires-clause-place c = (inside_slot (sees c.pass.view_is c.requires.of.1 c.pass.invariant) c.requires.inside, c.requires.low)
@@ -25,7 +21,7 @@ invariant_of-pass c = read_map_keeps c.pass.invariant _ _ c.load_as-word.ensures
 
 pub returns-clause-stepped : goal.returns-clause-stepped
 unfolding part entries noted
-returns-clause-stepped c = step_stepped (ReadsMap c.args.id c.args.index) c.pass.view_is c.pass.invariant c.load_as-word.ensures refl
+returns-clause-stepped c = step_stepped c.pass.view_is c.pass.invariant c.load_as-word.ensures
 
 pub part_of-pass-inside-requires : goal.part_of-pass-inside-requires
 part_of-pass-inside-requires c =

@@ -1,10 +1,7 @@
-use Rattle.std.proofs.Common.{refl}
 use Rattle.fm_rule_facts.proofs.Groups.{group_of_page}
-use Rattle.fm_rule_facts.specs.declared.step.Step.TheVariants.{Claims}
 use Rattle.fm_rule_facts.specs.Steps.{part, entries, noted}
 use Rattle.fm_rule.proofs.Knowing.{opened, fits}
 use Rattle.fm_rule.proofs.Making.{can_take_page}
-use Rattle.fm_rule.proofs.Keeping.{step_keeps}
 use Rattle.fm_rule.proofs.Stepping.{step_stepped}
 use Rattle.fm_rule.proofs.paging.step_take_page.Goals as goal
 
@@ -16,9 +13,6 @@ exchange_as-requires-clause-can c =
     can_take_page (opened c.pass.view_is c.requires.of c.pass.invariant)
     c.requires.none c.requires.few c.requires.fits c.without_bit-next.ensures c.page_bits_place-place.ensures
 
-pub invariant_of-pass : goal.invariant_of-pass
-invariant_of-pass c = step_keeps c.pass.invariant c.exchange_as.ensures tt
-
 pub returns : goal.returns
 unfolding part entries noted
-returns c = step_stepped (Claims c.args.group c.args.expected c.args.bit) c.pass.view_is c.pass.invariant c.exchange_as.ensures refl
+returns c = step_stepped c.pass.view_is c.pass.invariant c.exchange_as.ensures

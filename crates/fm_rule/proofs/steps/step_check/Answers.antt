@@ -1,14 +1,9 @@
-use Rattle.std.proofs.Common.{refl}
-use Rattle.fm_rule_facts.specs.declared.step.Step.TheVariants.{Checks}
 use Rattle.fm_rule_facts.specs.Steps.{part, entries, noted}
-use Rattle.fm_rule.proofs.Knowing.{opened, sees, fits}
+use Rattle.fm_rule.proofs.Knowing.{opened}
 use Rattle.fm_rule.proofs.Making.{can_check}
 use Rattle.fm_rule.proofs.Keeping.{check_keeps}
 use Rattle.fm_rule.proofs.Stepping.{step_stepped}
 use Rattle.fm_rule.proofs.steps.step_check.Goals as goal
-
-pub session_place-place-requires : goal.session_place-place-requires
-session_place-place-requires c = (fits (sees c.pass.view_is c.requires.of.1 c.pass.invariant) c.args.id c.requires.known).slot
 
 pub load_as-word-requires-clause-can : goal.load_as-word-requires-clause-can
 load_as-word-requires-clause-can c =
@@ -20,4 +15,4 @@ invariant_of-pass c = check_keeps c.pass.invariant c.load_as-word.ensures c.is_a
 
 pub returns : goal.returns
 unfolding part entries noted
-returns c = step_stepped (Checks c.args.id) c.pass.view_is c.pass.invariant c.load_as-word.ensures refl
+returns c = step_stepped c.pass.view_is c.pass.invariant c.load_as-word.ensures

@@ -1,18 +1,12 @@
-use Rattle.std.proofs.Common.{refl}
-use Rattle.fm_rule_facts.specs.declared.step.Step.TheVariants.{Loads}
 use Rattle.fm_rule_facts.specs.Steps.{part, entries, noted}
 use Rattle.fm_rule.proofs.Knowing.{opened}
 use Rattle.fm_rule.proofs.Making.{can_load}
-use Rattle.fm_rule.proofs.Keeping.{step_keeps}
 use Rattle.fm_rule.proofs.Stepping.{step_stepped}
 use Rattle.fm_rule.proofs.steps.step_load.Goals as goal
 
 pub load_as-requires-clause-can : goal.load_as-requires-clause-can
 load_as-requires-clause-can c = can_load (opened c.pass.view_is c.requires.of c.pass.invariant) c.requires.act c.requires.place
 
-pub invariant_of-pass : goal.invariant_of-pass
-invariant_of-pass c = step_keeps c.pass.invariant c.load_as.ensures tt
-
 pub returns : goal.returns
 unfolding part entries noted
-returns c = step_stepped (Loads c.args.word) c.pass.view_is c.pass.invariant c.load_as.ensures refl
+returns c = step_stepped c.pass.view_is c.pass.invariant c.load_as.ensures

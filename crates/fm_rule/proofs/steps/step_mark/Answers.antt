@@ -1,9 +1,6 @@
-use Rattle.std.proofs.Common.{refl}
-use Rattle.fm_rule_facts.specs.declared.step.Step.TheVariants.{Marks}
 use Rattle.fm_rule_facts.specs.Steps.{part, entries, noted}
 use Rattle.fm_rule.proofs.Knowing.{opened}
 use Rattle.fm_rule.proofs.Making.{can_mark}
-use Rattle.fm_rule.proofs.Keeping.{step_keeps}
 use Rattle.fm_rule.proofs.Stepping.{step_stepped}
 use Rattle.fm_rule.proofs.steps.step_mark.Goals as goal
 
@@ -12,9 +9,6 @@ store_as-requires-clause-can c =
     can_mark (opened c.pass.view_is c.requires.of c.pass.invariant)
     c.requires.outside c.pass.invariant.caller c.mark_place-place.ensures c.mark_of.ensures
 
-pub invariant_of-pass : goal.invariant_of-pass
-invariant_of-pass c = step_keeps c.pass.invariant c.store_as.ensures tt
-
 pub returns : goal.returns
 unfolding part entries noted
-returns c = step_stepped (Marks c.args.id) c.pass.view_is c.pass.invariant c.store_as.ensures refl
+returns c = step_stepped c.pass.view_is c.pass.invariant c.store_as.ensures

@@ -3,7 +3,6 @@ use Rattle.fm_base.specs.declared.caller.Caller.{Caller}
 use Rattle.fm_rule_facts.specs.Steps.{part, entries, noted}
 use Rattle.fm_rule.proofs.Knowing.{opened, sees, slot_in_hand, valid, number_below}
 use Rattle.fm_rule.proofs.Making.{can_open}
-use Rattle.fm_rule.proofs.Keeping.{step_keeps}
 use Rattle.fm_rule.proofs.Stepping.{step_stepped}
 use Rattle.fm_rule.proofs.steps.step_open.Goals as goal
 
@@ -22,9 +21,6 @@ store_as-requires-clause-can c =
     can_open (opened c.pass.view_is c.requires.of c.pass.invariant)
     c.requires.hand c.pass.invariant.caller c.session_place-place.ensures c.alive_word.ensures
 
-pub invariant_of-pass : goal.invariant_of-pass
-invariant_of-pass c = step_keeps c.pass.invariant c.store_as.ensures tt
-
 pub returns-clause-stepped : goal.returns-clause-stepped
 unfolding part entries noted
-returns-clause-stepped c = step_stepped _ c.pass.view_is c.pass.invariant c.store_as.ensures refl
+returns-clause-stepped c = step_stepped c.pass.view_is c.pass.invariant c.store_as.ensures

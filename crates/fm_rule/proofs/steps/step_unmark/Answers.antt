@@ -1,5 +1,3 @@
-use Rattle.std.proofs.Common.{refl}
-use Rattle.fm_rule_facts.specs.declared.step.Step.TheVariants.{Unmarks}
 use Rattle.fm_rule_facts.specs.Steps.{part, entries, noted}
 use Rattle.fm_rule.proofs.Knowing.{opened}
 use Rattle.fm_rule.proofs.Making.{can_unmark}
@@ -15,4 +13,4 @@ invariant_of-pass c = unmark_keeps c.pass.invariant c.store_as.ensures
 
 pub returns : goal.returns
 unfolding part entries noted
-returns c = step_stepped Unmarks c.pass.view_is c.pass.invariant c.store_as.ensures refl
+returns c = step_stepped c.pass.view_is c.pass.invariant c.store_as.ensures

@@ -1,9 +1,7 @@
 use Rattle.std.proofs.Common.{refl, arith}
-use Rattle.fm_rule_facts.specs.declared.step.Step.TheVariants.{GivesSlot}
 use Rattle.fm_rule_facts.specs.Steps.{part, entries, noted}
 use Rattle.fm_rule.proofs.Knowing.{opened, sees, slot_in_hand, valid}
 use Rattle.fm_rule.proofs.Making.{can_give}
-use Rattle.fm_rule.proofs.Keeping.{step_keeps}
 use Rattle.fm_rule.proofs.Stepping.{step_stepped}
 use Rattle.fm_rule.proofs.sweeping.step_give_slot.Goals as goal
 
@@ -18,9 +16,6 @@ or_as-requires-clause-can c =
     can_give (opened c.pass.view_is c.requires.of c.pass.invariant)
     c.requires.retired c.slot_bits_place-place.ensures c.bit-bits.ensures
 
-pub invariant_of-pass : goal.invariant_of-pass
-invariant_of-pass c = step_keeps c.pass.invariant c.or_as.ensures tt
-
 pub returns : goal.returns
 unfolding part entries noted
-returns c = step_stepped (GivesSlot c.args.slot) c.pass.view_is c.pass.invariant c.or_as.ensures refl
+returns c = step_stepped c.pass.view_is c.pass.invariant c.or_as.ensures

@@ -1,9 +1,7 @@
 use Rattle.std.proofs.Common.{refl}
-use Rattle.fm_rule_facts.specs.declared.step.Step.TheVariants.{ResetsGiven}
 use Rattle.fm_rule_facts.specs.Steps.{part, entries, noted}
 use Rattle.fm_rule.proofs.Knowing.{opened, sees, swept_fits}
 use Rattle.fm_rule.proofs.Making.{can_reset}
-use Rattle.fm_rule.proofs.Keeping.{step_keeps}
 use Rattle.fm_rule.proofs.Stepping.{step_stepped}
 use Rattle.fm_rule.proofs.sweeping.step_reset_given.Goals as goal
 
@@ -15,9 +13,6 @@ store_as-requires-clause-can c =
     can_reset (opened c.pass.view_is c.requires.of c.pass.invariant)
     c.args.id c.requires.sweep refl c.requires.idle c.given_place-place.ensures
 
-pub invariant_of-pass : goal.invariant_of-pass
-invariant_of-pass c = step_keeps c.pass.invariant c.store_as.ensures tt
-
 pub returns : goal.returns
 unfolding part entries noted
-returns c = step_stepped (ResetsGiven c.args.id) c.pass.view_is c.pass.invariant c.store_as.ensures refl
+returns c = step_stepped c.pass.view_is c.pass.invariant c.store_as.ensures

@@ -1,9 +1,7 @@
 use Rattle.std.proofs.Common.{refl}
-use Rattle.fm_rule_facts.specs.declared.step.Step.TheVariants.{Retires}
 use Rattle.fm_rule_facts.specs.Steps.{part, entries, noted}
 use Rattle.fm_rule.proofs.Knowing.{opened, sees, swept_fits}
 use Rattle.fm_rule.proofs.Making.{can_retire}
-use Rattle.fm_rule.proofs.Keeping.{step_keeps}
 use Rattle.fm_rule.proofs.Stepping.{step_stepped}
 use Rattle.fm_rule.proofs.sweeping.step_retire.Goals as goal
 
@@ -18,9 +16,6 @@ store_as-requires-clause-can c =
     can_retire (opened c.pass.view_is c.requires.of c.pass.invariant)
     c.args.id c.requires.sweep refl c.requires.none c.requires.idle c.session_place-place.ensures c.retired_word-free.ensures
 
-pub invariant_of-pass : goal.invariant_of-pass
-invariant_of-pass c = step_keeps c.pass.invariant c.store_as.ensures tt
-
 pub returns : goal.returns
 unfolding part entries noted
-returns c = step_stepped (Retires c.args.id) c.pass.view_is c.pass.invariant c.store_as.ensures refl
+returns c = step_stepped c.pass.view_is c.pass.invariant c.store_as.ensures

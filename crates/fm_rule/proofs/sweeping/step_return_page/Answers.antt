@@ -1,25 +1,17 @@
-use Rattle.std.proofs.Common.{refl}
-use Rattle.fm_rule_facts.proofs.Groups.{page_group}
-use Rattle.fm_rule_facts.specs.declared.step.Step.TheVariants.{ReturnsPage}
 use Rattle.fm_rule_facts.specs.Steps.{part, entries, noted}
-use Rattle.fm_rule.proofs.Knowing.{opened, sees, page_in_sweep}
+use Rattle.fm_rule.proofs.Knowing.{opened, sees, group_in_sweep}
 use Rattle.fm_rule.proofs.Making.{can_return_page}
-use Rattle.fm_rule.proofs.Keeping.{step_keeps}
 use Rattle.fm_rule.proofs.Stepping.{step_stepped}
 use Rattle.fm_rule.proofs.sweeping.step_return_page.Goals as goal
 
 pub page_bits_place-place-requires-clause-place : goal.page_bits_place-place-requires-clause-place
-page_bits_place-place-requires-clause-place c =
-    page_group c.args.pool.now.shape c.args.page (page_in_sweep (sees c.pass.view_is c.requires.of.1 c.pass.invariant) c.requires.wiped)
+page_bits_place-place-requires-clause-place c = group_in_sweep (sees c.pass.view_is c.requires.of.1 c.pass.invariant) c.requires.wiped
 
 pub or_as-requires-clause-can : goal.or_as-requires-clause-can
 or_as-requires-clause-can c =
     can_return_page (opened c.pass.view_is c.requires.of c.pass.invariant)
     c.args.id c.requires.sweep c.requires.low c.requires.wiped c.requires.all c.page_bits_place-place.ensures c.bit-bits.ensures
 
-pub invariant_of-pass : goal.invariant_of-pass
-invariant_of-pass c = step_keeps c.pass.invariant c.or_as.ensures tt
-
 pub returns : goal.returns
 unfolding part entries noted
-returns c = step_stepped (ReturnsPage c.args.id c.args.page) c.pass.view_is c.pass.invariant c.or_as.ensures refl
+returns c = step_stepped c.pass.view_is c.pass.invariant c.or_as.ensures

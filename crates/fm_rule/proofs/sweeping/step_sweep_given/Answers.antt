@@ -1,9 +1,7 @@
 use Rattle.std.proofs.Common.{refl}
-use Rattle.fm_rule_facts.specs.declared.step.Step.TheVariants.{SweepsGiven}
 use Rattle.fm_rule_facts.specs.Steps.{part, entries, noted}
 use Rattle.fm_rule.proofs.Knowing.{opened, sees, swept_fits}
 use Rattle.fm_rule.proofs.Making.{can_sweep_given}
-use Rattle.fm_rule.proofs.Keeping.{step_keeps}
 use Rattle.fm_rule.proofs.Stepping.{step_stepped}
 use Rattle.fm_rule.proofs.sweeping.step_sweep_given.Goals as goal
 
@@ -15,12 +13,9 @@ load_as-requires-clause-can c =
     can_sweep_given (opened c.pass.view_is c.requires.of c.pass.invariant)
     c.args.id c.requires.sweep refl c.given_place-place.ensures
 
-pub invariant_of-pass : goal.invariant_of-pass
-invariant_of-pass c = step_keeps c.pass.invariant c.load_as.ensures tt
-
 pub returns-clause-stepped : goal.returns-clause-stepped
 unfolding part entries noted
-returns-clause-stepped c = step_stepped (SweepsGiven c.args.id) c.pass.view_is c.pass.invariant c.load_as.ensures refl
+returns-clause-stepped c = step_stepped c.pass.view_is c.pass.invariant c.load_as.ensures
 
 pub returns-clause-count : goal.returns-clause-count
 returns-clause-count c = c.load_as.ensures.tells.learns

@@ -1,14 +1,8 @@
-use Rattle.std.proofs.Common.{refl}
-use Rattle.fm_rule_facts.specs.declared.step.Step.TheVariants.{Wipes}
 use Rattle.fm_rule_facts.specs.Steps.{part, entries, noted}
-use Rattle.fm_rule.proofs.Knowing.{opened, sees, page_in_sweep, valid}
+use Rattle.fm_rule.proofs.Knowing.{opened, sees, page_in_sweep}
 use Rattle.fm_rule.proofs.Making.{can_wipe}
-use Rattle.fm_rule.proofs.Keeping.{step_keeps}
 use Rattle.fm_rule.proofs.Stepping.{step_stepped}
 use Rattle.fm_rule.proofs.sweeping.step_wipe.Goals as goal
-
-pub page_place-place-requires-clause-valid : goal.page_place-place-requires-clause-valid
-page_place-place-requires-clause-valid c = valid (sees c.pass.view_is c.requires.of.1 c.pass.invariant)
 
 pub page_place-place-requires-clause-place : goal.page_place-place-requires-clause-place
 page_place-place-requires-clause-place c = (page_in_sweep (sees c.pass.view_is c.requires.of.1 c.pass.invariant) c.requires.wiped, c.requires.word)
@@ -18,9 +12,6 @@ store_as-requires-clause-can c =
     can_wipe (opened c.pass.view_is c.requires.of c.pass.invariant)
     c.args.id c.requires.sweep c.requires.low c.requires.wiped c.requires.word c.page_place-place.ensures
 
-pub invariant_of-pass : goal.invariant_of-pass
-invariant_of-pass c = step_keeps c.pass.invariant c.store_as.ensures tt
-
 pub returns : goal.returns
 unfolding part entries noted
-returns c = step_stepped (Wipes c.args.id c.args.index c.args.page c.args.word) c.pass.view_is c.pass.invariant c.store_as.ensures refl
+returns c = step_stepped c.pass.view_is c.pass.invariant c.store_as.ensures

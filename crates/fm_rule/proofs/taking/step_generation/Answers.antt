@@ -1,9 +1,7 @@
 use Rattle.std.proofs.Common.{refl}
-use Rattle.fm_rule_facts.specs.declared.step.Step.TheVariants.{LearnsGeneration}
 use Rattle.fm_rule_facts.specs.Steps.{part, entries, noted}
 use Rattle.fm_rule.proofs.Knowing.{opened, sees, slot_in_hand}
 use Rattle.fm_rule.proofs.Making.{can_learn_generation}
-use Rattle.fm_rule.proofs.Keeping.{step_keeps}
 use Rattle.fm_rule.proofs.Stepping.{step_stepped}
 use Rattle.fm_rule.proofs.taking.step_generation.Goals as goal
 
@@ -13,9 +11,6 @@ session_place-place-requires c = slot_in_hand (sees c.pass.view_is c.requires.of
 pub load_as-requires-clause-can : goal.load_as-requires-clause-can
 load_as-requires-clause-can c = can_learn_generation (opened c.pass.view_is c.requires.of c.pass.invariant) c.requires.taken c.session_place-place.ensures
 
-pub invariant_of-pass : goal.invariant_of-pass
-invariant_of-pass c = step_keeps c.pass.invariant c.load_as.ensures tt
-
 pub returns : goal.returns
 unfolding part entries noted
-returns c = step_stepped (LearnsGeneration c.args.slot) c.pass.view_is c.pass.invariant c.load_as.ensures refl
+returns c = step_stepped c.pass.view_is c.pass.invariant c.load_as.ensures

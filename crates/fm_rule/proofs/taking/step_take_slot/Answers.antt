@@ -1,9 +1,7 @@
-use Rattle.std.proofs.Common.{refl, arith}
-use Rattle.fm_rule_facts.specs.declared.step.Step.TheVariants.{TakesSlot}
+use Rattle.std.proofs.Common.{arith}
 use Rattle.fm_rule_facts.specs.Steps.{part, entries, noted}
 use Rattle.fm_rule.proofs.Knowing.{opened, sees, valid}
 use Rattle.fm_rule.proofs.Making.{can_take}
-use Rattle.fm_rule.proofs.Keeping.{step_keeps}
 use Rattle.fm_rule.proofs.Stepping.{step_stepped, slots_learnt}
 use Rattle.fm_rule.proofs.taking.step_take_slot.Goals as goal
 
@@ -15,12 +13,9 @@ exchange_as-requires-clause-can c =
     can_take (opened c.pass.view_is c.requires.of c.pass.invariant)
     c.requires.none c.requires.low c.without_bit-next.ensures c.slot_bits_place-place.ensures
 
-pub invariant_of-pass : goal.invariant_of-pass
-invariant_of-pass c = step_keeps c.pass.invariant c.exchange_as.ensures tt
-
 pub returns-clause-stepped : goal.returns-clause-stepped
 unfolding part entries noted
-returns-clause-stepped c = step_stepped (TakesSlot c.args.expected c.args.bit) c.pass.view_is c.pass.invariant c.exchange_as.ensures refl
+returns-clause-stepped c = step_stepped c.pass.view_is c.pass.invariant c.exchange_as.ensures
 
 pub returns-clause-slots : goal.returns-clause-slots
 returns-clause-slots c = slots_learnt c.pass.view_is c.exchange_as.ensures.tells.learns

@@ -1,11 +1,9 @@
-use Rattle.std.proofs.Common.{refl, ◌≡◌, Some}
+use Rattle.std.proofs.Common.{◌≡◌, Some}
 use Rattle.fm_base.proofs.Growing.{power_pos}
 use Rattle.fm_rule_facts.specs.Views.{View}
-use Rattle.fm_rule_facts.specs.declared.step.Step.TheVariants.{Allocates}
 use Rattle.fm_rule_facts.specs.Steps.{part, entries, noted}
 use Rattle.fm_rule.proofs.Knowing.{opened, sees, inner, inside_slot}
 use Rattle.fm_rule.proofs.Making.{can_allocate}
-use Rattle.fm_rule.proofs.Keeping.{step_keeps}
 use Rattle.fm_rule.proofs.Stepping.{step_stepped}
 use Rattle.fm_rule.proofs.updates.step_allocate.Goals as goal
 
@@ -20,12 +18,9 @@ exchange_as-requires-clause-can c =
     can_allocate (opened c.pass.view_is c.requires.of c.pass.invariant)
     c.requires.inside c.requires.power c.requires.parts c.given_place-place.ensures c.limit.ensures c.given_next-next.ensures
 
-pub invariant_of-pass : goal.invariant_of-pass
-invariant_of-pass c = step_keeps c.pass.invariant c.exchange_as.ensures tt
-
 pub returns-clause-stepped : goal.returns-clause-stepped
 unfolding part entries noted
-returns-clause-stepped c = step_stepped (Allocates c.args.given c.args.size c.args.align) c.pass.view_is c.pass.invariant c.exchange_as.ensures refl
+returns-clause-stepped c = step_stepped c.pass.view_is c.pass.invariant c.exchange_as.ensures
 
 pub returns-clause-count : goal.returns-clause-count
 returns-clause-count c =

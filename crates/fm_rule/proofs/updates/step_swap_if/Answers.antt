@@ -1,18 +1,12 @@
-use Rattle.std.proofs.Common.{refl}
-use Rattle.fm_rule_facts.specs.declared.step.Step.TheVariants.{SwapsIf}
 use Rattle.fm_rule_facts.specs.Steps.{part, entries, noted}
 use Rattle.fm_rule.proofs.Knowing.{opened, fits}
 use Rattle.fm_rule.proofs.Making.{can_swap}
-use Rattle.fm_rule.proofs.Keeping.{step_keeps}
 use Rattle.fm_rule.proofs.Stepping.{step_stepped}
 use Rattle.fm_rule.proofs.updates.step_swap_if.Goals as goal
 
 pub exchange_as-requires-clause-can : goal.exchange_as-requires-clause-can
 exchange_as-requires-clause-can c = can_swap (opened c.pass.view_is c.requires.of c.pass.invariant) c.requires.act c.requires.place c.ranges.new.fits
 
-pub invariant_of-pass : goal.invariant_of-pass
-invariant_of-pass c = step_keeps c.pass.invariant c.exchange_as.ensures tt
-
 pub returns : goal.returns
 unfolding part entries noted
-returns c = step_stepped (SwapsIf c.args.word c.args.old c.args.new) c.pass.view_is c.pass.invariant c.exchange_as.ensures refl
+returns c = step_stepped c.pass.view_is c.pass.invariant c.exchange_as.ensures

@@ -1,7 +1,7 @@
 use Rattle.std.proofs.Common.{rules, arith, ap, sym, ◌∙◌, subst, ◌≡◌, ◌<◌, ◌≤◌, ℕ, List, [], ◌∷◌, replicate, length, None}
 use lib.ListN.{set, length-replicate}
 use Rattle.fm_words.specs.declared.shape.Shape.{Shape}
-use Rattle.fm_words.specs.Places.{at, draw, slot_bits}
+use Rattle.fm_words.specs.Places.{at, draw, slot_bits, words}
 use Rattle.fm_words.specs.Bits.{ones}
 use Rattle.fm_base.specs.Arenas.{only_caller}
 use Rattle.fm_rule_facts.specs.Views.{IsSound}
@@ -23,30 +23,25 @@ bits_is : (z : Shape) (i : ℕ) → i ≡ at z slot_bits → i ≡ 2
 unfolding at
 bits_is z i e = e
 
-below : {i k n m : ℕ} → i ≤ 2 → k ≡ n → n ≡ m → 2 < m → i < k
-below a e f h = omega arith
+within : (z : Shape) {ws : List ℕ} {i k n : ℕ} → i ≡ k → k ≤ 2 → ws ≡ replicate n 0 → n ≡ words z → i < length ws
+within z {ws = ws} {n = n} is low all long =
+    let p = two_words z in let l : length ws ≡ n = ap length all ∙ length-replicate n 0 in omega arith
 
 pub index_mut-requires : goal.index_mut-requires
-index_mut-requires c =
-    let v = c.in_ok-words.ensures.items_if_clones_equal (λ y e. e) in
-    let p = two_words c.args.shape in
-    let l : length c.in_ok-words.words.items ≡ c.words.result = ap length v ∙ length-replicate c.words.result 0 in
-    let k = c.in_ok-words.words.len in
-    let d : c.draw_place.result ≡ 1 = draw_is _ _ c.draw_place.ensures in
-    let low : c.draw_place.result ≤ 2 = omega arith in
-    let b = below low l c.words.ensures p in
-    search (rules, b, k)
+index_mut-requires c = search (
+  rules,
+  within c.args.shape (draw_is _ _ c.draw_place.ensures) (omega arith)
+      (c.in_ok-words.ensures.items_if_clones_equal (λ y e. e)) c.words.ensures,
+  c.in_ok-words.words.len,
+)
 
 pub index_mut-requires-2 : goal.index_mut-requires-2
-index_mut-requires-2 c =
-    let v = c.in_ok-words.ensures.items_if_clones_equal (λ y e. e) in
-    let p = two_words c.args.shape in
-    let l : length c.in_ok-words.words.items ≡ c.words.result = ap length v ∙ length-replicate c.words.result 0 in
-    let k = c.in_ok-words.words.len in
-    let d : c.slot_bits_place.result ≡ 2 = bits_is _ _ c.slot_bits_place.ensures in
-    let low : c.slot_bits_place.result ≤ 2 = omega arith in
-    let b = below low l c.words.ensures p in
-    search (rules, b, k)
+index_mut-requires-2 c = search (
+  rules,
+  within c.args.shape (bits_is _ _ c.slot_bits_place.ensures) (omega arith)
+      (c.in_ok-words.ensures.items_if_clones_equal (λ y e. e)) c.words.ensures,
+  c.in_ok-words.words.len,
+)
 
 pub set_page_bits-requires-clause-begun : goal.set_page_bits-requires-clause-begun
 set_page_bits-requires-clause-begun c =
