@@ -1,6 +1,7 @@
 ghost use Rattle.std.specs.Prelude.{◌<◌};
 ghost use Rattle.fm_words.specs.Shapes.{IsValid};
 
+use crate::pass::NO_ARENA;
 use crate::{Pool, alive_holds, mark_of, step_give_page, step_take_page, step_unmark};
 use fm_base::{ArenaId, Kind};
 use fm_words::Shape;
@@ -44,6 +45,14 @@ const WIDEST: Shape = Shape {
     ..GREATEST
 };
 
+const CONFINED: ArenaId = ArenaId {
+    slot: 2,
+    generation: 5,
+    kind: Kind::Confined,
+    owner: 3,
+    ..NO_ARENA
+};
+
 /// The word at the place, where the table has one.
 fn word_at(pool: &Pool, place: u64) -> Option<u64> {
     if place < pool.shape().words() {
@@ -53,15 +62,9 @@ fn word_at(pool: &Pool, place: u64) -> Option<u64> {
     }
 }
 
-/// The words of a new pool that aren't 0, beside the count of draws: the slot bits, the last word of page bits, and the first
-/// word of number bits at its place.
-#[derive(Clone, Copy)]
-struct SetWords {
-    slot_bits: u64,
-    page_bits: u64,
-    numbers_at: u64,
-    number_bits: u64,
-}
+/// The words of a new pool that aren't 0, beside the count of draws: the slot bits, the last word of page bits, and the
+/// first word of number bits, after its place.
+type SetWords = (u64, u64, u64, u64);
 
 /// All words are 0 but the count of draws and these; of more words of page bits or of number bits each is full. Of many
 /// words the first and the last are looked at.
@@ -70,18 +73,19 @@ fn check_words<R: Abort + AllocGlobal>(rt: &R, shape: Shape, words: u64, set: Se
     requires some { 0 < words }
 {
     let (pool, _) = Pool::make(rt.alloc(), shape).expect(rt, "words");
+    let (slot_bits, page_bits, numbers_at, number_bits) = set;
     let page_bits_at = shape.page_bits_place(0);
     let terms_at = shape.term_place(0);
     for offset in 0..words.min(300_000) {
         for place in [offset, words - 1 - offset] {
             let expected = match place {
                 1 => 1,
-                2 => set.slot_bits,
+                2 => slot_bits,
                 _ => {
-                    if place + 1 == set.numbers_at {
-                        set.page_bits
-                    } else if place == set.numbers_at {
-                        set.number_bits
+                    if place + 1 == numbers_at {
+                        page_bits
+                    } else if place == numbers_at {
+                        number_bits
                     } else if page_bits_at <= place && place < terms_at {
                         u64::MAX
                     } else {
@@ -97,20 +101,8 @@ fn check_words<R: Abort + AllocGlobal>(rt: &R, shape: Shape, words: u64, set: Se
 
 #[test]
 fn pools_begin_with_zeros_one_draw_and_bits(rt: HostRuntime) {
-    let least = SetWords {
-        slot_bits: 1,
-        page_bits: 1,
-        numbers_at: 9,
-        number_bits: 0,
-    };
-    check_words(&rt, LEAST, 11, least);
-    let larger = SetWords {
-        slot_bits: 3,
-        page_bits: 15,
-        numbers_at: 47,
-        number_bits: 0b110,
-    };
-    check_words(&rt, LARGER, 51, larger);
+    check_words(&rt, LEAST, 11, (1, 1, 9, 0));
+    check_words(&rt, LARGER, 51, (3, 15, 47, 0b110));
 }
 
 #[test]
@@ -136,20 +128,15 @@ fn every_number_but_the_first_is_free(rt: HostRuntime) {
 
 #[test]
 fn pools_of_the_greatest_shapes_can_be_had(rt: HostRuntime) {
-    let greatest = SetWords {
-        slot_bits: u64::MAX,
-        page_bits: u64::MAX,
-        numbers_at: 17_043_651,
-        number_bits: u64::MAX - 1,
-    };
+    let numbers = u64::MAX - 1;
+    let greatest = (u64::MAX, u64::MAX, 17_043_651, numbers);
     check_words(&rt, GREATEST, 17_047_811, greatest);
-    let widest = SetWords {
-        slot_bits: 0xffff,
-        page_bits: 0xffff,
-        numbers_at: 16_781_364,
-        ..greatest
-    };
-    check_words(&rt, WIDEST, 16_785_524, widest);
+    check_words(
+        &rt,
+        WIDEST,
+        16_785_524,
+        (0xffff, 0xffff, 16_781_364, numbers),
+    );
 }
 
 #[test]
@@ -202,13 +189,6 @@ fn the_first_pass_is_outside(rt: HostRuntime) {
 
 #[test]
 fn session_words_show_arenas_that_are_alive(rt: HostRuntime) {
-    let a = ArenaId {
-        slot: 2,
-        generation: 5,
-        kind: Kind::Confined,
-        owner: 3,
-        term: 0,
-    };
     let rows = [
         (0x0000_0005_6003_0002, Some(2)),
         (0x0000_0005_6003_0000, Some(0)),
@@ -218,19 +198,12 @@ fn session_words_show_arenas_that_are_alive(rt: HostRuntime) {
         (0x0000_0005_0000_0000, None),
     ];
     for (word, holds) in rows {
-        assert_eq!(rt; alive_holds(a, word), holds);
+        assert_eq!(rt; alive_holds(CONFINED, word), holds);
     }
-    assert_eq!(rt; mark_of(a), 0x0000_0003_0000_0005);
+    assert_eq!(rt; mark_of(CONFINED), 0x0000_0003_0000_0005);
 }
 
-const TWO: Shape = Shape {
-    passes: 2,
-    slots: 1,
-    pages: 1,
-    page_words: 1,
-    reach: 1,
-    generations: 1,
-};
+const TWO: Shape = Shape { passes: 2, ..LEAST };
 
 #[test]
 fn a_number_comes_back_with_its_next_term(rt: HostRuntime) {
