@@ -16,7 +16,7 @@ use crate::shape::check;
 use fm_base::Refusal;
 use fm_layout::Layout;
 use serde_json::Value;
-use std::alloc::Global;
+use std::alloc::{AllocError, Global};
 use std::collections::{BTreeMap, BTreeSet};
 
 /// The most levels that are written: JSON nests at most so many.
@@ -121,18 +121,13 @@ fn new_entry<'v>(value: &'v Value, names: &BTreeSet<String>, number: u64) -> Opt
     }
 }
 
-/// Takes a name in. Refused: `Memory`.
-fn note(alloc: Global, names: &mut BTreeSet<String>, name: &str) -> Result<(), Refusal>
-    ensures noted { OnOk result ((other : List ℕ) → contains_text names.new other
+/// Takes a name in.
+fn note(alloc: Global, names: &mut BTreeSet<String>, name: &str) -> Result<(), AllocError>
+    ensures { OnOk result ((other : List ℕ) → contains_text names.new other
         ≡ also_known name.now (contains_text names.old) other) }
-    ensures memory { IfErr result (λ refusal. refusal ≡ Refusal.Memory) }
 {
-    let Ok(key) = String::from_str(alloc, name) else {
-        return Err(Refusal::Memory);
-    };
-    let Ok(_) = names.insert(key) else {
-        return Err(Refusal::Memory);
-    };
+    let key = String::from_str(alloc, name)?;
+    names.insert(key)?;
     Ok(())
 }
 
@@ -180,22 +175,17 @@ pub(crate) fn build_all(
     build(alloc, layout, LEVELS, &known)
 }
 
-/// Takes in what is known of a name. Refused: `Memory`.
+/// Takes in what is known of a name.
 fn define<T: Drop>(
     alloc: Global,
     known: &mut BTreeMap<String, T>,
     name: &str,
     value: T,
-) -> Result<(), Refusal>
-    ensures defined { OnOk result ((other : List ℕ) → get_by_text known.new other
+) -> Result<(), AllocError>
+    ensures { OnOk result ((other : List ℕ) → get_by_text known.new other
         ≡ knowing name.now value (get_by_text known.old) other) }
-    ensures memory { IfErr result (λ refusal. refusal ≡ Refusal.Memory) }
 {
-    let Ok(key) = String::from_str(alloc, name) else {
-        return Err(Refusal::Memory);
-    };
-    let Ok(_) = known.insert(key, value) else {
-        return Err(Refusal::Memory);
-    };
+    let key = String::from_str(alloc, name)?;
+    known.insert(key, value)?;
     Ok(())
 }

@@ -8,7 +8,7 @@ use crate::canonical::{document_json, json_of};
 use fm_base::Refusal;
 use fm_layout::Layout;
 use serde_json::Value;
-use std::alloc::Global;
+use std::alloc::{AllocError, Global};
 
 /// The canonical text of the layout, as UTF-8. Refused: `Memory`.
 ///
@@ -19,7 +19,7 @@ pub fn layout_to_json(alloc: Global, layout: &Layout) -> Result<Vec<u8>, Refusal
     ensures reads_back { IfOk result (λ bytes. ReadsAs layout.now bytes.items) }
     ensures memory { IfErr result (λ refusal. refusal ≡ Refusal.Memory) }
 {
-    text_of(alloc, layout, &json_of(alloc, layout)?)
+    Ok(text_of(alloc, layout, &json_of(alloc, layout)?)?)
 }
 
 /// The text in the version that may name types: it names none, and has the canonical text of the layout. Refused:
@@ -31,19 +31,15 @@ pub fn layout_to_json2(alloc: Global, layout: &Layout) -> Result<Vec<u8>, Refusa
     ensures reads_back { IfOk result (λ bytes. ReadsAs layout.now bytes.items) }
     ensures memory { IfErr result (λ refusal. refusal ≡ Refusal.Memory) }
 {
-    text_of(alloc, layout, &document_json(alloc, layout)?)
+    Ok(text_of(alloc, layout, &document_json(alloc, layout)?)?)
 }
 
 /// The compact text of a value that stands for the layout.
-fn text_of(alloc: Global, layout: &Layout, json: &Value) -> Result<Vec<u8>, Refusal>
+fn text_of(alloc: Global, layout: &Layout, json: &Value) -> Result<Vec<u8>, AllocError>
     requires { StandsFor (view json.now) layout.now }
     ensures text { IfOk result (λ bytes. bytes.items ≡ compact_text (view json.now)) }
     ensures reads_back { IfOk result (λ bytes. ReadsAs layout.now bytes.items) }
-    ensures memory { IfErr result (λ refusal. refusal ≡ Refusal.Memory) }
 {
     let _size = layout.size();
-    match json.to_vec(alloc) {
-        Ok(bytes) => Ok(bytes),
-        Err(_) => Err(Refusal::Memory),
-    }
+    Ok(json.to_vec(alloc)?)
 }

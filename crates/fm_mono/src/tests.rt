@@ -1,5 +1,7 @@
-ghost use Rattle.std.specs.Prelude.{◌≡◌, ◌≢◌, None};
-ghost use Rattle.fm_mono.specs.Shown.{IsKnown};
+ghost use Rattle.std.specs.Prelude.{◌≡◌, ◌≢◌, ◌≤◌, None};
+ghost use Rattle.fm_base.specs.Learnt.{CanVisit};
+ghost use Rattle.fm_base.specs.View.{given_in};
+ghost use Rattle.fm_mono.specs.Shown.{IsKnown, view_of};
 
 use crate::Mono;
 use fm_base::{ArenaId, Kind, Memory, Refusal};
@@ -13,6 +15,17 @@ fn open<R: Abort + Wait>(rt: &R, m: &mut Mono, kind: Kind) -> ArenaId
     ensures known { IsKnown m.new result }
 {
     m.open_arena(rt, kind).expect(rt, "an arena")
+}
+
+/// A shared arena that gave so many bytes from place 0 on.
+fn words<R: Abort + Wait>(rt: &R, m: &mut Mono, size: u64) -> ArenaId
+    requires { m.old.inside ≡ None }
+    ensures visit { CanVisit (view_of m.new) result }
+    ensures given { size ≤ given_in (view_of m.new) result }
+{
+    let a = open(rt, m, Kind::Shared);
+    assert_eq!(rt; m.allocate(rt, a, size, 8), Ok(0));
+    a
 }
 
 /// Allocates, and says what became of it.
@@ -63,8 +76,7 @@ fn places_up_to_the_limit(rt: HostRuntime) {
 #[test]
 fn words_of_one_arena(rt: HostRuntime) {
     let mut m = Mono::make(rt.alloc(), 16);
-    let a = open(&rt, &mut m, Kind::Shared);
-    assert_eq!(rt; m.allocate(&rt, a, 16, 8), Ok(0));
+    let a = words(&rt, &mut m, 16);
     assert_eq!(rt; m.enter(a), Ok(()));
     m.store(1, 7);
     assert_eq!(rt; m.swap_if(1, 6, 5), 7);
@@ -79,8 +91,7 @@ fn words_of_one_arena(rt: HostRuntime) {
 #[test]
 fn many_words_in_one_call(rt: HostRuntime) {
     let mut m = Mono::make(rt.alloc(), 32);
-    let a = open(&rt, &mut m, Kind::Shared);
-    assert_eq!(rt; m.allocate(&rt, a, 32, 8), Ok(0));
+    let a = words(&rt, &mut m, 32);
     assert_eq!(rt; m.enter(a), Ok(()));
     m.store(3, 4);
     m.store_words(0, &[7, u64::MAX, 9]);

@@ -18,46 +18,50 @@ fn three_words<R: Abort + Wait, M: Memory>(rt: &R, m: &mut M) -> ArenaId
     arena
 }
 
-fn put<R: Wait, M: Memory>(
-    rt: &R,
-    m: &mut M,
+/// Bytes of such an arena, from `place` on.
+#[derive(Clone, Copy)]
+struct Bytes {
     arena: ArenaId,
     place: u64,
     width: u32,
-    number: u64,
-) -> Result<(), Refusal>
-    requires words { CanTouch (M.view m.old) arena 0 24 }
-    requires some { 1 ≤ width }
-    requires width { width ≤ 8 }
-    requires within { place + width ≤ 24 }
-    ensures { CanTouch (M.view m.new) arena 0 24 }
-{
-    put_number(rt, m, arena, place, width, number)
 }
 
-fn fill_bytes<R: Wait, M: Memory>(
-    rt: &R,
-    m: &mut M,
-    arena: ArenaId,
-    place: u64,
-    size: u64,
-    byte: u8,
-) -> Result<(), Refusal>
-    requires words { CanTouch (M.view m.old) arena 0 24 }
-    requires within { place + size ≤ 24 }
-    ensures { CanTouch (M.view m.new) arena 0 24 }
+fn bytes(arena: ArenaId, place: u64, width: u32) -> Bytes
+    ensures { result ≡ record { arena = arena; place = place; width = width } }
 {
-    fill(rt, m, arena, place, size, byte)
+    Bytes {
+        arena,
+        place,
+        width,
+    }
 }
 
-fn get<M: Memory>(m: &mut M, arena: ArenaId, place: u64, width: u32) -> Result<u64, Refusal>
-    requires words { CanTouch (M.view m.old) arena 0 24 }
-    requires some { 1 ≤ width }
-    requires width { width ≤ 8 }
-    requires within { place + width ≤ 24 }
-    ensures { CanTouch (M.view m.new) arena 0 24 }
+fn put<R: Wait, M: Memory>(rt: &R, m: &mut M, to: Bytes, number: u64) -> Result<(), Refusal>
+    requires words { CanTouch (M.view m.old) to.arena 0 24 }
+    requires some { 1 ≤ to.width }
+    requires width { to.width ≤ 8 }
+    requires within { to.place + to.width ≤ 24 }
+    ensures { CanTouch (M.view m.new) to.arena 0 24 }
 {
-    get_number(m, arena, place, width)
+    put_number(rt, m, to.arena, to.place, to.width, number)
+}
+
+fn fill_bytes<R: Wait, M: Memory>(rt: &R, m: &mut M, to: Bytes, byte: u8) -> Result<(), Refusal>
+    requires words { CanTouch (M.view m.old) to.arena 0 24 }
+    requires within { to.place + to.width ≤ 24 }
+    ensures { CanTouch (M.view m.new) to.arena 0 24 }
+{
+    fill(rt, m, to.arena, to.place, u64::from(to.width), byte)
+}
+
+fn get<M: Memory>(m: &mut M, from: Bytes) -> Result<u64, Refusal>
+    requires words { CanTouch (M.view m.old) from.arena 0 24 }
+    requires some { 1 ≤ from.width }
+    requires width { from.width ≤ 8 }
+    requires within { from.place + from.width ≤ 24 }
+    ensures { CanTouch (M.view m.new) from.arena 0 24 }
+{
+    get_number(m, from.arena, from.place, from.width)
 }
 
 /// The byte at `at`, where the bytes 1, 2, 3 .. were put at `place` and all others are 255.
@@ -72,28 +76,22 @@ fn byte_at(at: u64, place: u64, width: u64) -> u64
 }
 
 /// Puts a number of the bytes 1, 2, 3 .. among ones, and reads it and every byte again.
-fn put_among_ones<R: Abort + Wait, M: Memory>(
-    rt: &R,
-    m: &mut M,
-    arena: ArenaId,
-    place: u64,
-    width: u32,
-    number: u64,
-)
-    requires words { CanTouch (M.view m.old) arena 0 24 }
-    requires some { 1 ≤ width }
-    requires width { width ≤ 8 }
-    requires within { place + width ≤ 24 }
-    ensures { CanTouch (M.view m.new) arena 0 24 }
+fn put_among_ones<R: Abort + Wait, M: Memory>(rt: &R, m: &mut M, to: Bytes, number: u64)
+    requires words { CanTouch (M.view m.old) to.arena 0 24 }
+    requires some { 1 ≤ to.width }
+    requires width { to.width ≤ 8 }
+    requires within { to.place + to.width ≤ 24 }
+    ensures { CanTouch (M.view m.new) to.arena 0 24 }
 {
-    assert_eq!(rt; put(rt, m, arena, 0, 8, u64::MAX), Ok(()));
-    assert_eq!(rt; put(rt, m, arena, 8, 8, u64::MAX), Ok(()));
-    assert_eq!(rt; put(rt, m, arena, 16, 8, u64::MAX), Ok(()));
-    assert_eq!(rt; put(rt, m, arena, place, width, number), Ok(()));
-    assert_eq!(rt; get(m, arena, place, width), Ok(number));
+    let arena = to.arena;
+    assert_eq!(rt; put(rt, m, bytes(arena, 0, 8), u64::MAX), Ok(()));
+    assert_eq!(rt; put(rt, m, bytes(arena, 8, 8), u64::MAX), Ok(()));
+    assert_eq!(rt; put(rt, m, bytes(arena, 16, 8), u64::MAX), Ok(()));
+    assert_eq!(rt; put(rt, m, to, number), Ok(()));
+    assert_eq!(rt; get(m, to), Ok(number));
     for at in 0..24u64 {
-        let byte = byte_at(at, place, u64::from(width));
-        assert_eq!(rt; get(m, arena, at, 1), Ok(byte));
+        let byte = byte_at(at, to.place, u64::from(to.width));
+        assert_eq!(rt; get(m, bytes(arena, at, 1)), Ok(byte));
     }
 }
 
@@ -106,7 +104,7 @@ fn at_each_place<R: Abort + Wait, M: Memory>(rt: &R, m: &mut M, width: u32, numb
 {
     let arena = three_words(rt, m);
     for place in 0..9u64 {
-        put_among_ones(rt, m, arena, place, width, number);
+        put_among_ones(rt, m, bytes(arena, place, width), number);
     }
 }
 
@@ -123,25 +121,26 @@ fn numbers_at_each_place(rt: HostRuntime) {
 fn a_fill_changes_just_its_bytes(rt: HostRuntime) {
     let mut m = Mono::make(rt.alloc(), 64);
     let arena = three_words(&rt, &mut m);
-    assert_eq!(rt; fill_bytes(&rt, &mut m, arena, 3, 14, 7), Ok(()));
-    assert_eq!(rt; get(&mut m, arena, 0, 8), Ok(0x0707_0707_0700_0000));
-    assert_eq!(rt; get(&mut m, arena, 8, 8), Ok(0x0707_0707_0707_0707));
-    assert_eq!(rt; get(&mut m, arena, 16, 8), Ok(7));
-    assert_eq!(rt; fill_bytes(&rt, &mut m, arena, 5, 0, 9), Ok(()));
-    assert_eq!(rt; get(&mut m, arena, 5, 1), Ok(7));
+    assert_eq!(rt; fill_bytes(&rt, &mut m, bytes(arena, 3, 14), 7), Ok(()));
+    assert_eq!(rt; get(&mut m, bytes(arena, 0, 8)), Ok(0x0707_0707_0700_0000));
+    assert_eq!(rt; get(&mut m, bytes(arena, 8, 8)), Ok(0x0707_0707_0707_0707));
+    assert_eq!(rt; get(&mut m, bytes(arena, 16, 8)), Ok(7));
+    assert_eq!(rt; fill_bytes(&rt, &mut m, bytes(arena, 5, 0), 9), Ok(()));
+    assert_eq!(rt; get(&mut m, bytes(arena, 5, 1)), Ok(7));
 }
 
 #[test]
 fn a_closed_arena_is_refused(rt: HostRuntime) {
     let mut m = Mono::make(rt.alloc(), 64);
     let arena = three_words(&rt, &mut m);
-    assert_eq!(rt; put(&rt, &mut m, arena, 6, 4, 0x0403_0201), Ok(()));
-    assert_eq!(rt; get(&mut m, arena, 4, 4), Ok(0x0201_0000));
+    let refused = Refusal::Closed;
+    assert_eq!(rt; put(&rt, &mut m, bytes(arena, 6, 4), 0x0403_0201), Ok(()));
+    assert_eq!(rt; get(&mut m, bytes(arena, 4, 4)), Ok(0x0201_0000));
     assert_eq!(rt; m.close(&rt, arena), Ok(()));
-    assert_eq!(rt; get(&mut m, arena, 6, 4), Err(Refusal::Closed));
-    assert_eq!(rt; put(&rt, &mut m, arena, 6, 4, 0), Err(Refusal::Closed));
+    assert_eq!(rt; get(&mut m, bytes(arena, 6, 4)), Err(refused));
+    assert_eq!(rt; put(&rt, &mut m, bytes(arena, 6, 4), 0), Err(refused));
     assert_eq!(rt;
-        fill_bytes(&rt, &mut m, arena, 6, 4, 0),
-        Err(Refusal::Closed)
+        fill_bytes(&rt, &mut m, bytes(arena, 6, 4), 0),
+        Err(refused)
     );
 }

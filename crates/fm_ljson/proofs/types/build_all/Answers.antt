@@ -16,4 +16,4 @@ loop-entry-preserved c =
     ∙ entry_item (λ es. built_behind known es layout) entries _ i c.entry-item.result c.deref-entry-items.ensures.value c.loop-entry-test.true
     c.entry-item.is
     ∙ built_more known (get_by_text c.define.new.known) (numbered_view c.entry-item.result) (map numbered_view (drop (i + 1) entries)) layout
-    c.in_ok-built.built c.in_ok-built.ensures c.in_ok-define.ensures.defined
+    c.in_ok-built.built c.in_ok-built.ensures c.in_ok-define.ensures

@@ -17,4 +17,4 @@ loop-entry-preserved c =
     ∙ entry_item (λ es. first_large known es number layout) entries _ i c.entry-item.result c.deref-entry-items.ensures.value c.loop-entry-test.true
     c.entry-item.is
     ∙ large_more known (get_by_text c.define.new.known) (numbered_view c.entry-item.result) (map numbered_view (drop (i + 1) entries)) number layout
-    c.in-Some.measure c.in-Some.ensures c.in_ok-define.ensures.defined
+    c.in-Some.measure c.in-Some.ensures c.in_ok-define.ensures

@@ -5,7 +5,7 @@ use Rattle.std.specs.BTreeMap.{get_by_text}
 use Rattle.std.specs.Prelude.{string_bytes}
 use Rattle.fm_ljson.proofs.types.define.Goals as goal
 
-pub returns-clause-defined : goal.returns-clause-defined
-returns-clause-defined g c other =
-    btree_map_updates_text (string_bytes c.in-Ok.key) c.args.known.now c.insert.new.self (Some c.args.value) c.in-Ok-insert.ensures.updates other
-    ∙ ap (λ name. knowing name c.args.value (get_by_text c.args.known.now) other) c.in-Ok.ensures.ok
+pub returns : goal.returns
+returns g c other =
+    btree_map_updates_text (string_bytes c.in_ok-key.key) c.args.known.now c.insert.new.self (Some c.args.value) c.in_ok-insert.ensures.updates other
+    ∙ ap (λ name. knowing name c.args.value (get_by_text c.args.known.now) other) c.in_ok-key.ensures.ok

@@ -5,7 +5,7 @@ use Rattle.std.proofs.lemmas.Map.Text.{btree_set_updates_text}
 use Rattle.fm_ljson.specs.Refs.{also_known}
 use Rattle.fm_ljson.proofs.types.note.Goals as goal
 
-pub returns-clause-noted : goal.returns-clause-noted
-returns-clause-noted c other =
-    btree_set_updates_text (string_bytes c.in-Ok.key) c.args.names.now c.insert.new.self true c.in-Ok-insert.ensures.updates other
-    ∙ ap (λ name. also_known name (contains_text c.args.names.now) other) c.in-Ok.ensures.ok
+pub returns : goal.returns
+returns c other =
+    btree_set_updates_text (string_bytes c.in_ok-key.key) c.args.names.now c.insert.new.self true c.in_ok-insert.ensures.updates other
+    ∙ ap (λ name. also_known name (contains_text c.args.names.now) other) c.in_ok-key.ensures.ok

@@ -29,6 +29,6 @@ loop-value-preserved c =
     c.value-item.is c.loop-value.invariant in
     let more = reading_more known (contains_text c.note.new.names) entries c.loop-value.number c.in-Ok.checked.1 types rest layout
     (view c.value-item.result) entry
-    item c.in-Ok.ensures.sound c.in_ok-note.ensures.noted in
+    item c.in-Ok.ensures.sound c.in_ok-note.ensures in
     let pushed = ap (map numbered_view) c.in-Ok-push.ensures.items ∙ map-append numbered_view c.loop-value.entries.items (c.in-Ok.checked.0 ∷ []) in
     subst (λ (es : List Numbered). IsReading (contains_text c.note.new.names) es c.in-Ok.checked.1 types rest layout) (sym pushed) more

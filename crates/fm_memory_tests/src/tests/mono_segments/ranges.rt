@@ -50,18 +50,17 @@ fn whole_words_are_put_with_the_bytes_around_them(rt: HostRuntime) {
     let s = Segment::of(arena, first, 24);
     assert_eq!(rt; s.put_bytes(&rt, &mut m, 3, COUNT.as_slice()), Ok(()));
     let long = Layout::value(ValueKind::Long);
-    assert_eq!(rt;
+    let found = [
         s.get(&mut m, &long, 0),
-        Ok(Value::Long(0x0504_0302_0100_0000))
-    );
-    assert_eq!(rt;
         s.get(&mut m, &long, 8),
-        Ok(Value::Long(0x0d0c_0b0a_0908_0706))
-    );
-    assert_eq!(rt;
         s.get(&mut m, &long, 16),
-        Ok(Value::Long(0x0000_1312_1110_0f0e))
-    );
+    ];
+    let words = [
+        0x0504_0302_0100_0000,
+        0x0d0c_0b0a_0908_0706,
+        0x0000_1312_1110_0f0e,
+    ];
+    assert_eq!(rt; found, words.map(|n| Ok(Value::Long(n))));
 }
 
 #[test]
