@@ -7,7 +7,7 @@ use Rattle.fm_io.specs.Files.{Contents, IsAbsent}
 use Rattle.fm_io.specs.declared.fault.Fault.{Fault}
 use Rattle.fm_io.specs.declared.fault.Fault.TheVariants as fault
 use Rattle.fm_io.specs.View.{FilesView}
-use Rattle.fm_top.specs.Ending.{EndsUnloaded, shown, TellsMisses}
+use Rattle.fm_top.specs.Ending.{EndsUnloaded, IsUnloaded, shown, TellsMisses}
 use Rattle.fm_top.specs.Ends.{EndsFile}
 use Rattle.fm_top.specs.Found.{OfFound}
 use Rattle.fm_top.specs.Outcome.{Outcome, missing, too_long}
@@ -63,17 +63,16 @@ module _ {old new : FilesView} {name : List ℕ} {limit : ℕ} {Has : Option (Li
 
   -- it wasn't loaded
   pub unloaded_ends : {why : LoadFault} → TellsLoad ⊥ limit old new name (Some why) → {end : Result Ending Fault}
-      → IfOk end (λ ending. EndsUnloaded why name (shown ending)) → (why ≡ Missing → IsOk end) → (end ≡ Err fault.Failed) ↔ (why ≡ Failed)
-      → Has None (missing name) → ((bytes : List ℕ) → limit < length bytes → Has (Some bytes) too_long) → EndsFile name limit ⊤ Has old new end
-  unloaded_ends {why} load {end} ends told alike none long = record {
-    outcome = IfOk-weaker end _ _ (λ ending is. unloaded old.holds name limit Has why (shown ending) none long
-        (λ same. load.absent (ap Some same)) (λ same. load.too_long (ap Some same)) is) ends;
+      → IsUnloaded why name end → Has None (missing name) → ((bytes : List ℕ) → limit < length bytes → Has (Some bytes) too_long) → EndsFile name limit ⊤ Has old new end
+  unloaded_ends {why} load {end} is none long = record {
+    outcome = IfOk-weaker end _ _ (λ ending ends. unloaded old.holds name limit Has why (shown ending) none long
+        (λ same. load.absent (ap Some same)) (λ same. load.too_long (ap Some same)) ends) is.ending;
     reads = read_for reads tt;
     files = record {
-      missed = tells old.misses new.misses name why end (λ is. load.left.misses.rose (ap Some is))
-          (λ other. load.left.misses.quiet (λ is. other (cc))) ends told;
-      failed = λ is. load.left.faults.rose (ap Some (alike.0 is));
-      quiet = λ other. load.left.faults.quiet (λ is. other (alike.1 (cc)));
+      missed = tells old.misses new.misses name why end (λ same. load.left.misses.rose (ap Some same))
+          (λ other. load.left.misses.quiet (λ same. other (cc))) is.ending is.told;
+      failed = λ same. load.left.faults.rose (ap Some (is.failed.0 same));
+      quiet = λ other. load.left.faults.quiet (λ same. other (is.failed.1 (cc)));
       held = load.left.held;
       faults_stay = load.left.faults.stays;
       misses_stay = load.left.misses.stays;

@@ -1,7 +1,8 @@
 -- What a run's ending says.
-use Rattle.std.specs.Prelude.{◌≡◌, ◌≢◌, ℕ, List, ◌++◌, Result, Ok, Err, string_bytes}
+use Rattle.std.specs.Prelude.{◌≡◌, ◌≢◌, ◌↔◌, ℕ, List, ◌++◌, Result, Ok, Err, IfOk, IsOk, string_bytes}
 use Rattle.fm_io.specs.Count.{Rose}
 use Rattle.fm_io.specs.declared.fault.Fault.{Fault}
+use Rattle.fm_io.specs.declared.fault.Fault.TheVariants.{Failed}
 use Rattle.fm_records.specs.Texts.{answer_text}
 use Rattle.fm_top.specs.Outcome.{Outcome, missing, too_long}
 use Rattle.fm_top.specs.declared.outcome.answered.Answered.{Answered}
@@ -41,3 +42,9 @@ abbrev pub EndsUnloaded : LoadFault → List ℕ → Outcome → Type 0
 EndsUnloaded fault.Missing name o = o ≡ missing name
 EndsUnloaded fault.TooLong name o = o ≡ too_long
 EndsUnloaded other name o = ⊥
+
+-- it ends so, and that it is missing takes no memory
+pub record IsUnloaded (why : LoadFault) (name : List ℕ) (result : Result Ending Fault) : Type 0 where
+  pub ending : IfOk result (λ ending. EndsUnloaded why name (shown ending))
+  pub told : why ≡ fault.Missing → IsOk result
+  pub failed : (result ≡ Err Failed) ↔ (why ≡ fault.Failed)

@@ -50,10 +50,10 @@ pub fn command_of<'a>(
         IfSome found (λ command. Asks (texts words.now) (request_of command))) }
     ensures none { IfOk result (λ found. IfNone found (AreFaulty (texts words.now))) }
 {
-    if let Some(layout) = layout_words(words, LayoutText::Places) {
+    if let Some(layout) = layout_words(words, "layout", LayoutText::Places) {
         return Ok(Some(Subcommand::Layout(layout)));
     }
-    if let Some(layout) = layout_words(words, LayoutText::Json) {
+    if let Some(layout) = layout_words(words, "migrate", LayoutText::Json) {
         return Ok(Some(Subcommand::Layout(layout)));
     }
     if let Some(run) = script_words(words) {
@@ -62,13 +62,13 @@ pub fn command_of<'a>(
     if let Some(sum) = sum_words(words) {
         return Ok(Some(Subcommand::Sum(sum)));
     }
-    if let Some(ask) = ask_words(alloc, words, Question::Query)? {
+    if let Some(ask) = ask_words(alloc, words, "query", Question::Query)? {
         return Ok(Some(Subcommand::Ask(ask)));
     }
-    if let Some(ask) = ask_words(alloc, words, Question::Stream)? {
+    if let Some(ask) = ask_words(alloc, words, "stream", Question::Stream)? {
         return Ok(Some(Subcommand::Ask(ask)));
     }
-    if let Some(ask) = ask_words(alloc, words, Question::Tally)? {
+    if let Some(ask) = ask_words(alloc, words, "tally", Question::Tally)? {
         return Ok(Some(Subcommand::Ask(ask)));
     }
     match demo_words(alloc, words)? {

@@ -1,7 +1,7 @@
 ghost use Rattle.std.specs.Prelude.{◌≡◌};
 ghost use Rattle.fm_top_options.specs.Options.{texts};
 ghost use Rattle.fm_top.specs.Ran.{Ran};
-ghost use Rattle.fm_top.specs.Run.{code_of, traces_of};
+ghost use Rattle.fm_top.specs.Run.{traces_of};
 ghost use Rattle.fm_top.specs.Words.{AreFaulty};
 
 use crate::outcome::{Ending, Kept, Status, ending_of};
@@ -43,35 +43,15 @@ where
         kept.new result }
     ensures reads_nothing { AreFaulty (texts words.now) → files.new ≡ files.old }
 {
-    run_words(rt, alloc, words, files, out, gate, kept).code()
-}
-
-/// Runs the words, and answers the status that this leaves.
-fn run_words<R: Threads + Wait + Sync, F: Files, O: Sink, G: Gate>(
-    rt: &R,
-    alloc: Global,
-    words: &[String],
-    files: &mut F,
-    out: &mut O,
-    gate: &G,
-    kept: &mut Kept,
-) -> Status
-    ensures ran { Ran (texts words.now)
-        (traces_of (F.view files.old)
-        (F.view files.new)
-        (O.view out.old) (O.view out.new))
-        kept.new (code_of result) }
-    ensures reads_nothing { AreFaulty (texts words.now) → files.new ≡ files.old }
-{
     *kept = Kept::new();
     match ending_of(rt, alloc, words, files, gate) {
         Ok(ending) => {
             let status = ending.print(alloc, out);
             let Ending { left, .. } = ending;
             *kept = Kept::of(left);
-            status
+            status.code()
         }
-        Err(Fault::Failed) => Status::Unread,
-        Err(Fault::Memory) => Status::NoMemory,
+        Err(Fault::Failed) => Status::Unread.code(),
+        Err(Fault::Memory) => Status::NoMemory.code(),
     }
 }

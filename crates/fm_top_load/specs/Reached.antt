@@ -5,13 +5,14 @@ use Rattle.fm_base.specs.View.{View, Did, given_in}
 use Rattle.fm_io.specs.Files.{Contents, AreBytesFrom}
 use Rattle.fm_io.specs.Reads.{Next, Ended}
 use Rattle.fm_top_load.specs.declared.chunk.Chunk.{Chunk}
+use Rattle.fm_top_load.specs.declared.chunk.Part.{Part}
 use Rattle.fm_top_load.specs.declared.reaching.Reached.{Reached}
 use Rattle.fm_top_load.specs.declared.reaching.Reached.TheVariants.{End, Full}
 use Rattle.fm_top_load.specs.Filling.{Puts}
 use Rattle.fm_top_load.specs.Held.{IsHeld, OnlyIn}
 use Rattle.fm_top_load.specs.Limits.{record_file_limit}
 use Rattle.fm_top_load.specs.Reading.{GoesBy, piece_limit}
-use Rattle.fm_top_load.specs.Whole.{IsChunk, IsPiece, IsWhole}
+use Rattle.fm_top_load.specs.Whole.{CanRead, IsChunk, IsCut, IsPiece, IsWhole}
 
 -- the next chunk of a file, which may have so many bytes, from the place on lies at the start of the buffer
 pub record IsNext (limit : ℕ) (told : Option Contents) (name : List ℕ) (place : ℕ) (buffer : List ℕ) (chunk : Chunk) : Type 0 where
@@ -58,6 +59,20 @@ pub record CanReach (v : View) (a : ArenaId) (room : ℕ) (buffer : List ℕ) : 
   pub held : IsHeld v a
   pub given : room ≤ given_in v a
   pub limit : room ≤ v.limit
+
+-- an arena has given room for a part of a file, which isn't empty, and the part's first piece lies in the buffer
+pub record CanLoadChunk (part : Part) (told : Option Contents) (buffer : List ℕ) (first : Chunk) (v : View) (a : ArenaId) : Type 0 where
+  pub can : CanReach v a part.most buffer
+  pub read : CanRead part.limit part.at buffer
+  pub next : IsNextPiece part.limit part.most told part.name.now part.at buffer first
+  pub some : 0 < first.count
+  pub room : 0 < part.most
+
+-- the first bytes, so many of them, are that part of the file
+pub record HasChunk (part : Part) (told : Option Contents) (bytes : List ℕ) (chunk : Chunk) : Type 0 where
+  pub cut : IsCut part.limit part.most told part.name.now part.at (take chunk.count bytes) chunk.ended
+  pub some : 0 < chunk.count
+  pub within : chunk.count ≤ part.most
 
 -- Runs of bytes were put within that room of the arena, which is held still and has given as much, and nothing else changed.
 pub record PutsWithin (old new : View) (a : ArenaId) (room : ℕ) : Type 0 where

@@ -19,6 +19,11 @@ ReadsUpTo old new name limit Goes = ReadsFile old new name piece_limit (limit + 
 abbrev pub ReadsSome : Option (List Read) → Option (List Read) → List ℕ → ℕ → Type 0
 ReadsSome old new name limit = ReadsUpTo old new name limit (λ next. Unit {0})
 
+-- What was read before, and is followed so, was read on, and is followed as `Says` says then.
+abbrev pub ReadsFurther : Option (List Read) → Option (List Read) → List ℕ → ℕ → (Next → Type 0) → (Next → Type 0) → Type 0
+ReadsFurther old new name limit Goes Says = (before : Option (List Read)) (from : ℕ) → ReadsFile before old name piece_limit (limit + 1) from Goes
+    → ReadsFile before new name piece_limit (limit + 1) from Says
+
 -- The rest of a record file was read from the place on; nothing, where it had ended.
 pub record ReadsBehind (ended : Bool) (old new : Option (List Read)) (name : List ℕ) (place : ℕ) : Type 0 where
   pub none : ended ≡ true → new ≡ old

@@ -12,7 +12,7 @@ mod reaching;
 mod whole_file;
 
 pub use buffers::zero_bytes;
-pub use chunk::{CHUNK, Chunk, read_piece};
+pub use chunk::{CHUNK, Chunk, Part, read_piece};
 pub use chunk_loading::load_chunk;
 pub use held::{RECORD_FILE_LIMIT, allocate_held, open_held, put_held};
 pub use load_fault::LoadFault;

@@ -1,5 +1,5 @@
 -- Where the first pass of a pool stands, before bytes are put into an arena of it, and then.
-use Rattle.std.specs.Prelude.{◌≡◌, ◌⊎◌, ℕ, ◌+◌, ◌<◌, ◌≤◌, true, List, [], ◌∷◌, ◌++◌, Option, length}
+use Rattle.std.specs.Prelude.{◌≡◌, ◌⊎◌, ℕ, ◌+◌, ◌<◌, ◌≤◌, true, List, [], ◌∷◌, ◌++◌, Option, Result, IfOk, length}
 use Rattle.fm_base.specs.declared.arena_id.ArenaId.{ArenaId}
 use Rattle.fm_base.specs.declared.kind.Kind.TheVariants.{Shared}
 use Rattle.fm_base.specs.Arenas.{Alive, arena_of}
@@ -10,12 +10,17 @@ use Rattle.fm_gate.specs.Learnt.{AllBusy}
 use Rattle.fm_gate.specs.Needs.{IsOutside}
 use Rattle.fm_base.specs.View.{given_in}
 use Rattle.fm_io.specs.Files.{Contents}
+use Rattle.fm_io.specs.View.{FilesView}
 use Rattle.fm_segment_access.specs.Alone.{bytes_of_arena}
 use Rattle.fm_top_load.specs.declared.reaching.Reached.{Reached}
 use Rattle.fm_top_load.specs.Held.{HoldsThen, IsEmpty, IsHeld, OnlyIn, names_in, words_at}
 use Rattle.fm_top_load.specs.Limits.{record_file_limit}
 use Rattle.fm_top_load.specs.Reached.{Reaches}
-use Rattle.fm_top_load.specs.Whole.{IsWhole}
+use Rattle.fm_top_load.specs.Reading.{ReadsSome}
+use Rattle.fm_top_load.specs.Whole.{IsWhole, TellsLoad}
+use Rattle.fm_top_load.specs.declared.load_fault.LoadFault.{LoadFault}
+use Rattle.fm_top_pooled.specs.declared.stock.Stock.{Stock}
+use Rattle.std.specs.Result.{result_err}
 use Rattle.fm_rule_facts.specs.Loans.{loans_of}
 use Rattle.fm_rule_facts.specs.Scarcity.{parts_before}
 use Rattle.fm_rule_facts.specs.Views.{View, IsKnown, IsSound, limit_of, state_in, unlent}
@@ -143,6 +148,12 @@ pub record HoldsWhole (arenas : ℕ) (told : Option Contents) (name : List ℕ) 
   pub stock : IsStock arenas pool p s
   pub whole : IsWhole told name (bytes_in_pool p s)
   pub short : length (bytes_in_pool p s) ≤ record_file_limit
+
+-- The file was read whole into a pool for so many arenas, or why it wasn't.
+pub record LoadsStock (arenas : ℕ) (old new : FilesView) (name : List ℕ) (result : Result Stock LoadFault) : Type 0 where
+  pub holds : IfOk result (λ s. HoldsWhole arenas old.holds name s.pool s.pass s.segment)
+  pub reads : ReadsSome old.reads new.reads name record_file_limit
+  pub tells : TellsLoad ⊥ record_file_limit old new name (result_err result)
 
 -- a file was read this far into the arena, which has the room still
 pub record ReadsIn (told : Option Contents) (name : List ℕ) (room : ℕ) (buffer : List ℕ) (pool : Pool) (a : ArenaId) (p : View) (r : Reached) : Type 0 where

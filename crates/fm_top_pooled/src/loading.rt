@@ -7,7 +7,7 @@ ghost use Rattle.fm_top_load.specs.Reached.{CanReadBehind, GoesBeyond};
 ghost use Rattle.fm_top_load.specs.Reading.{ReadsBehind, ReadsSome, ReadsUpTo};
 ghost use Rattle.fm_top_load.specs.Whole.{TellsLoad};
 ghost use Rattle.fm_rule_facts.specs.Views.{state_in};
-ghost use Rattle.fm_top_pooled.specs.Stocked.{AreArenas, HasRoomAmong, HasRoomIn, HoldsWhole, ReadsIn};
+ghost use Rattle.fm_top_pooled.specs.Stocked.{AreArenas, HasRoomAmong, HasRoomIn, HoldsWhole, LoadsStock, ReadsIn};
 
 use crate::shape::shape_for;
 use crate::stock::{Stock, stock_of_bytes};
@@ -38,12 +38,7 @@ pub fn load_stock<R: Wait, F: Files>(
     arenas: u32,
 ) -> Result<Stock, LoadFault>
     requires arenas { AreArenas arenas }
-    ensures holds { IfOk result (λ s.
-        HoldsWhole arenas (F.view files.old).holds name.now s.pool s.pass s.segment) }
-    ensures reads { ReadsSome (F.view files.old).reads (F.view files.new).reads name.now
-        RECORD_FILE_LIMIT }
-    ensures tells { TellsLoad ⊥ RECORD_FILE_LIMIT (F.view files.old) (F.view files.new) name.now
-        (result_err result) }
+    ensures { LoadsStock arenas (F.view files.old) (F.view files.new) name.now result }
 {
     match guess {
         Some(size) if 0 < size && size <= RECORD_FILE_LIMIT => {
@@ -62,12 +57,7 @@ fn load_list<R: Wait, F: Files>(
     arenas: u32,
 ) -> Result<Stock, LoadFault>
     requires arenas { AreArenas arenas }
-    ensures holds { IfOk result (λ s.
-        HoldsWhole arenas (F.view files.old).holds name.now s.pool s.pass s.segment) }
-    ensures reads { ReadsSome (F.view files.old).reads (F.view files.new).reads name.now
-        RECORD_FILE_LIMIT }
-    ensures tells { TellsLoad ⊥ RECORD_FILE_LIMIT (F.view files.old) (F.view files.new) name.now
-        (result_err result) }
+    ensures { LoadsStock arenas (F.view files.old) (F.view files.new) name.now result }
 {
     let bytes = match read_whole(alloc, files, name, RECORD_FILE_LIMIT) {
         Ok(bytes) => bytes,
@@ -90,85 +80,73 @@ fn load_guessed<R: Wait, F: Files>(
 ) -> Result<Stock, LoadFault>
     requires limit { size ≤ RECORD_FILE_LIMIT }
     requires arenas { AreArenas arenas }
-    ensures holds { IfOk result (λ s.
-        HoldsWhole arenas (F.view files.old).holds name.now s.pool s.pass s.segment) }
-    ensures reads { ReadsSome (F.view files.old).reads (F.view files.new).reads name.now
-        RECORD_FILE_LIMIT }
-    ensures tells { TellsLoad ⊥ RECORD_FILE_LIMIT (F.view files.old) (F.view files.new) name.now
-        (result_err result) }
+    ensures { LoadsStock arenas (F.view files.old) (F.view files.new) name.now result }
 {
     let Ok(mut buffer) = zero_bytes(alloc, CHUNK) else {
         return Err(LoadFault::Memory);
     };
-    let Ok((pool, pass, arena)) = made(rt, alloc, size, arenas) else {
+    let Ok(room) = made(rt, alloc, size, arenas) else {
         return Err(LoadFault::Memory);
     };
-    load_into_room(
-        rt,
-        alloc,
-        files,
-        name,
-        &mut buffer,
-        pool,
-        pass,
-        arena,
-        size,
-        arenas,
-    )
+    room.load(rt, alloc, files, name, &mut buffer, arenas)
 }
 
-/// Reads the file into the arena, which has room for so many bytes, or into another pool.
-fn load_into_room<R: Wait, F: Files>(
-    rt: &R,
-    alloc: Global,
-    files: &mut F,
-    name: &str,
-    buffer: &mut [u8],
+/// An arena that has given room for so many bytes, alone in its pool.
+#[derive(Drop)]
+struct Room {
     pool: Pool,
     pass: Pass,
     arena: ArenaId,
-    room: u64,
-    arenas: u32,
-) -> Result<Stock, LoadFault>
-    requires buffer { length buffer.old ≡ CHUNK }
-    requires room { HasRoomAmong arenas room pool pass arena }
-    requires arenas { AreArenas arenas }
-    ensures holds { IfOk result (λ s.
-        HoldsWhole arenas (F.view files.old).holds name.now s.pool s.pass s.segment) }
-    ensures reads { ReadsSome (F.view files.old).reads (F.view files.new).reads name.now
-        RECORD_FILE_LIMIT }
-    ensures tells { TellsLoad ⊥ RECORD_FILE_LIMIT (F.view files.old) (F.view files.new) name.now
-        (result_err result) }
-{
-    let (pass, reached) = match read_in(rt, files, name, buffer, &pool, pass, arena, room) {
-        Ok(read) => read,
-        Err(fault) => return Err(fault),
-    };
-    match reached {
-        Reached::End(count) => Ok(Stock {
+    size: u64,
+}
+
+impl Room {
+    /// Reads the file into the arena, or into another pool, where it has no room.
+    fn load<R: Wait, F: Files>(
+        self,
+        rt: &R,
+        alloc: Global,
+        files: &mut F,
+        name: &str,
+        buffer: &mut [u8],
+        arenas: u32,
+    ) -> Result<Stock, LoadFault>
+        requires buffer { length buffer.old ≡ CHUNK }
+        requires room { HasRoomAmong arenas self.size self.pool self.pass self.arena }
+        requires arenas { AreArenas arenas }
+        ensures { LoadsStock arenas (F.view files.old) (F.view files.new) name.now result }
+    {
+        let Room {
             pool,
             pass,
-            segment: Segment::of(arena, 0, count),
-        }),
-        Reached::Full(count, chunk) => {
-            let Ok(bytes) = taken_out(alloc, pool, pass, arena, count) else {
-                return Err(LoadFault::Memory);
-            };
-            load_longer(rt, alloc, files, name, buffer, chunk, bytes, arenas)
+            arena,
+            size,
+        } = self;
+        let (pass, reached) = match read_in(rt, files, name, buffer, &pool, pass, arena, size) {
+            Ok(read) => read,
+            Err(fault) => return Err(fault),
+        };
+        match reached {
+            Reached::End(count) => Ok(Stock {
+                pool,
+                pass,
+                segment: Segment::of(arena, 0, count),
+            }),
+            Reached::Full(count, chunk) => {
+                let Ok(bytes) = taken_out(alloc, pool, pass, arena, count) else {
+                    return Err(LoadFault::Memory);
+                };
+                load_longer(rt, alloc, files, name, buffer, chunk, bytes, arenas)
+            }
         }
     }
 }
 
 /// A pool for so many arenas, one of which has given so many bytes.
-fn made<R: Wait>(
-    rt: &R,
-    alloc: Global,
-    size: u64,
-    arenas: u32,
-) -> Result<(Pool, Pass, ArenaId), AllocError>
+fn made<R: Wait>(rt: &R, alloc: Global, size: u64, arenas: u32) -> Result<Room, AllocError>
     requires limit { size ≤ RECORD_FILE_LIMIT }
     requires arenas { AreArenas arenas }
-    ensures { IfOk result (λ r. HasRoomAmong arenas size r.0 r.1 r.2) }
+    ensures { IfOk result (λ r. HasRoomAmong arenas r.size r.pool r.pass r.arena) }
 {
     let shape = shape_for(size, arenas);
     let Ok((pool, mut pass)) = Pool::make(alloc, shape) else {
@@ -176,7 +154,12 @@ fn made<R: Wait>(
     };
     let arena = opened(rt, &pool, &mut pass);
     allocated(rt, &pool, &mut pass, arena, size);
-    Ok((pool, pass, arena))
+    Ok(Room {
+        pool,
+        pass,
+        arena,
+        size,
+    })
 }
 
 /// Reads the file to the start of the arena, up to its end or to the first chunk that has no room.

@@ -1,9 +1,10 @@
-ghost use Rattle.std.specs.Prelude.{◌≡◌, ◌%◌, ◌≤◌, length, IfOk};
+ghost use Rattle.std.specs.Prelude.{◌≡◌, ◌%◌, ◌≤◌, [], length, IfOk};
 ghost use Rattle.std.specs.Result.{result_err};
 ghost use Rattle.fm_top_load.specs.Reading.{ReadsSome};
 ghost use Rattle.fm_top_load.specs.Whole.{IsWhole, TellsLoad};
 ghost use Rattle.fm_top_pooled.specs.Asking.{IsCrew};
 ghost use Rattle.fm_top_pooled.specs.Shown.{ShowsBoth, ShowsQuery};
+ghost use Rattle.fm_top_pooled.specs.Stocked.{IsStocked, bytes_in_pool};
 ghost use Rattle.fm_records.specs.Answers.{answer};
 
 use crate::asking::ask;
@@ -98,6 +99,21 @@ impl Pooled {
         self.segment.size()
     }
 
+    /// The pool, its first pass, and where the bytes stand.
+    fn parts(self) -> (Pool, Pass, Segment)
+        ensures stocked { IsStocked result.0 result.1 result.2 }
+        ensures none_gathered { result.1.gathered ≡ [] }
+        ensures bytes { bytes_in_pool result.1 result.2 ≡ self }
+        ensures size { result.2.size ≡ length self }
+    {
+        let Pooled {
+            pool,
+            pass,
+            segment,
+        } = self;
+        (pool, pass, segment)
+    }
+
     /// What a query answers over the records, of which there is a whole number, by a crew of so many passes, each in a
     /// thread of its own where one can be started; and the pool, once it is finished.
     pub fn answer<R: Threads + Wait + Sync, G: Gate>(
@@ -113,11 +129,7 @@ impl Pooled {
         ensures answer { IfOk result (λ r. r.0 ≡ answer q.now self) }
         ensures shows { IfOk result (λ r. ShowsQuery r.1 q.now self) }
     {
-        let Pooled {
-            pool,
-            mut pass,
-            segment,
-        } = self;
+        let (pool, mut pass, segment) = self.parts();
         let found = ask(rt, alloc, &pool, &mut pass, &segment, q, threads, gate)?;
         let finished = finish(alloc, pool, pass, &segment)?;
         Ok((found, finished))
@@ -140,11 +152,7 @@ impl Pooled {
         ensures second { IfOk result (λ r. r.1 ≡ answer q.now self) }
         ensures shows { IfOk result (λ r. ShowsBoth r.2 p.now q.now self) }
     {
-        let Pooled {
-            pool,
-            mut pass,
-            segment,
-        } = self;
+        let (pool, mut pass, segment) = self.parts();
         let first = ask(rt, alloc, &pool, &mut pass, &segment, p, threads, gate)?;
         let second = ask(rt, alloc, &pool, &mut pass, &segment, q, threads, gate)?;
         let finished = finish(alloc, pool, pass, &segment)?;

@@ -38,12 +38,14 @@ pub can_go : {threads : ℕ} {p : Plan} (pool : Pool) (v : View) (most : ℕ) �
 can_go {threads} {p} pool v most can sized shape first sound is = record {
   alone = alone_still (begun pool (stream_shape threads) v shape first sound);
   begins = ap (λ (x : View). x.seen) first;
-  room = subst (λ n. n ≤ limit_of pool.shape) (sym is) (subst (λ z. chunk_size p.size ≤ limit_of z) (sym shape) (chunk_fits p.size));
-  any = subst (λ n. 0 < n) (sym is) (some_in_chunk p.size sized can.small);
-  sized = sized;
-  even = ap (λ n. n % p.size) is ∙ mul-mod_left (most_chunk / p.size) p.size;
-  some = can.some;
-  few = can.few;
+  asks = record {
+    room = subst (λ n. n ≤ limit_of pool.shape) (sym is) (subst (λ z. chunk_size p.size ≤ limit_of z) (sym shape) (chunk_fits p.size));
+    any = subst (λ n. 0 < n) (sym is) (some_in_chunk p.size sized can.small);
+    sized = sized;
+    even = ap (λ n. n % p.size) is ∙ mul-mod_left (most_chunk / p.size) p.size;
+    some = can.some;
+    few = can.few;
+  };
 }
 
 -- The answer, and the pool that gave it.

@@ -1,5 +1,5 @@
 -- A chunk that is put into the arena of a pass that is known to be whole.
-use Rattle.std.proofs.Common.{◌≡◌, ℕ, ◌≤◌, ◌<◌, List, ◌++◌, take, Option, ap, sym, ◌∙◌, subst, inr}
+use Rattle.std.proofs.Common.{◌≡◌, ◌≤◌, List, ◌++◌, Option, ap, sym, ◌∙◌, subst, inr}
 use Rattle.fm_base.specs.declared.arena_id.ArenaId.{ArenaId}
 use Rattle.fm_base.specs.Calls.{Entry}
 use Rattle.fm_base.specs.View.{given_in}
@@ -12,26 +12,25 @@ use Rattle.fm_rule.specs.Passes.{IsOf}
 use Rattle.fm_segment_access.specs.Alone.{bytes_of_arena}
 use Rattle.fm_top_load.specs.declared.chunk.Chunk.{Chunk}
 use Rattle.fm_top_load.specs.Held.{IsHeld}
-use Rattle.fm_top_load.specs.Reached.{PutsWithin}
-use Rattle.fm_top_load.specs.Whole.{IsCut}
+use Rattle.fm_top_load.specs.declared.chunk.Part.{Part}
+use Rattle.fm_top_load.specs.Reached.{HasChunk, PutsWithin}
 use Rattle.fm_top_pooled.specs.Stocked.{IsAlone}
 use Rattle.fm_top_pooled.proofs.Filed.{puts_stay}
 use Rattle.fm_top_pooled.proofs.Filling.{only_on, stay_lone}
 use Rattle.fm_top_stream.specs.Steps.{Fills}
 use Rattle.fm_top_stream.proofs.Going.{alone_still}
 
-module _ {limit most at : ℕ} {told : Option Contents} {name : List ℕ} {pool : Pool} {p m q r : View} {a : ArenaId} {chunk : Chunk} where
+module _ {part : Part} {told : Option Contents} {pool : Pool} {p m q r : View} {a : ArenaId} {chunk : Chunk} where
   -- Between the pass and its memory.
-  pub fills : IsAlone p.gathered pool p → most ≤ given_in (view_of_pass p) a → m ≡ p → PutsWithin (view_of_pass m) (view_of_pass q) a most
-      → r ≡ q → (IsOf pool q → IsOutside pool r) → IsSound r
-      → IsCut limit most told name at (take chunk.count (bytes_of_arena (state_in q) a)) chunk.ended → 0 < chunk.count → chunk.count ≤ most
-      → Fills limit most told name at pool p r a chunk
-  fills alone given is puts same outside sound cut some within =
+  pub fills : IsAlone p.gathered pool p → part.most ≤ given_in (view_of_pass p) a → m ≡ p → PutsWithin (view_of_pass m) (view_of_pass q) a part.most
+      → r ≡ q → (IsOf pool q → IsOutside pool r) → IsSound r → HasChunk part told (bytes_of_arena (state_in q) a) chunk
+      → Fills part told pool p r a chunk
+  fills alone given is puts same outside sound has =
       let did = puts.did in
-      let stays = puts_stay m.caller a most did.own did.does in
+      let stays = puts_stay m.caller a part.most did.own did.does in
       record {
         goes = record {
-          alone = alone_still (stay_lone pool p m q r a most did.own alone is did.makes stays given same outside sound);
+          alone = alone_still (stay_lone pool p m q r a part.most did.own alone is did.makes stays given same outside sound);
           more = did.own;
           seen = ap (λ (v : View). v.seen) same ∙ did.makes.told.seen
               ∙ ap (λ (es : List Entry). m.seen ++ es) (did.makes.alone (inr (ap (λ (v : View). v.whole) is ∙ alone.whole)))
@@ -40,7 +39,5 @@ module _ {limit most at : ℕ} {told : Option Contents} {name : List ℕ} {pool 
         held = subst (λ (v : View). IsHeld (view_of_pass v) a) (sym same) puts.still;
         given = ap (λ (v : View). given_in (view_of_pass v) a) same ∙ puts.given ∙ ap (λ (v : View). given_in (view_of_pass v) a) is;
         elsewhere = only_on p m q r a is puts.elsewhere same;
-        cut = subst (λ (v : View). IsCut limit most told name at (take chunk.count (bytes_of_arena (state_in v) a)) chunk.ended) (sym same) cut;
-        some = some;
-        within = within;
+        has = subst (λ (v : View). HasChunk part told (bytes_of_arena (state_in v) a) chunk) (sym same) has;
       }

@@ -1,5 +1,5 @@
 -- A stream goes on by one chunk, and ends.
-use Rattle.std.proofs.Common.{◌≡◌, ◌≢◌, ℕ, ◌+◌, ◌*◌, ◌/◌, ◌%◌, ◌^◌, ◌<◌, ◌≤◌, Bool, true, false, List, [], ◌∷◌, ◌++◌, length, map, take, Option, refl, ap, sym, ◌∙◌, subst, arith, append_assoc, length-append}
+use Rattle.std.proofs.Common.{◌≡◌, ℕ, ◌+◌, ◌*◌, ◌/◌, ◌%◌, ◌^◌, ◌<◌, ◌≤◌, Bool, true, false, List, [], ◌∷◌, ◌++◌, length, map, take, Option, refl, ap, sym, ◌∙◌, subst, arith, append_assoc, length-append}
 use Rattle.std.specs.List.{AllByRecursion, AllZip, range_with_len}
 use Rattle.std.proofs.Math.Nat.{mul-add-mod_self_right, mul-mod_left, zero-mod}
 use Rattle.std.proofs.lemmas.List.{append-nil, length-take-le}
@@ -27,17 +27,20 @@ use Rattle.fm_records.proofs.AnsweringBytes.{places_have}
 use Rattle.fm_records.proofs.Few.{few_join}
 use Rattle.fm_records.proofs.Joining.{answer-append}
 use Rattle.fm_top_load.specs.declared.chunk.Chunk.{Chunk}
+use Rattle.fm_top_load.specs.declared.chunk.Part.{Part}
 use Rattle.fm_top_load.specs.Held.{names_in}
 use Rattle.fm_top_load.specs.Reached.{IsNextPiece}
 use Rattle.fm_top_load.specs.Whole.{IsCut, IsWhole}
 use Rattle.fm_top_load.proofs.Chunks.{first_to_last}
+use Rattle.fm_top_load.proofs.Placing.{none_taken}
 use Rattle.fm_top_pooled.specs.Shown.{AsksWord, IsReadByOther}
 use Rattle.fm_top_pooled.specs.Stocked.{IsAlone, IsStockedOf, bytes_in_pool}
 use Rattle.fm_top_pooled.proofs.Filling.{held_room}
 use Rattle.fm_top_pooled.proofs.Shows.{pooled_is, read_in}
 use Rattle.fm_base_lists.proofs.Among.{among_left}
 use Rattle.fm_top_stream.specs.Chunks.{AreCut, all_bytes}
-use Rattle.fm_top_stream.specs.Gone.{GoneSoFar, GoneThrough, HasGone, IsRagged}
+use Rattle.fm_top_stream.specs.Gone.{CanAsk, GoesByChunk, GoneSoFar, GoneThrough, HasGone, IsRagged}
+use Rattle.fm_top_stream.specs.declared.gone.Gone.{Gone}
 use Rattle.fm_top_stream.specs.Shown.{ShowsChunk}
 use Rattle.fm_top_stream.specs.Steps.{Answers, CanClose, Closes, Fills, Gives, GoesOn, Opens}
 use Rattle.fm_top_stream.proofs.Going.{goes_then}
@@ -86,18 +89,18 @@ even_all most size (r ∷ runs) even none h =
 read_later : (es more : List Entry) (id : ArenaId) (word : ℕ) → IsReadByOther es id word → IsReadByOther (es ++ more) id word
 read_later es more id word read = read_in es (es ++ more) id word (λ e i. among_left e es more i) read
 
-module _ {limit most at : ℕ} {told : Option Contents} {name : List ℕ} {pool : Pool} {v u w x : View} {a : ArenaId} {chunk : Chunk}
-    (opens : Opens pool v u a) (gives : Gives pool u w a most) (fills : Fills limit most told name at pool w x a chunk) (room : most ≤ limit_of pool.shape) where
+module _ {part : Part} {told : Option Contents} {pool : Pool} {v u w x : View} {a : ArenaId} {chunk : Chunk}
+    (opens : Opens pool v u a) (gives : Gives pool u w a part.most) (fills : Fills part told pool w x a chunk) (room : part.most ≤ limit_of pool.shape) where
   fits : chunk.count ≤ length (bytes_of_arena (state_in x) a)
   fits =
       let limits : limit_of x.shape ≡ limit_of pool.shape = ap limit_of fills.goes.alone.outside.of.1 in
-      let within = fills.within in
+      let within = fills.has.within in
       held_room x a chunk.count fills.held (omega (arith, limits, within, room))
 
   pub long : length (take chunk.count (bytes_of_arena (state_in x) a)) ≡ chunk.count
   long = length-take-le chunk.count (bytes_of_arena (state_in x) a) fits
 
-  given_now : given_in (view_of_pass x) a ≡ most
+  given_now : given_in (view_of_pass x) a ≡ part.most
   given_now = fills.given ∙ gives.held.given_is
 
   -- It is a stock of the pool.
@@ -105,7 +108,7 @@ module _ {limit most at : ℕ} {told : Option Contents} {name : List ℕ} {pool 
   is_stocked s is =
       let alone = fills.goes.alone in
       let given = given_now in
-      let within = fills.within in
+      let within = fills.has.within in
       subst (λ (r : Region). IsStockedOf x.shape.passes pool x r) (sym is) (record {
         outside = alone.outside;
         sound = alone.sound;
@@ -194,15 +197,11 @@ module _ {limit most at : ℕ} {told : Option Contents} {name : List ℕ} {pool 
 
 -- ---- the file so far
 
--- A chunk that isn't the last is whole, and one with a rest is the last.
-module _ {limit most at : ℕ} {told : Option Contents} {name : List ℕ} (bytes : List ℕ) {ended : Bool} (cut : IsCut limit most told name at bytes ended) where
-  last_or_whole : ended ≢ true → length bytes ≡ most
-  last_or_whole other = cut.full (is_false ended other)
-    where
-      is_false : (b : Bool) → b ≢ true → b ≡ false
-      is_false true n = absurd (n refl)
-      is_false false n = refl
+is_true : (b : Bool) → ¬ (b ≡ false) → b ≡ true
+is_true true n = refl
+is_true false n = absurd (n refl)
 
+module _ {limit most at : ℕ} {told : Option Contents} {name : List ℕ} (bytes : List ℕ) {ended : Bool} (cut : IsCut limit most told name at bytes ended) where
   module _ (before : List ℕ) (count : length before ≡ at) (first : AreBytesFrom told name 0 before) where
     -- It comes behind what came before.
     pub first_more : AreBytesFrom told name 0 (before ++ bytes)
@@ -228,10 +227,6 @@ module _ {limit most at : ℕ} {told : Option Contents} {name : List ℕ} (bytes
       some = some;
     }
       where
-        is_true : (b : Bool) → ¬ (b ≡ false) → b ≡ true
-        is_true true n = refl
-        is_true false n = absurd (n refl)
-
         rest_of : (a b n : ℕ) → a % n ≡ 0 → (a + b) % n ≡ b % n
         rest_of a b n e =
             let whole : a ≡ a / n * n = sym (div-add-mod' a n) ∙ omega (arith, e) in
@@ -241,16 +236,8 @@ module _ {limit most at : ℕ} {told : Option Contents} {name : List ℕ} (bytes
 pub ends_here : {limit most at : ℕ} {told : Option Contents} {name buffer : List ℕ} {piece : Chunk} → IsNextPiece limit most told name at buffer piece
     → piece.count ≡ 0 → 0 < most → EndsBefore told name at
 ends_here {most = most} {at = at} {told = told} {name = name} {buffer = buffer} {piece = piece} next none some =
-    let short : length (take piece.count buffer) ≡ 0 = ap (λ n. length (take n buffer)) none ∙ ap length (take_none buffer) in
+    let short : length (take piece.count buffer) ≡ 0 = ap (λ n. length (take n buffer)) none ∙ ap length (none_taken buffer) in
     subst (EndsBefore told name) (omega (arith, short)) (next.bytes.ends (is_true piece.ended (λ f. let full = next.bytes.full f in omega (arith, full, short, some))))
-  where
-    take_none : (xs : List ℕ) → take 0 xs ≡ []
-    take_none [] = refl
-    take_none (x ∷ xs) = refl
-
-    is_true : (b : Bool) → ¬ (b ≡ false) → b ≡ true
-    is_true true n = refl
-    is_true false n = absurd (n refl)
 
 -- ---- the stream so far
 
@@ -316,43 +303,61 @@ module _ {told : Option Contents} {name : List ℕ} {most at : ℕ} {pool : Pool
 
 -- ---- the next chunk of a stream
 
-module _ {limit most at : ℕ} {told : Option Contents} {name : List ℕ} {pool : Pool} {v u w x : View} {a : ArenaId} {chunk : Chunk} {p : Plan} {was : List Found}
-    (opens : Opens pool v u a) (gives : Gives pool u w a most) (fills : Fills limit most told name at pool w x a chunk) (room : most ≤ limit_of pool.shape)
-    (so_far : GoneSoFar told name most at pool v p was) (some : 0 < p.size) (even : most % p.size ≡ 0) where
+module _ {part : Part} {told : Option Contents} {pool : Pool} {v u w x : View} {a : ArenaId} {chunk : Chunk} {threads : ℕ} {p : Plan} {was : List Found}
+    (opens : Opens pool v u a) (gives : Gives pool u w a part.most) (fills : Fills part told pool w x a chunk)
+    (so_far : GoneSoFar told part.name.now part.most part.at pool v p was) (asks : CanAsk part.most threads p pool) where
   -- It has so many bytes.
   count_is : length (take chunk.count (bytes_of_arena (state_in x) a)) ≡ chunk.count
-  count_is = long opens gives fills room
+  count_is = long opens gives fills asks.room
 
-  pub next_short : at + chunk.count ≤ limit
-  next_short = let short = fills.cut.short in omega (arith, short, count_is)
+  next_short : part.at + chunk.count ≤ part.limit
+  next_short = let short = fills.has.cut.short in omega (arith, short, count_is)
 
-  -- The file's last bytes may be no whole record.
-  pub next_ragged : {rest : ℕ} → rest ≡ chunk.count % p.size → 0 < rest → IsRagged limit told name p rest
-  next_ragged {rest} is any =
-      is_ragged (take chunk.count (bytes_of_arena (state_in x) a)) fills.cut (all_bytes so_far.runs) so_far.count so_far.first p rest (even_so_far so_far some even)
-      even (is ∙ ap (λ n. n % p.size) (sym count_is)) any
+  -- It is of whole records, if it isn't the last.
+  next_whole : chunk.ended ≡ false → chunk.count % p.size ≡ 0
+  next_whole goes = ap (λ n. n % p.size) (sym count_is ∙ fills.has.cut.full goes) ∙ asks.even
 
-  module _ (few : limit ≤ 2 ^ 62) {passes : ℕ} {y z : View} {s : Region} {found : List Found} (is : s ≡ region_of a 0 chunk.count)
+  -- It leaves a rest, so it is the last.
+  pub through_ragged : (g : Gone) → g.rest ≡ chunk.count % p.size → ¬ (g.rest ≡ 0) → GoesByChunk part told p pool g chunk
+  through_ragged g is other = record {
+    some = fills.has.some;
+    short = next_short;
+    ends = λ last. record {
+      whole = λ none. absurd (other none);
+      ragged = λ any. is_ragged (take chunk.count (bytes_of_arena (state_in x) a)) fills.has.cut (all_bytes so_far.runs) so_far.count so_far.first p g.rest
+          (even_so_far so_far asks.sized asks.even) asks.even (is ∙ ap (λ n. n % p.size) (sym count_is)) any;
+    };
+    even = λ goes. is ∙ next_whole goes;
+    on = λ goes. absurd (other (is ∙ next_whole goes));
+  }
+
+  module _ (few : part.limit ≤ 2 ^ 62) {passes : ℕ} {y z : View} {s : Region} {found : List Found} (is : s ≡ region_of a 0 chunk.count)
       (answers : Answers passes pool x y s p found) (closes : Closes pool y z a) where
     on : CanJoin was found × HasGone pool z p (so_far.runs ++ take chunk.count (bytes_of_arena (state_in x) a) ∷ []) (joined was found)
     on =
-        let short = fills.cut.short in
+        let short = fills.has.cut.short in
         let count = so_far.count in
-        gone_on opens gives fills room is answers closes so_far.runs was so_far.gone some (even_so_far so_far some even)
+        gone_on opens gives fills asks.room is answers closes so_far.runs was so_far.gone asks.sized (even_so_far so_far asks.sized asks.even)
         (omega (arith, count, short, count_is, few))
 
     pub next_joins : CanJoin was found
     next_joins = on.0
 
-    -- It is whole, and more may come.
-    pub next_gone : {now : List Found} → now ≡ joined was found → chunk.ended ≡ false → GoneSoFar told name most (at + chunk.count) pool z p now
-    next_gone {now} same goes =
-        subst (λ n. GoneSoFar told name most (at + n) pool z p now) count_is
-        (gone_more so_far (subst (HasGone pool z p (so_far.runs ++ take chunk.count (bytes_of_arena (state_in x) a) ∷ [])) (sym same) on.1) fills.cut goes)
-
-    -- It is the file's last.
-    pub next_last : {now : List Found} → now ≡ joined was found → chunk.ended ≡ true → chunk.count % p.size ≡ 0 → GoneThrough limit told name most pool z p now
-    next_last {now} same last whole =
-        let any = fills.some in
-        gone_last so_far (subst (HasGone pool z p (so_far.runs ++ take chunk.count (bytes_of_arena (state_in x) a) ∷ [])) (sym same) on.1) fills.cut last
-        (omega (arith, count_is, any)) some even (ap (λ n. n % p.size) count_is ∙ whole)
+    -- It is of whole records, and the file's last or one after which more may come.
+    pub through_whole : (g : Gone) → g.pass ≡ z → g.answer ≡ joined was found → g.rest ≡ chunk.count % p.size → g.rest ≡ 0 → GoesByChunk part told p pool g chunk
+    through_whole g here same rest none =
+        let any = fills.has.some in
+        let gone : HasGone pool g.pass p (so_far.runs ++ take chunk.count (bytes_of_arena (state_in x) a) ∷ []) g.answer =
+        subst (λ (v : View). HasGone pool v p (so_far.runs ++ take chunk.count (bytes_of_arena (state_in x) a) ∷ []) g.answer) (sym here)
+        (subst (HasGone pool z p (so_far.runs ++ take chunk.count (bytes_of_arena (state_in x) a) ∷ [])) (sym same) on.1) in
+        record {
+          some = any;
+          short = next_short;
+          ends = λ last. record {
+            whole = λ whole. gone_last so_far gone fills.has.cut last (omega (arith, count_is, any)) asks.sized asks.even
+                (ap (λ n. n % p.size) count_is ∙ sym rest ∙ none);
+            ragged = λ some. absurd (omega (arith, some, none));
+          };
+          even = λ goes. none;
+          on = λ goes. subst (λ n. GoneSoFar told part.name.now part.most (part.at + n) pool g.pass p g.answer) count_is (gone_more so_far gone fills.has.cut goes);
+        }

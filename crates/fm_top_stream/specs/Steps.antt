@@ -1,5 +1,5 @@
 -- What each step with a chunk's arena does, by the pool's first pass while it is known to be whole.
-use Rattle.std.specs.Prelude.{◌≡◌, ℕ, ◌<◌, ◌≤◌, List, ◌++◌, take, Option}
+use Rattle.std.specs.Prelude.{◌≡◌, ℕ, List, ◌++◌, Option}
 use Rattle.fm_base.specs.declared.arena_id.ArenaId.{ArenaId}
 use Rattle.fm_base.specs.declared.kind.Kind.TheVariants.{Shared}
 use Rattle.fm_base.specs.Arenas.{Alive, Ended, State, arena_of, has_arena}
@@ -17,7 +17,8 @@ use Rattle.fm_records.specs.Answers.{answer}
 use Rattle.fm_records.specs.Few.{AreFew}
 use Rattle.fm_top_load.specs.declared.chunk.Chunk.{Chunk}
 use Rattle.fm_top_load.specs.Held.{HoldsThen, IsHeld, OnlyIn, names_in, words_at}
-use Rattle.fm_top_load.specs.Whole.{IsCut}
+use Rattle.fm_top_load.specs.declared.chunk.Part.{Part}
+use Rattle.fm_top_load.specs.Reached.{HasChunk}
 use Rattle.fm_top_pooled.specs.Shown.{AreRead, AsksWord}
 use Rattle.fm_top_pooled.specs.Stocked.{HasOpened, IsAlone, IsStockedOf, bytes_in_pool}
 
@@ -38,15 +39,13 @@ pub record Gives (pool : Pool) (p q : View) (a : ArenaId) (size : ℕ) : Type 0 
   pub held : HoldsThen (view_of_pass q) a size (words_at (view_of_pass p) a)
   pub elsewhere : OnlyIn a (state_in p) (state_in q)
 
--- the file's next chunk was put there
-pub record Fills (limit most : ℕ) (told : Option Contents) (name : List ℕ) (at : ℕ) (pool : Pool) (p q : View) (a : ArenaId) (chunk : Chunk) : Type 0 where
+-- that part of the file was put there
+pub record Fills (part : Part) (told : Option Contents) (pool : Pool) (p q : View) (a : ArenaId) (chunk : Chunk) : Type 0 where
   pub goes : GoesOn pool p q
   pub held : IsHeld (view_of_pass q) a
   pub given : given_in (view_of_pass q) a ≡ given_in (view_of_pass p) a
   pub elsewhere : OnlyIn a (state_in p) (state_in q)
-  pub cut : IsCut limit most told name at (take chunk.count (bytes_of_arena (state_in q) a)) chunk.ended
-  pub some : 0 < chunk.count
-  pub within : chunk.count ≤ most
+  pub has : HasChunk part told (bytes_of_arena (state_in q) a) chunk
 
 -- there are the same arenas, and each has the life and the words that it had
 pub record Stand (s t : State) : Type 0 where

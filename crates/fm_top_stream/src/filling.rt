@@ -1,13 +1,9 @@
-ghost use Rattle.std.specs.Prelude.{◌≡◌, ◌<◌, ◌≤◌, ◌+◌, ℕ, List, Option, length, IfOk};
+ghost use Rattle.std.specs.Prelude.{◌≡◌, ◌+◌, length, IfOk};
 ghost use Rattle.std.specs.Result.{result_err};
-ghost use Rattle.fm_base.specs.View.{given_in};
-ghost use Rattle.fm_io.specs.Reads.{Read, ReadsFile};
 ghost use Rattle.fm_rule_calls.specs.Told.{view_of_pass};
-ghost use Rattle.fm_rule_facts.specs.Views.{limit_of};
-ghost use Rattle.fm_top_load.specs.Held.{IsHeld};
-ghost use Rattle.fm_top_load.specs.Reached.{IsNextPiece};
-ghost use Rattle.fm_top_load.specs.Reading.{GoesBy, piece_limit};
-ghost use Rattle.fm_top_load.specs.Whole.{CanRead, TellsLoad};
+ghost use Rattle.fm_top_load.specs.Reached.{CanLoadChunk};
+ghost use Rattle.fm_top_load.specs.Reading.{GoesBy, ReadsFurther};
+ghost use Rattle.fm_top_load.specs.Whole.{TellsLoad};
 ghost use Rattle.fm_top_pooled.specs.Stocked.{IsAlone};
 ghost use Rattle.fm_top_stream.specs.Steps.{Fills};
 
@@ -15,18 +11,14 @@ use fm_arena::Shared;
 use fm_base::ArenaId;
 use fm_io::Files;
 use fm_rule::{Pass, Pool};
-use fm_top_load::{CHUNK, Chunk, LoadFault, load_chunk};
+use fm_top_load::{CHUNK, Chunk, LoadFault, Part, load_chunk};
 use std::sync::Wait;
 
-/// Puts the file's next bytes to the start of the arena, which has given room for `most` of them. Their first piece lies
-/// in the buffer.
+/// Puts a part of the file to the start of the arena, which has given room for it. Its first piece lies in the buffer.
 pub(crate) fn filled<R: Wait, F: Files>(
     rt: &R,
     files: &mut F,
-    name: &str,
-    limit: u64,
-    at: u64,
-    most: u64,
+    part: &Part<'_>,
     buffer: &mut [u8],
     first: Chunk,
     pool: &Pool,
@@ -34,37 +26,17 @@ pub(crate) fn filled<R: Wait, F: Files>(
     arena: ArenaId,
 ) -> Result<(Pass, Chunk), LoadFault>
     requires alone { IsAlone pass.gathered pool.now pass }
-    requires held { IsHeld (view_of_pass pass) arena }
-    requires given { most ≤ given_in (view_of_pass pass) arena }
-    requires room { most ≤ limit_of pool.now.shape }
-    requires read { CanRead limit at buffer.old }
-    requires next { IsNextPiece limit most (F.view files.old).holds name.now at buffer.old first }
-    requires some { 0 < first.count }
-    requires any { 0 < most }
+    requires can { CanLoadChunk part.now (F.view files.old).holds buffer.old first (view_of_pass pass) arena }
     ensures buffer { length buffer.new ≡ CHUNK }
-    ensures fills { IfOk result (λ r.
-        Fills limit most (F.view files.old).holds name.now at pool.now pass r.0 arena r.1) }
-    ensures reads { (before : Option (List Read)) (from : ℕ)
-        → ReadsFile before (F.view files.old).reads name.now piece_limit (limit + 1) from
-        (GoesBy first.ended (at + first.count))
-        → ReadsFile before (F.view files.new).reads name.now piece_limit (limit + 1) from
-        (λ next. IfOk result (λ r. GoesBy r.1.ended (at + r.1.count) next)) }
-    ensures tells { TellsLoad ⊥ limit (F.view files.old) (F.view files.new) name.now
+    ensures fills { IfOk result (λ r. Fills part.now (F.view files.old).holds pool.now pass r.0 arena r.1) }
+    ensures reads { ReadsFurther (F.view files.old).reads (F.view files.new).reads part.now.name.now
+        part.now.limit (GoesBy first.ended (part.now.at + first.count))
+        (λ next. IfOk result (λ r. GoesBy r.1.ended (part.now.at + r.1.count) next)) }
+    ensures tells { TellsLoad ⊥ part.now.limit (F.view files.old) (F.view files.new) part.now.name.now
         (result_err result) }
 {
     let mut memory = Shared::new(pool, pass);
-    match load_chunk(
-        rt,
-        files,
-        name,
-        limit,
-        at,
-        most,
-        buffer,
-        first,
-        &mut memory,
-        arena,
-    ) {
+    match load_chunk(rt, files, part, buffer, first, &mut memory, arena) {
         Ok(chunk) => Ok((memory.into_pass(), chunk)),
         Err(fault) => Err(fault),
     }

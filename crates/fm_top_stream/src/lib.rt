@@ -13,9 +13,12 @@
 #![tactic(auto)]
 
 mod asking;
+mod chunk_through;
 mod closing;
+mod crew;
 mod filling;
 mod giving;
+mod gone;
 mod opening;
 mod shape;
 mod stream;

@@ -5,6 +5,7 @@ ghost use Rattle.fm_top_stream.specs.Faults.{TellsStream, fault_of_load};
 ghost use Rattle.fm_top_stream.specs.Shapes.{CanStream};
 ghost use Rattle.fm_top_stream.specs.Shown.{Streams};
 
+use crate::crew::Crew;
 use crate::shape::{chunk_bytes, shape_of};
 use crate::stream_fault::StreamFault;
 use crate::streaming::go_through;
@@ -52,19 +53,13 @@ pub fn stream_with<R: Threads + Wait + Sync, F: Files, G: Gate>(
         return Err(StreamFault::Memory);
     };
     let most = chunk_bytes(q);
-    let gone = match go_through(
-        rt,
-        alloc,
-        files,
-        name,
+    let crew = Crew {
+        pool: &pool,
         q,
-        most,
         threads,
         gate,
-        &mut buffer,
-        &pool,
-        pass,
-    ) {
+    };
+    let gone = match go_through(rt, alloc, files, name, most, &mut buffer, &crew, pass) {
         Ok(gone) => gone,
         Err(fault) => return Err(fault_of(fault)),
     };

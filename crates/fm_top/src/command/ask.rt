@@ -1,6 +1,6 @@
 ghost use Rattle.std.specs.Prelude.{◌≡◌, IfOk, IfSome, IfNone, List, ℕ};
 ghost use Rattle.fm_top_options.specs.Options.{lent, texts};
-ghost use Rattle.fm_top.specs.Words.{IsAsk, three};
+ghost use Rattle.fm_top.specs.Words.{IsAsk, question_word, three};
 
 use crate::command::question::Question;
 use crate::command::threaded::{Threaded, threaded_words};
@@ -17,18 +17,20 @@ pub struct AskCommand<'a> {
     pub file: &'a str,
 }
 
-/// What the words ask of records by this question.
+/// What the words ask of records by this question, whose command is this.
 pub fn ask_words<'a>(
     alloc: Global,
     words: &'a [String],
+    command: &str,
     question: Question,
 ) -> Result<Option<AskCommand<'a>>, AllocError>
+    requires { command.now ≡ question_word question }
     ensures found { IfOk result (λ found. IfSome found (λ ask.
         IsAsk (texts words.now) ask.question ask.threads ask.layout.now ask.text.now ask.file.now)) }
     ensures none { IfOk result (λ found. IfNone found ((threads : ℕ) (layout text file : List ℕ) →
         IsAsk (texts words.now) question threads layout text file → ⊥)) }
 {
-    match threaded_words(alloc, words, question.word())? {
+    match threaded_words(alloc, words, command)? {
         Some(said) => Ok(ask_by(question, &said)),
         None => Ok(None),
     }

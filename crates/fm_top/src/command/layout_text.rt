@@ -6,18 +6,3 @@ pub enum LayoutText {
     /// Its JSON in the version that may name types.
     Json,
 }
-
-impl LayoutText {
-    ghost use Rattle.std.specs.Prelude.{◌≡◌};
-    ghost use Rattle.fm_top.specs.Words.{layout_word};
-
-    /// The command by which it is asked for.
-    pub fn word(self) -> &'static str
-        ensures { result.now ≡ layout_word self }
-    {
-        match self {
-            LayoutText::Places => "layout",
-            LayoutText::Json => "migrate",
-        }
-    }
-}

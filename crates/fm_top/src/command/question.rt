@@ -8,19 +8,3 @@ pub enum Question {
     /// How often each number comes among the values of a path, which are bytes or booleans.
     Tally,
 }
-
-impl Question {
-    ghost use Rattle.std.specs.Prelude.{◌≡◌};
-    ghost use Rattle.fm_top.specs.Words.{question_word};
-
-    /// The command by which it is asked.
-    pub fn word(self) -> &'static str
-        ensures { result.now ≡ question_word self }
-    {
-        match self {
-            Question::Query => "query",
-            Question::Stream => "stream",
-            Question::Tally => "tally",
-        }
-    }
-}

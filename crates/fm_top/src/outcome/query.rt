@@ -1,6 +1,6 @@
-ghost use Rattle.std.specs.Prelude.{◌≡◌, ◌%◌, ◌≤◌, ℕ, List, Some, length, IfOk};
+ghost use Rattle.std.specs.Prelude.{◌≤◌, ℕ, List, Some, length, IfOk};
 ghost use Rattle.fm_top.specs.Ending.{shown};
-ghost use Rattle.fm_top.specs.Queries.{IsAnswered, PlanEnds};
+ghost use Rattle.fm_top.specs.Queries.{PlanEnds};
 ghost use Rattle.fm_top.specs.Words.{AreThreads};
 ghost use Rattle.fm_top.specs.declared.command.question.Question.TheVariants as question;
 
@@ -34,22 +34,6 @@ pub fn queried_ending<'a, R: Threads + Wait + Sync, G: Gate>(
     if rest != 0 {
         return Ending::ragged(alloc, rest);
     }
-    query_answer(rt, alloc, pooled, q, threads, gate)
-}
-
-/// What the query answers over a whole number of records.
-fn query_answer<'a, R: Threads + Wait + Sync, G: Gate>(
-    rt: &R,
-    alloc: Global,
-    pooled: Pooled,
-    q: Query,
-    threads: u32,
-    gate: &G,
-) -> Result<Ending<'a>, AllocError>
-    requires even { length pooled % q.size ≡ 0 }
-    requires threads { AreThreads threads }
-    ensures { IfOk result (λ ending. IsAnswered question.Query threads q pooled (shown ending)) }
-{
     let (answer, finished) = pooled.answer(rt, alloc, &q, threads, gate)?;
     Ok(Ending::answered_by_pool(Output::Answer(Answered { query: q, answer }), finished))
 }

@@ -1,6 +1,6 @@
-ghost use Rattle.std.specs.Prelude.{◌≡◌, ◌%◌, ◌≤◌, ℕ, List, Some, length, IfOk};
+ghost use Rattle.std.specs.Prelude.{◌≤◌, ℕ, List, Some, length, IfOk};
 ghost use Rattle.fm_top.specs.Ending.{shown};
-ghost use Rattle.fm_top.specs.Queries.{IsAnswered, PlanEnds};
+ghost use Rattle.fm_top.specs.Queries.{PlanEnds};
 ghost use Rattle.fm_top.specs.Words.{AreThreads};
 ghost use Rattle.fm_top.specs.declared.command.question.Question.TheVariants as question;
 ghost use Rattle.fm_workers.specs.Counts.{IsTally};
@@ -36,23 +36,6 @@ pub fn tallied_ending<'a, R: Threads + Wait + Sync, G: Gate>(
     if rest != 0 {
         return Ending::ragged(alloc, rest);
     }
-    tally_answer(rt, alloc, pooled, q, threads, gate)
-}
-
-/// How often each number comes that the query lists over a whole number of records.
-fn tally_answer<'a, R: Threads + Wait + Sync, G: Gate>(
-    rt: &R,
-    alloc: Global,
-    pooled: PooledWithCounts,
-    q: &Query,
-    threads: u32,
-    gate: &G,
-) -> Result<Ending<'a>, AllocError>
-    requires even { length pooled % q.now.size ≡ 0 }
-    requires threads { AreThreads threads }
-    requires tally { IsTally q.now }
-    ensures { IfOk result (λ ending. IsAnswered question.Tally threads q.now pooled (shown ending)) }
-{
     let (counts, finished) = pooled.tally(rt, alloc, q, threads, gate)?;
     match print_counts(alloc, &counts) {
         Ok(text) => Ok(Ending::answered_by_pool(Output::Whole(text), finished)),

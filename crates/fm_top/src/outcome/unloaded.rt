@@ -1,5 +1,5 @@
-ghost use Rattle.std.specs.Prelude.{◌≡◌, ◌≢◌, ◌↔◌, IfOk, IsOk, Err};
-ghost use Rattle.fm_top.specs.Ending.{EndsUnloaded, shown};
+ghost use Rattle.std.specs.Prelude.{◌≢◌};
+ghost use Rattle.fm_top.specs.Ending.{IsUnloaded};
 
 use crate::outcome::ending::Ending;
 use fm_io::Fault;
@@ -13,9 +13,7 @@ pub fn unloaded_ending<'a>(
     fault: LoadFault,
 ) -> Result<Ending<'a>, Fault>
     requires { fault ≢ LoadFault.PoolFull }
-    ensures ending { IfOk result (λ ending. EndsUnloaded fault file.now (shown ending)) }
-    ensures told { fault ≡ LoadFault.Missing → IsOk result }
-    ensures failed { (result ≡ Err Fault.Failed) ↔ (fault ≡ LoadFault.Failed) }
+    ensures { IsUnloaded fault file.now result }
 {
     match fault {
         LoadFault::Missing => Ok(Ending::missing(file)),

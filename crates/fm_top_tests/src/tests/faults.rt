@@ -99,26 +99,40 @@ where
     Ok(())
 }
 
-#[test]
-fn each_read_that_fails_ends_its_run(rt: HostRuntime) -> Result<(), Fail> {
+/// Which calls of a run fail, one of them in each repetition.
+#[derive(Clone, Copy)]
+enum Failing {
+    Reads,
+    Writes,
+}
+
+/// Compares how each run ends where each of these calls fails, and where none does.
+fn ends_at_each<R>(rt: &R, failing: Failing) -> Result<(), Fail>
+where
+    R: Threads + Wait + Sync + RandomSource + AllocGlobal + Abort,
+{
     for row in RUNS.lines() {
-        let (reads, _) = sizes_of(rt.alloc(), row)?;
-        // In the last run no read fails.
-        for k in 0..=reads {
-            ends_at(&rt, row, k, u64::MAX)?;
+        let (reads, size) = sizes_of(rt.alloc(), row)?;
+        let count = match failing {
+            Failing::Reads => reads,
+            Failing::Writes => size,
+        };
+        for k in 0..=count {
+            match failing {
+                Failing::Reads => ends_at(rt, row, k, u64::MAX)?,
+                Failing::Writes => ends_at(rt, row, u64::MAX, k)?,
+            }
         }
     }
     Ok(())
 }
 
 #[test]
+fn each_read_that_fails_ends_its_run(rt: HostRuntime) -> Result<(), Fail> {
+    ends_at_each(&rt, Failing::Reads)
+}
+
+#[test]
 fn each_write_that_fails_leaves_the_bytes_before_it(rt: HostRuntime) -> Result<(), Fail> {
-    for row in RUNS.lines() {
-        let (_, size) = sizes_of(rt.alloc(), row)?;
-        // In the last run no write fails.
-        for k in 0..=size {
-            ends_at(&rt, row, u64::MAX, k)?;
-        }
-    }
-    Ok(())
+    ends_at_each(&rt, Failing::Writes)
 }

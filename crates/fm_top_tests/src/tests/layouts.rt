@@ -1,7 +1,12 @@
-use crate::tests::endings::{line_ends, parts_of, rows_end};
-use crate::tests::texts::{ends_at_limit, one_text, text_ends};
+use crate::tests::endings::{line_ends, rows_end};
+use crate::tests::texts::{contents_end, ends_at_limit, one_text, text_ends};
 use fm_top::LAYOUT_FILE_LIMIT;
+use std::alloc::AllocGlobal;
+use std::process::Abort;
+use std::random::RandomSource;
+use std::sync::Wait;
 use std::test::Fail;
+use std::thread::Threads;
 
 /// A record of an id, a kind, a price and four tags, as a user writes it.
 pub const SALE: &str =
@@ -33,29 +38,35 @@ const LAYOUTS: &str = "\
 
 #[test]
 fn each_layout_is_listed_or_refused(rt: HostRuntime) -> Result<(), Fail> {
-    text_ends(&rt, ("L", SALE), "layout L", 0, LISTING)?;
-    for row in LAYOUTS.lines() {
-        let (layout, status, text) = parts_of(rt.alloc(), row)?;
-        let layout = layout.replace(rt.alloc(), "'", "\"")?;
-        text_ends(&rt, ("L", &layout), "layout L", status, &text)?;
-    }
-    Ok(())
+    text_ends(&rt, ("L", SALE), ("layout L", 0, LISTING))?;
+    contents_end(&rt, "L", "layout L", LAYOUTS, ("'", "\""))
 }
 
-/// Words that ask for no layout, and how they end.
+/// Words that ask for no layout, where a star stands for the command, and how they end.
 const NO_LAYOUTS: &str = "\
-layout -> 1 usage|
-layout L L -> 1 usage|
-layout -L -> 1 usage|
-layout - -> 1 usage|
+* -> 1 usage|
+* L L -> 1 usage|
+* -L -> 1 usage|
+* - -> 1 usage|
+* --threads 2 L -> 1 usage|
 Layout L -> 1 usage|
+Migrate L -> 1 usage|
 list L -> 1 usage|
-layout nofile -> 2 missing nofile|
-layout  -> 2 missing |";
+* nofile -> 2 missing nofile|
+*  -> 2 missing |";
+
+/// Compares how these words end for this command with what is told.
+pub fn no_layouts_end<R>(rt: &R, command: &str) -> Result<(), Fail>
+where
+    R: Threads + Wait + Sync + RandomSource + AllocGlobal + Abort,
+{
+    let table = NO_LAYOUTS.replace(rt.alloc(), "*", command)?;
+    rows_end(rt, &mut one_text(rt.alloc(), "L", SALE, 1)?, &table)
+}
 
 #[test]
 fn words_that_ask_for_no_layout_are_usage(rt: HostRuntime) -> Result<(), Fail> {
-    rows_end(&rt, &mut one_text(rt.alloc(), "L", SALE, 1)?, NO_LAYOUTS)
+    no_layouts_end(&rt, "layout")
 }
 
 #[test]

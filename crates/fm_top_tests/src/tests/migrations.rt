@@ -1,7 +1,7 @@
-use crate::tests::endings::{line_ends, parts_of, rows_end};
+use crate::tests::endings::line_ends;
 use crate::tests::files::{named, text_file};
-use crate::tests::layouts::SALE;
-use crate::tests::texts::{ends_at_limit, one_text, text_ends};
+use crate::tests::layouts::no_layouts_end;
+use crate::tests::texts::{contents_end, ends_at_limit, one_text};
 use fm_io::MemFiles;
 use fm_top::LAYOUT_FILE_LIMIT;
 use std::test::Fail;
@@ -11,6 +11,14 @@ const LINE: &str =
     "{\"version\":2,\"types\":[{\"define\":\"p\",\"layout\":{\"type\":\"struct\",\"members\":[{\"type\":\"int\",\"name\":\"x\"},\
     {\"type\":\"int\",\"name\":\"y\"}]}}],\"layout\":{\"type\":\"struct\",\"members\":[{\"type\":\"ref\",\"of\":\"p\",\"name\":\"from\"},\
     {\"type\":\"ref\",\"of\":\"p\",\"name\":\"to\"}]}}";
+
+/// What it comes to.
+const LINE_MIGRATED: &str =
+    "{\"layout\":{\"members\":[{\"members\":[{\"name\":\"x\",\"type\":\"int\"},{\"name\":\"y\",\"type\":\"int\"}],\"name\":\"from\",\"type\":\"struct\"},{\"members\":[{\"name\":\"x\",\"type\":\"int\"},{\"name\":\"y\",\"type\":\"int\"}],\"name\":\"to\",\"type\":\"struct\"}],\"type\":\"struct\"},\"types\":[],\"version\":2}";
+
+/// What is printed of either.
+const LISTING: &str =
+    "size 16\nalignment 4\n.from.x 0 int little\n.from.y 4 int little\n.to.x 8 int little\n.to.y 12 int little\n";
 
 /// Layouts that have `'` for each quotation mark, and how their migrations end.
 const MIGRATED: &str = "\
@@ -27,27 +35,16 @@ const MIGRATED: &str = "\
 
 #[test]
 fn each_layout_is_migrated_or_refused(rt: HostRuntime) -> Result<(), Fail> {
-    let alloc = rt.alloc();
-    for row in MIGRATED.lines() {
-        let (layout, status, text) = parts_of(alloc, row)?;
-        let layout = layout.replace(alloc, "'", "\"")?;
-        let text = text.replace(alloc, "'", "\"")?;
-        text_ends(&rt, ("L", &layout), "migrate L", status, &text)?;
-    }
-    Ok(())
+    contents_end(&rt, "L", "migrate L", MIGRATED, ("'", "\""))
 }
 
 #[test]
 fn what_is_migrated_is_the_same_layout(rt: HostRuntime) -> Result<(), Fail> {
     let alloc = rt.alloc();
-    let listing =
-        "size 16\nalignment 4\n.from.x 0 int little\n.from.y 4 int little\n.to.x 8 int little\n.to.y 12 int little\n";
-    let migrated =
-        "{\"layout\":{\"members\":[{\"members\":[{\"name\":\"x\",\"type\":\"int\"},{\"name\":\"y\",\"type\":\"int\"}],\"name\":\"from\",\"type\":\"struct\"},{\"members\":[{\"name\":\"x\",\"type\":\"int\"},{\"name\":\"y\",\"type\":\"int\"}],\"name\":\"to\",\"type\":\"struct\"}],\"type\":\"struct\"},\"types\":[],\"version\":2}";
-    for layout in [LINE, migrated] {
+    for layout in [LINE, LINE_MIGRATED] {
         let mut files = one_text(alloc, "L", layout, usize::MAX)?;
-        line_ends(&rt, &mut files, "layout L", 0, listing)?;
-        let mut again = String::from_str(alloc, migrated)?;
+        line_ends(&rt, &mut files, "layout L", 0, LISTING)?;
+        let mut again = String::from_str(alloc, LINE_MIGRATED)?;
         again.push('\n')?;
         line_ends(&rt, &mut files, "migrate L", 0, &again)?;
     }
@@ -73,20 +70,9 @@ fn records_are_queried_by_named_types(rt: HostRuntime) -> Result<(), Fail> {
     Ok(())
 }
 
-/// Words that ask for no migration, and how they end.
-const NO_MIGRATIONS: &str = "\
-migrate -> 1 usage|
-migrate L L -> 1 usage|
-migrate -L -> 1 usage|
-migrate - -> 1 usage|
-Migrate L -> 1 usage|
-migrate --threads 2 L -> 1 usage|
-migrate nofile -> 2 missing nofile|
-migrate  -> 2 missing |";
-
 #[test]
 fn words_that_ask_for_no_migration_are_usage(rt: HostRuntime) -> Result<(), Fail> {
-    rows_end(&rt, &mut one_text(rt.alloc(), "L", SALE, 1)?, NO_MIGRATIONS)
+    no_layouts_end(&rt, "migrate")
 }
 
 #[test]

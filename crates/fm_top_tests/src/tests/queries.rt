@@ -108,20 +108,30 @@ fn each_query_is_answered_in_pieces_of_every_size(rt: HostRuntime) -> Result<(),
     texts_end(&rt, "query", QUERIES)
 }
 
-/// Layouts of which no records are. Each is refused before the text, and the record file isn't read.
+/// Layouts of which no records are, where a star stands for the command. Each is refused before the text, and the record
+/// file isn't read.
 const NO_RECORDS: &str = "\
-query nolayout count nofile -> 2 missing nolayout|
-query nolayout count, nofile -> 2 missing nolayout|
-query Broken count nofile -> 4 layout refused 40|
-query Broken count, nofile -> 4 layout refused 40|
-query Void count nofile -> 4 layout refused 25|
-query Void count, nofile -> 4 layout refused 25|
-query Uneven count nofile -> 4 layout refused 22|
-query Uneven count, nofile -> 4 layout refused 22|";
+* nolayout count nofile -> 2 missing nolayout|
+* nolayout count, nofile -> 2 missing nolayout|
+* Broken count nofile -> 4 layout refused 40|
+* Broken count, nofile -> 4 layout refused 40|
+* Void count nofile -> 4 layout refused 25|
+* Void count, nofile -> 4 layout refused 25|
+* Uneven count nofile -> 4 layout refused 22|
+* Uneven count, nofile -> 4 layout refused 22|";
+
+/// Compares how this command ends over these layouts with what is told.
+pub fn no_records_end<R>(rt: &R, command: &str) -> Result<(), Fail>
+where
+    R: Threads + Wait + Sync + RandomSource + AllocGlobal + Abort,
+{
+    let table = NO_RECORDS.replace(rt.alloc(), "*", command)?;
+    rows_end(rt, &mut files(rt.alloc(), &[], usize::MAX)?, &table)
+}
 
 #[test]
 fn a_layout_of_no_records_is_refused(rt: HostRuntime) -> Result<(), Fail> {
-    rows_end(&rt, &mut files(rt.alloc(), &[], usize::MAX)?, NO_RECORDS)
+    no_records_end(&rt, "query")
 }
 
 /// Words with the option in each place, and how they end.
@@ -175,8 +185,7 @@ query -h -> 1 usage|
 query --version -> 1 usage|
 query --help L1 count R1 -> 1 usage|
 --threads 2 query L1 count R1 -> 1 usage|
-Query L1 count R1 -> 1 usage|
-Stream L1 count R1 -> 1 usage|";
+Query L1 count R1 -> 1 usage|";
 
 #[test]
 fn the_option_stands_anywhere_and_once(rt: HostRuntime) -> Result<(), Fail> {

@@ -1,6 +1,6 @@
 use crate::tests::endings::{parts_of, rows_end, run};
 use crate::tests::keeping::run_at;
-use crate::tests::texts::{ends_at_limit, one_text, text_ends};
+use crate::tests::texts::{contents_end, ends_at_limit, one_text, text_ends};
 use fm_io::MemSink;
 use fm_script_report::print_report;
 use fm_top::{Kept, SCRIPT_FILE_LIMIT};
@@ -29,13 +29,8 @@ pool 1 1 8 1000 1|first open a shared|first hold a h|first hold a k|first unhold
 
 #[test]
 fn each_script_is_run_or_refused(rt: HostRuntime) -> Result<(), Fail> {
-    text_ends(&rt, ("S", TWICE), "run S", 0, TWICE_REPORT)?;
-    for row in SCRIPTS.lines() {
-        let (script, status, text) = parts_of(rt.alloc(), row)?;
-        let script = script.replace(rt.alloc(), "|", "\n")?;
-        text_ends(&rt, ("S", &script), "run S", status, &text)?;
-    }
-    Ok(())
+    text_ends(&rt, ("S", TWICE), ("run S", 0, TWICE_REPORT))?;
+    contents_end(&rt, "S", "run S", SCRIPTS, ("|", "\n"))
 }
 
 #[test]

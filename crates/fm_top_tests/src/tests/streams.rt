@@ -1,7 +1,7 @@
 use crate::tests::endings::{ends, line_ends, parts_of, rows_end};
 use crate::tests::files::{named, repeating, text_file, zeros};
 use crate::tests::gates::passes;
-use crate::tests::queries::{QUERIES, files, parts_end, reads_end, texts_end};
+use crate::tests::queries::{QUERIES, files, no_records_end, parts_end, reads_end, texts_end};
 use fm_io::{SureFiles, SureSink};
 use fm_io_gates::{Meeting, Order};
 use fm_top::{Kept, RECORD_FILE_LIMIT, run_tool};
@@ -19,8 +19,12 @@ fn a_part_of_a_stream_is_counted_or_ragged(rt: HostRuntime) -> Result<(), Fail> 
     parts_end(&rt, "stream")
 }
 
-/// Words of streams, and how they end: with as many threads as one likes, with none, and over layouts of no records, which
-/// are refused before the text.
+#[test]
+fn a_stream_over_a_layout_of_no_records_is_refused(rt: HostRuntime) -> Result<(), Fail> {
+    no_records_end(&rt, "stream")
+}
+
+/// Words of streams, and how they end: with as many threads as one likes, and with none.
 const STREAMS: &str = "\
 stream --threads 1 L1 list(.tags[]) R1 -> 0 list(.tags[]) 1 2 3 4 5 0 0 -1|
 stream L1 list(.tags[]) R1 --threads=2 -> 0 list(.tags[]) 1 2 3 4 5 0 0 -1|
@@ -28,12 +32,6 @@ stream --threads 8 -- L1 list(.tags[]) R1 -> 0 list(.tags[]) 1 2 3 4 5 0 0 -1|
 stream L1 --threads 16 list(.tags[]) R1 -> 0 list(.tags[]) 1 2 3 4 5 0 0 -1|
 stream --threads 16 L1 count,sum(.price) E -> 0 count 0|sum(.price) 0|
 stream --threads 16 L1 count Ragged -> 6 ragged 1|
-stream nolayout count nofile -> 2 missing nolayout|
-stream nolayout count, nofile -> 2 missing nolayout|
-stream Broken count nofile -> 4 layout refused 40|
-stream Broken count, nofile -> 4 layout refused 40|
-stream Void count nofile -> 4 layout refused 25|
-stream Uneven count, nofile -> 4 layout refused 22|
 stream L1 -- -- R1 -> 5 query refused 50 0|
 stream L1 count -- -R1 -> 2 missing -R1|
 stream -> 1 usage|
@@ -135,26 +133,26 @@ fn sequence_of(alloc: Global, count: usize) -> Result<(String, Vec<u8>), AllocEr
 /// How many bytes a record and the file have, and how runs over them end. A record of more bytes than a chunk is refused
 /// before the text, whatever the file.
 const WIDE: &str = "\
-1048576 2097152 stream L count R -> 0 count 2|
-1048576 2097152 stream --threads 8 L count,sum([]) R -> 0 count 2|sum([]) 0|
-1048576 1048577 stream L count R -> 6 ragged 1|
-1048576 1048575 stream L count R -> 6 ragged 1048575|
-1048577 1048577 stream L count R -> 4 layout refused 20|
-1048577 0 stream L count, R -> 4 layout refused 20|
-1048577 0 stream L count nofile -> 4 layout refused 20|
-1048577 1048577 query L count R -> 0 count 1|
-1048577 0 query L count, R -> 5 query refused 50 6|";
+1048576 2097152: stream L count R -> 0 count 2|
+1048576 2097152: stream --threads 8 L count,sum([]) R -> 0 count 2|sum([]) 0|
+1048576 1048577: stream L count R -> 6 ragged 1|
+1048576 1048575: stream L count R -> 6 ragged 1048575|
+1048577 1048577: stream L count R -> 4 layout refused 20|
+1048577 0: stream L count, R -> 4 layout refused 20|
+1048577 0: stream L count nofile -> 4 layout refused 20|
+1048577 1048577: query L count R -> 0 count 1|
+1048577 0: query L count, R -> 5 query refused 50 6|";
 
 #[test]
 fn a_record_has_room_in_a_chunk_or_is_refused(rt: HostRuntime) -> Result<(), Fail> {
     let alloc = rt.alloc();
     for row in WIDE.lines() {
-        let (size, row) = row.split_once(' ').unwrap_or((row, ""));
-        let (count, row) = row.split_once(' ').unwrap_or((row, ""));
+        let (run, status, text) = parts_of(alloc, row)?;
+        let (sizes, line) = run.split_once(": ").unwrap_or((run, ""));
+        let (size, count) = sizes.split_once(' ').unwrap_or((sizes, ""));
         let layout = sequence_of(alloc, size.parse().unwrap_or(0))?;
         let records = named(alloc, "R", zeros(alloc, count.parse().unwrap_or(0))?)?;
         let mut files = SureFiles::new(vec![in alloc; layout, records]?);
-        let (line, status, text) = parts_of(alloc, row)?;
         line_ends(&rt, &mut files, line, status, &text)?;
     }
     Ok(())

@@ -1,5 +1,5 @@
 //! Runs on one file of text.
-use crate::tests::endings::line_ends;
+use crate::tests::endings::{line_ends, parts_of};
 use crate::tests::files::{named, text_file};
 use fm_io::{MemFiles, SureFiles};
 use std::alloc::{AllocError, AllocGlobal, Global};
@@ -21,20 +21,36 @@ pub fn one_text(
 }
 
 /// Compares how the run on a line ends with what is wanted, where the file has this name and text, in pieces of every size.
-pub fn text_ends<R>(
-    rt: &R,
-    file: (&str, &str),
-    line: &str,
-    status: u8,
-    text: &str,
-) -> Result<(), Fail>
+pub fn text_ends<R>(rt: &R, file: (&str, &str), run: (&str, u8, &str)) -> Result<(), Fail>
 where
     R: Threads + Wait + Sync + RandomSource + AllocGlobal + Abort,
 {
     let (name, content) = file;
+    let (line, status, text) = run;
     for most in [1, 7, usize::MAX] {
         let mut files = one_text(rt.alloc(), name, content, most)?;
         line_ends(rt, &mut files, line, status, text)?;
+    }
+    Ok(())
+}
+
+/// Compares how the run on a line ends for each row of a text, in which one mark stands for another, and for this name.
+pub fn contents_end<R>(
+    rt: &R,
+    name: &str,
+    line: &str,
+    table: &str,
+    marks: (&str, &str),
+) -> Result<(), Fail>
+where
+    R: Threads + Wait + Sync + RandomSource + AllocGlobal + Abort,
+{
+    let (mark, meant) = marks;
+    for row in table.lines() {
+        let (content, status, text) = parts_of(rt.alloc(), row)?;
+        let content = content.replace(rt.alloc(), mark, meant)?;
+        let text = text.replace(rt.alloc(), mark, meant)?;
+        text_ends(rt, (name, &content), (line, status, &text))?;
     }
     Ok(())
 }

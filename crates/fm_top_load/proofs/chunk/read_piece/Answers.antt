@@ -19,5 +19,5 @@ pub returns-clause-reads : goal.returns-clause-reads
 returns-clause-reads g c =
     let n = c.in-Ok.count in
     filled_reads c.in-Ok.ensures.reads (omega arith) (omega (arith, length-take {A = ℕ})) (omega (arith, length-take {A = ℕ}))
-    (λ next goes. goes_by _ _ c.min-room.result n (c.args.at + n) next (omega (arith, length-take {A = ℕ}))
+    (λ next goes. goes_by _ _ c.min-room.result n (c.args.part.now.at + n) next (omega (arith, length-take {A = ℕ}))
     (omega (arith, length-take {A = ℕ}, c.in-Ok.ensures.filled.count)) (omega arith) goes)

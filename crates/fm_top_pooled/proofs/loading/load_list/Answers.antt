@@ -1,6 +1,9 @@
 use Rattle.fm_top_pooled.proofs.Filed.{list_stands}
 use Rattle.fm_top_pooled.proofs.loading.load_list.Goals as goal
 
-pub returns-in-Ok-stock_of_bytes-clause-holds : goal.returns-in-Ok-stock_of_bytes-clause-holds
-returns-in-Ok-stock_of_bytes-clause-holds g c =
-    list_stands c.in-Ok-stock_of_bytes.ensures.stock c.in-Ok-stock_of_bytes.ensures.bytes c.in-Ok.ensures.whole c.in-Ok.ensures.short
+pub returns-in-Ok-stock_of_bytes : goal.returns-in-Ok-stock_of_bytes
+returns-in-Ok-stock_of_bytes g c = record {
+  holds = list_stands c.in-Ok-stock_of_bytes.ensures.stock c.in-Ok-stock_of_bytes.ensures.bytes c.in-Ok.ensures.whole c.in-Ok.ensures.short;
+  reads = c.in-Ok.ensures.reads;
+  tells = c.in-Ok.ensures.tells;
+}

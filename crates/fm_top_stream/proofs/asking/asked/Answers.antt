@@ -6,7 +6,7 @@ pub loop-init : goal.loop-init
 loop-init g c = awaits_none c.requires.alone c.requires.stocked
 
 pub query_with-requires-after_bounds : goal.query_with-requires-after_bounds
-query_with-requires-after_bounds g c κs within = can_ask c.args.q.now c.args.threads c.loop.invariant.stocked c.requires.some c.requires.few
+query_with-requires-after_bounds g c κs within = can_ask c.args.crew.now.q.now c.args.crew.now.threads c.loop.invariant.stocked c.requires.some c.requires.few
 
 pub loop-preserved : goal.loop-preserved
 loop-preserved g c = awaits_more c.loop.invariant c.query_with.ensures.queried c.query_with.ensures.outside

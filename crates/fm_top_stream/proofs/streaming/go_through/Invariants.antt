@@ -14,7 +14,8 @@ invariant-chunks g l =
     record {
       buffer : length l.buffer ≡ piece_limit;
       short : l.at ≤ stream_file_limit;
-      gone : GoneSoFar old.holds l.name l.most l.at l.pool l.pass l.q l.answer;
+      gone : GoneSoFar old.holds l.name l.most l.at l.crew.pool.now l.gone.pass l.crew.q.now l.gone.answer;
+      none : l.gone.rest ≡ 0;
       reads : ReadsUpTo old.reads new.reads l.name stream_file_limit (λ next. next ≡ At l.at);
       left : Leaves ⊥ ⊥ old new;
     }

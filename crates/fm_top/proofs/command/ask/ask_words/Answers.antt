@@ -13,4 +13,4 @@ returns-in-Some-clause-none c =
 pub returns-in-None-clause-none : goal.returns-in-None-clause-none
 returns-in-None-clause-none c = λ threads layout text file asks.
     of_none c.in-None.is c.in_ok-said.ensures.none threads (three layout text file)
-    (subst (λ (w : List ℕ). IsThreaded (texts c.args.words.now) w threads (three layout text file)) (sym c.word.ensures) asks)
+    (subst (λ (w : List ℕ). IsThreaded (texts c.args.words.now) w threads (three layout text file)) (sym c.requires) asks)

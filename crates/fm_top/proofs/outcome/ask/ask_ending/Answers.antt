@@ -28,8 +28,6 @@ pub returns-in-Err : goal.returns-in-Err
 returns-in-Err g c =
     let ask = c.args.ask.now in
     let told = (g.F.Files.view c.args.files.now).holds in
-    let load = c.in-Err.ensures in
-    let end = c.unloaded_ending.ensures in
     asked_file (Ask ask.question ask.threads ask.layout.now ask.text.now ask.file.now) refl
-    (unloaded_ends load.reads load.tells end.ending end.told end.failed (some_end told ask.file.now _ (λ last. no_layout))
+    (unloaded_ends c.in-Err.ensures.reads c.in-Err.ensures.tells c.unloaded_ending.ensures (some_end told ask.file.now _ (λ last. no_layout))
     (λ bytes over. some_end told ask.file.now _ (λ last. long_layout bytes over)))

@@ -19,8 +19,7 @@ returns-in_err-queried_ending-in-Ok g c = let load = c.in-Ok.ensures in rw c.in-
 
 pub returns-in-Query : goal.returns-in-Query
 returns-in-Query g c =
-    let load = c.in-Err.ensures in let end = c.unloaded_ending.ensures in
-    rw c.in-Query.is (unloaded_ends load.reads load.tells end.ending end.told end.failed no_file (λ bytes over. too_many bytes over))
+    rw c.in-Query.is (unloaded_ends c.in-Err.ensures.reads c.in-Err.ensures.tells c.unloaded_ending.ensures no_file (λ bytes over. too_many bytes over))
 
 pub returns-in-Ok-load : goal.returns-in-Ok-load
 returns-in-Ok-load g c =
@@ -35,8 +34,8 @@ returns-in_err-tallied_ending-in-Ok-load g c = let load = c.in-Ok-load.ensures i
 
 pub returns : goal.returns
 returns g c =
-    let load = c.in-Err-load.ensures in let end = c.unloaded_ending-in-Err-load.ensures in
-    rw c.in-Tally.is (unloaded_ends load.reads load.tells end.ending end.told end.failed no_file (λ bytes over. too_many bytes over))
+    rw c.in-Tally.is
+    (unloaded_ends c.in-Err-load.ensures.reads c.in-Err-load.ensures.tells c.unloaded_ending-in-Err-load.ensures no_file (λ bytes over. too_many bytes over))
 
 pub returns-in-Stream : goal.returns-in-Stream
 returns-in-Stream g c = rw c.in-Stream.is c.streamed_ending.ensures

@@ -19,5 +19,4 @@ returns-in_err-bytes_ending-in-Ok g c = let load = c.in-Ok.ensures in wanting_en
 
 pub returns-in-Err : goal.returns-in-Err
 returns-in-Err g c =
-    let load = c.in-Err.ensures in let end = c.unloaded_ending.ensures in
-    unloaded_ends load.reads load.tells end.ending end.told end.failed no_script (λ bytes over. long_script bytes over)
+    unloaded_ends c.in-Err.ensures.reads c.in-Err.ensures.tells c.unloaded_ending.ensures no_script (λ bytes over. long_script bytes over)

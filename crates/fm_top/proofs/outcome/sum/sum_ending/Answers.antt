@@ -19,5 +19,4 @@ returns-in_err-loaded_ending-in-Ok g c = let load = c.in-Ok.ensures in wanting_e
 
 pub returns-in-Err : goal.returns-in-Err
 returns-in-Err g c =
-    let load = c.in-Err.ensures in let end = c.unloaded_ending.ensures in
-    unloaded_ends load.reads load.tells end.ending end.told end.failed no_file (λ bytes over. too_many bytes over)
+    unloaded_ends c.in-Err.ensures.reads c.in-Err.ensures.tells c.unloaded_ending.ensures no_file (λ bytes over. too_many bytes over)

@@ -1,7 +1,8 @@
-use Rattle.std.proofs.Common.{◌%◌, ℕ, ap, sym, ◌∙◌}
+use Rattle.std.proofs.Common.{◌%◌, ℕ, Ok, ap, sym, ◌∙◌}
 use Rattle.fm_top_load.specs.Limits.{record_file_limit}
 use Rattle.fm_top.specs.Queries.{IsAnswered}
 use Rattle.fm_top.specs.declared.command.question.Question.TheVariants.{Tally}
+use Rattle.fm_top.proofs.Counted.{tallied}
 use Rattle.fm_top.proofs.Outcomes.{even_ends, ragged_ends}
 use Rattle.fm_top.proofs.outcome.tally.tallied_ending.Goals as goal
 
@@ -10,11 +11,12 @@ returns-then-rest-ne0 g c =
     ragged_ends record_file_limit c.args.q.now.size c.args.pooled (IsAnswered Tally c.args.threads c.args.q.now) c.requires.short c.rest_of-rest.ensures c.len.ensures c.ragged.result
     c.if-rest-ne0.true c.ragged.ensures
 
-pub tally_answer-requires-clause-even : goal.tally_answer-requires-clause-even
-tally_answer-requires-clause-even g c κs within =
+pub tally-requires-clause-even : goal.tally-requires-clause-even
+tally-requires-clause-even g c κs within =
     sym (c.rest_of-rest.ensures ∙ ap (λ (n : ℕ). n % c.args.q.now.size) c.len.ensures) ∙ c.if-rest-ne0.false
 
-pub returns : goal.returns
-returns g c =
-    even_ends record_file_limit c.args.q.now.size c.args.pooled (IsAnswered Tally c.args.threads c.args.q.now) c.requires.short c.rest_of-rest.ensures c.len.ensures c.tally_answer.result
-    c.if-rest-ne0.false c.tally_answer.ensures
+pub returns-in-Ok : goal.returns-in-Ok
+returns-in-Ok g c =
+    even_ends record_file_limit c.args.q.now.size c.args.pooled (IsAnswered Tally c.args.threads c.args.q.now) c.requires.short c.rest_of-rest.ensures c.len.ensures
+    (Ok c.answered_by_pool.result) c.if-rest-ne0.false
+    (tallied c.args.threads c.args.q.now c.args.pooled _ _ _ _ c.in_ok-counts.ensures.counts c.in-Ok.ensures.text c.in_ok-counts.ensures.shows c.answered_by_pool.ensures)
