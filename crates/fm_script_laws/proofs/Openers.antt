@@ -170,7 +170,15 @@ module _ (c : Caller) (own : List Entry) (e : Entry) (a : ArenaId) (among : IsAm
 
 -- Among more lines.
 pub opened_wider : (slot : ℕ) (ds es : List Done) → ((d : Done) → In d ds → In d es) → Opened slot ds → Opened slot es
-opened_wider slot ds es f o = record o { among = f o.done o.among }
+opened_wider slot ds es f o = record {
+  done = o.done;
+  among = f o.done o.among;
+  opens = o.opens;
+  fine = o.fine;
+  arena = o.arena;
+  is = o.is;
+  in_slot = o.in_slot;
+}
 
 pub opened_left : (slot : ℕ) (ds es : List Done) → Opened slot ds → Opened slot (ds ++ es)
 opened_left slot ds es o = opened_wider slot ds (ds ++ es) (λ d i. in_left d ds es i) o

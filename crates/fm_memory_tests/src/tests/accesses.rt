@@ -26,7 +26,7 @@ struct Bytes {
     width: u32,
 }
 
-fn bytes(arena: ArenaId, place: u64, width: u32) -> Bytes
+fn bytes_at(arena: ArenaId, place: u64, width: u32) -> Bytes
     ensures { result ≡ record { arena = arena; place = place; width = width } }
 {
     Bytes {
@@ -84,14 +84,14 @@ fn put_among_ones<R: Abort + Wait, M: Memory>(rt: &R, m: &mut M, to: Bytes, numb
     ensures { CanTouch (M.view m.new) to.arena 0 24 }
 {
     let arena = to.arena;
-    assert_eq!(rt; put(rt, m, bytes(arena, 0, 8), u64::MAX), Ok(()));
-    assert_eq!(rt; put(rt, m, bytes(arena, 8, 8), u64::MAX), Ok(()));
-    assert_eq!(rt; put(rt, m, bytes(arena, 16, 8), u64::MAX), Ok(()));
+    assert_eq!(rt; put(rt, m, bytes_at(arena, 0, 8), u64::MAX), Ok(()));
+    assert_eq!(rt; put(rt, m, bytes_at(arena, 8, 8), u64::MAX), Ok(()));
+    assert_eq!(rt; put(rt, m, bytes_at(arena, 16, 8), u64::MAX), Ok(()));
     assert_eq!(rt; put(rt, m, to, number), Ok(()));
     assert_eq!(rt; get(m, to), Ok(number));
     for at in 0..24u64 {
         let byte = byte_at(at, to.place, u64::from(to.width));
-        assert_eq!(rt; get(m, bytes(arena, at, 1)), Ok(byte));
+        assert_eq!(rt; get(m, bytes_at(arena, at, 1)), Ok(byte));
     }
 }
 
@@ -104,7 +104,7 @@ fn at_each_place<R: Abort + Wait, M: Memory>(rt: &R, m: &mut M, width: u32, numb
 {
     let arena = three_words(rt, m);
     for place in 0..9u64 {
-        put_among_ones(rt, m, bytes(arena, place, width), number);
+        put_among_ones(rt, m, bytes_at(arena, place, width), number);
     }
 }
 
@@ -121,12 +121,18 @@ fn numbers_at_each_place(rt: HostRuntime) {
 fn a_fill_changes_just_its_bytes(rt: HostRuntime) {
     let mut m = Mono::make(rt.alloc(), 64);
     let arena = three_words(&rt, &mut m);
-    assert_eq!(rt; fill_bytes(&rt, &mut m, bytes(arena, 3, 14), 7), Ok(()));
-    assert_eq!(rt; get(&mut m, bytes(arena, 0, 8)), Ok(0x0707_0707_0700_0000));
-    assert_eq!(rt; get(&mut m, bytes(arena, 8, 8)), Ok(0x0707_0707_0707_0707));
-    assert_eq!(rt; get(&mut m, bytes(arena, 16, 8)), Ok(7));
-    assert_eq!(rt; fill_bytes(&rt, &mut m, bytes(arena, 5, 0), 9), Ok(()));
-    assert_eq!(rt; get(&mut m, bytes(arena, 5, 1)), Ok(7));
+    assert_eq!(rt; fill_bytes(&rt, &mut m, bytes_at(arena, 3, 14), 7), Ok(()));
+    assert_eq!(rt;
+        get(&mut m, bytes_at(arena, 0, 8)),
+        Ok(0x0707_0707_0700_0000)
+    );
+    assert_eq!(rt;
+        get(&mut m, bytes_at(arena, 8, 8)),
+        Ok(0x0707_0707_0707_0707)
+    );
+    assert_eq!(rt; get(&mut m, bytes_at(arena, 16, 8)), Ok(7));
+    assert_eq!(rt; fill_bytes(&rt, &mut m, bytes_at(arena, 5, 0), 9), Ok(()));
+    assert_eq!(rt; get(&mut m, bytes_at(arena, 5, 1)), Ok(7));
 }
 
 #[test]
@@ -134,13 +140,16 @@ fn a_closed_arena_is_refused(rt: HostRuntime) {
     let mut m = Mono::make(rt.alloc(), 64);
     let arena = three_words(&rt, &mut m);
     let refused = Refusal::Closed;
-    assert_eq!(rt; put(&rt, &mut m, bytes(arena, 6, 4), 0x0403_0201), Ok(()));
-    assert_eq!(rt; get(&mut m, bytes(arena, 4, 4)), Ok(0x0201_0000));
-    assert_eq!(rt; m.close(&rt, arena), Ok(()));
-    assert_eq!(rt; get(&mut m, bytes(arena, 6, 4)), Err(refused));
-    assert_eq!(rt; put(&rt, &mut m, bytes(arena, 6, 4), 0), Err(refused));
     assert_eq!(rt;
-        fill_bytes(&rt, &mut m, bytes(arena, 6, 4), 0),
+        put(&rt, &mut m, bytes_at(arena, 6, 4), 0x0403_0201),
+        Ok(())
+    );
+    assert_eq!(rt; get(&mut m, bytes_at(arena, 4, 4)), Ok(0x0201_0000));
+    assert_eq!(rt; m.close(&rt, arena), Ok(()));
+    assert_eq!(rt; get(&mut m, bytes_at(arena, 6, 4)), Err(refused));
+    assert_eq!(rt; put(&rt, &mut m, bytes_at(arena, 6, 4), 0), Err(refused));
+    assert_eq!(rt;
+        fill_bytes(&rt, &mut m, bytes_at(arena, 6, 4), 0),
         Err(refused)
     );
 }
