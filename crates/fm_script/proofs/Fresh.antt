@@ -23,6 +23,7 @@ module _ {ns : Numbers} {others : List Standing} {first lines : ℕ} {t : Table}
   -- and lines leave it ready, with the others' holds and handles that the pass had.
   pub played_backs : {E : Type 0} (q : View) (u : Table) {ls : List Line} {rs : List Reply} {r : Result (Unit {0}) E} → AfterLines p q t u ls rs r
       → Backs q p.holds p.handles u.base.now u.own.items
+  unfolding fresh_ready
   played_backs q u a =
       let same : u.base.now ≡ t.base.now = λ i. (a.keeps.base i).now in
       subst (λ (bs : List Standing). Backs q p.holds p.handles bs u.own.items) (sym same) (a.backs p.holds p.handles fresh_ready.backs)
