@@ -5,7 +5,6 @@ use fm_base::{ArenaId, Kind, Memory, Refusal};
 use fm_mono::Mono;
 use fm_segment_access::{get_number, put_number};
 use fm_segment_copies::{copy_range, mismatch_range};
-use std::alloc::Global;
 use std::process::Abort;
 use std::sync::Wait;
 
@@ -34,16 +33,16 @@ fn byte_after(place: u64, src: u64, dst: u64, n: u64) -> u64
     }
 }
 
-fn copy_inside<R: Abort + Wait>(rt: &R, alloc: Global, src: u64, dst: u64, n: u64)
+fn copy_inside<R: Abort + Wait, M: Memory>(rt: &R, m: &mut M, src: u64, dst: u64, n: u64)
+    requires outside { (M.view m.old).inside ≡ None }
     requires source { src + n ≤ 24 }
     requires target { dst + n ≤ 24 }
 {
-    let mut m = Mono::make(alloc, 48);
-    let a = open(rt, &mut m);
-    assert_eq!(rt; copy_range(rt, &mut m, a, src, a, dst, n), Ok(()));
+    let a = open(rt, m);
+    assert_eq!(rt; copy_range(rt, m, a, src, a, dst, n), Ok(()));
     for place in 0..24 {
         assert_eq!(rt;
-            get_number(&mut m, a, place, 1),
+            get_number(m, a, place, 1),
             Ok(byte_after(place, src, dst, n))
         );
     }
@@ -54,7 +53,8 @@ fn copies_of_every_overlap(rt: HostRuntime) {
     for src in 0..13 {
         for dst in 0..13 {
             for n in 0..12 {
-                copy_inside(&rt, rt.alloc(), src, dst, n);
+                let mut m = Mono::make(rt.alloc(), 48);
+                copy_inside(&rt, &mut m, src, dst, n);
             }
         }
     }
