@@ -1,4 +1,4 @@
-ghost use Rattle.std.specs.Prelude.{◌≤◌};
+ghost use Rattle.std.specs.Prelude.{◌≡◌, ◌≤◌, ◌<◌, ◌*◌};
 ghost use Rattle.fm_rule_facts.specs.Views.{given_of};
 ghost use Rattle.fm_rule_calls.specs.Kept.{Lasts};
 ghost use Rattle.fm_gate.specs.Needs.{CanVisit, IsOutside};
@@ -67,7 +67,7 @@ impl<'a> Closer<'a> {
         if self.shutting.is_some() {
             return;
         }
-        let words = words_of(self.pool, &mut self.pass, self.arena).unwrap_or([0, 0, 0]);
+        let words = words_of(self.pool, &mut self.pass, self.arena);
         if let Ok(mut s) = shut(self.pool, &mut self.pass, self.arena) {
             let (nexts, last) = walk_once(self.pool, &mut self.pass, &mut s);
             self.walk = Walk { words, nexts, last };
@@ -107,19 +107,30 @@ impl<'a> Turn for Closer<'a> {
     }
 }
 
-/// The arena's first three words.
-fn words_of(pool: &Pool, pass: &mut Pass, a: ArenaId) -> Result<[u64; 3], Refusal>
+/// A word of the arena, in a visit of its own.
+fn word_of(pool: &Pool, pass: &mut Pass, a: ArenaId, word: u64) -> Result<u64, Refusal>
+    requires can { CanVisit pool.now pass.old a }
+    requires within { 8 * word < given_of pass.old a }
+    ensures outside { IsOutside pool.now pass.new }
+    ensures lasts { Lasts pass.old pass.new }
+{
+    enter(pool, pass, a)?;
+    let found = load(pool, pass, word);
+    leave(pool, pass);
+    Ok(found)
+}
+
+/// The arena's first three words, or zeros where it is closed.
+fn words_of(pool: &Pool, pass: &mut Pass, a: ArenaId) -> [u64; 3]
     requires can { CanVisit pool.now pass.old a }
     requires given { 24 ≤ given_of pass.old a }
     ensures outside { IsOutside pool.now pass.new }
     ensures lasts { Lasts pass.old pass.new }
 {
-    enter(pool, pass, a)?;
-    let first = load(pool, pass, 0);
-    let second = load(pool, pass, 1);
-    let third = load(pool, pass, 2);
-    leave(pool, pass);
-    Ok([first, second, third])
+    let first = word_of(pool, pass, a, 0).unwrap_or(0);
+    let second = word_of(pool, pass, a, 1).unwrap_or(0);
+    let third = word_of(pool, pass, a, 2).unwrap_or(0);
+    [first, second, third]
 }
 
 /// Visits the marks of both passes, as long as they don't name the arena: how many didn't, and what the last visit

@@ -23,20 +23,18 @@ use std::process::Abort;
 use std::sync::Wait;
 
 /// Two passes, and two slots of one page of three longs, for two arenas each.
-const TWO_SLOTS: Shape = Shape {
-    passes: 2,
-    slots: 2,
-    pages: 2,
-    page_words: 3,
-    reach: 1,
-    generations: 2,
-};
-
-/// A pool of this shape, and its first pass.
 pub(crate) fn made<R: Abort + AllocGlobal>(rt: &R) -> (Pool, Pass)
     ensures { CanShare result.0 result.1 }
 {
-    Pool::make(rt.alloc(), TWO_SLOTS).expect(rt, "words")
+    let shape = Shape {
+        passes: 2,
+        slots: 2,
+        pages: 2,
+        page_words: 3,
+        reach: 1,
+        generations: 2,
+    };
+    Pool::make(rt.alloc(), shape).expect(rt, "words")
 }
 
 /// A shared arena's three longs.
@@ -110,7 +108,8 @@ fn told(pool: &Pool, pass: Pass, ours: &mut Shared, s: &Segment) -> Pass
     requires ours { IsOf pool.now ours.old }
     requires known { IsKnown (view_of_pass ours.old) s.now }
     ensures ours { ours.new ≡ ours.old }
-    ensures ready { CanVisit pool.now result s.now.arena × (s.now.first + s.now.size ≤ given_of result s.now.arena) }
+    ensures can { CanVisit pool.now result s.now.arena }
+    ensures given { s.now.first + s.now.size ≤ given_of result s.now.arena }
 {
     a_crew_stands();
     let mut pass = pass;
