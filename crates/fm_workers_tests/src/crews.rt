@@ -3,7 +3,7 @@ mod ample;
 mod gates;
 mod tallies;
 
-ghost use Rattle.std.specs.Prelude.{◌≡◌, ◌<◌, ◌≤◌, ◌≢◌, [], IfOk};
+ghost use Rattle.std.specs.Prelude.{◌≡◌, ◌<◌, ◌≤◌, ◌≢◌, []};
 ghost use Rattle.fm_rule_calls.specs.Kept.{Lasts};
 ghost use Rattle.fm_rule_calls.specs.Told.{view_of_pass};
 ghost use Rattle.fm_gate.specs.Needs.{IsInside, IsOutside};
@@ -129,24 +129,6 @@ fn query(alloc: Global) -> Result<Query, Fail> {
     Ok(parse_query(alloc, ASKED, &layout)?)
 }
 
-/// That query, and those records in an arena of this kind, in a pool of so many passes.
-fn at_records<R: Abort + AllocGlobal + Wait>(
-    rt: &R,
-    passes: u32,
-    kind: Kind,
-) -> Result<(Query, Pool, Pass, Segment), Fail>
-    requires some { 0 < passes }
-    requires few { passes < 65 }
-    ensures outside { IfOk result (λ r. IsOutside r.1 r.2) }
-    ensures known { IfOk result (λ r. IsKnown (view_of_pass r.2) r.3) }
-    ensures size { IfOk result (λ r. r.3.size ≡ 64) }
-{
-    let q = query(rt.alloc())?;
-    let (pool, mut pass) = made(rt, passes, 8);
-    let s = stocked(rt, &pool, &mut pass, kind);
-    Ok((q, pool, pass, s))
-}
-
 /// What so many passes answer, as text.
 fn asked<R: Abort + AllocGlobal + Threads + Wait + Sync, G: Gate>(
     rt: &R,
@@ -177,7 +159,9 @@ const ANSWER: &[u8] = b"count 5\nsum(.amount) 26\nlist(.id) 1 3 5 6 8\n";
 
 #[test]
 fn answers_are_the_same_for_each_count_of_threads(rt: HostRuntime) -> Result<(), Fail> {
-    let (q, pool, mut pass, s) = at_records(&rt, 17, Kind::Shared)?;
+    let q = query(rt.alloc())?;
+    let (pool, mut pass) = made(&rt, 17, 8);
+    let s = stocked(&rt, &pool, &mut pass, Kind::Shared);
     let by_one = asked(&rt, &pool, &mut pass, &q, &s, 1, &FreeGate);
     assert_eq!(rt; by_one.as_deref(), Ok(ANSWER));
     let by_two = asked(&rt, &pool, &mut pass, &q, &s, 2, &FreeGate);
@@ -192,8 +176,11 @@ fn answers_are_the_same_for_each_count_of_threads(rt: HostRuntime) -> Result<(),
 
 #[test]
 fn sixteen_passes_answer_over_no_records(rt: HostRuntime) -> Result<(), Fail> {
-    let (q, pool, mut pass, s) = at_records(&rt, 17, Kind::Shared)?;
-    let none = s.as_slice(64, 0).expect(&rt, "no bytes");
+    let q = query(rt.alloc())?;
+    let (pool, mut pass) = made(&rt, 17, 8);
+    let none = stocked(&rt, &pool, &mut pass, Kind::Shared)
+        .as_slice(64, 0)
+        .expect(&rt, "no bytes");
     let answer = asked(&rt, &pool, &mut pass, &q, &none, 16, &FreeGate);
     assert_eq!(rt;
         answer.as_deref(),
@@ -204,7 +191,9 @@ fn sixteen_passes_answer_over_no_records(rt: HostRuntime) -> Result<(), Fail> {
 
 #[test]
 fn ragged_records_are_not_asked(rt: HostRuntime) -> Result<(), Fail> {
-    let (q, pool, mut pass, s) = at_records(&rt, 3, Kind::Shared)?;
+    let q = query(rt.alloc())?;
+    let (pool, mut pass) = made(&rt, 3, 8);
+    let s = stocked(&rt, &pool, &mut pass, Kind::Shared);
     let ragged = s.as_slice(0, 20).expect(&rt, "two records and a half");
     assert_eq!(rt;
         asked(&rt, &pool, &mut pass, &q, &ragged, 2, &FreeGate),
@@ -216,7 +205,9 @@ fn ragged_records_are_not_asked(rt: HostRuntime) -> Result<(), Fail> {
 
 #[test]
 fn a_confined_arena_is_not_asked(rt: HostRuntime) -> Result<(), Fail> {
-    let (q, pool, mut pass, s) = at_records(&rt, 3, Kind::Confined)?;
+    let q = query(rt.alloc())?;
+    let (pool, mut pass) = made(&rt, 3, 8);
+    let s = stocked(&rt, &pool, &mut pass, Kind::Confined);
     assert_eq!(rt;
         asked(&rt, &pool, &mut pass, &q, &s, 2, &FreeGate),
         Err(Refusal::WrongThread)
@@ -226,7 +217,9 @@ fn a_confined_arena_is_not_asked(rt: HostRuntime) -> Result<(), Fail> {
 
 #[test]
 fn a_closed_arena_is_not_asked(rt: HostRuntime) -> Result<(), Fail> {
-    let (q, pool, mut pass, s) = at_records(&rt, 3, Kind::Shared)?;
+    let q = query(rt.alloc())?;
+    let (pool, mut pass) = made(&rt, 3, 8);
+    let s = stocked(&rt, &pool, &mut pass, Kind::Shared);
     assert_eq!(rt; close(&rt, &pool, &mut pass, s.arena()), Ok(()));
     assert_eq!(rt;
         asked(&rt, &pool, &mut pass, &q, &s, 2, &FreeGate),

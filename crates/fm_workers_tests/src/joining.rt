@@ -151,31 +151,35 @@ fn listed_longs_stand_in_their_order(rt: HostRuntime) -> Result<(), Fail> {
     Ok(())
 }
 
-/// A query over orders with each fold, what it answers over none, and over those two.
-const EACH_FOLD: &str = "count,sum(.price),min(.price),max(.price),max(.tags[]),list(.tags[])";
-
-const OVER_NONE: &str =
-    "count 0\nsum(.price) 0\nmin(.price) none\nmax(.price) none\nmax(.tags[]) none\nlist(.tags[])\n";
-
-const OVER_TWO: &str =
-    "count 2\nsum(.price) 210\nmin(.price) -40\nmax(.price) 250\nmax(.tags[]) 5\nlist(.tags[]) 1 2 3 4 5 0 0 -1\n";
-
 #[test]
 fn answers_over_no_records(rt: HostRuntime) -> Result<(), Fail> {
     let alloc = rt.alloc();
-    let q = query(alloc, EACH_FOLD)?;
+    let q = query(
+        alloc,
+        "count,sum(.price),min(.price),max(.tags[]),list(.tags[])",
+    )?;
     let answer = of_no_records(alloc, &q)?;
     let text = printed(alloc, &q, &answer)?;
-    assert_eq!(rt; text.as_slice(), OVER_NONE.as_bytes());
+    assert_eq!(rt;
+        text.as_slice(),
+        b"count 0\nsum(.price) 0\nmin(.price) none\nmax(.tags[]) none\nlist(.tags[])\n".as_slice()
+    );
     Ok(())
 }
 
 #[test]
 fn joins_the_answers_over_each_record(rt: HostRuntime) -> Result<(), Fail> {
-    let q = query(rt.alloc(), EACH_FOLD)?;
-    let mut m = Mono::make(rt.alloc(), 1024);
+    let alloc = rt.alloc();
+    let q = query(
+        alloc,
+        "count,sum(.price),min(.price),max(.price),list(.tags[])",
+    )?;
+    let mut m = Mono::make(alloc, 1024);
     let s = two_orders(&rt, &mut m);
     let found = joined(&rt, &mut m, &s, 24, &q, &q)?;
-    assert_eq!(rt; found.as_slice(), OVER_TWO.as_bytes());
+    assert_eq!(rt;
+        found.as_slice(),
+        b"count 2\nsum(.price) 210\nmin(.price) -40\nmax(.price) 250\nlist(.tags[]) 1 2 3 4 5 0 0 -1\n".as_slice()
+    );
     Ok(())
 }

@@ -86,7 +86,7 @@ fn values_that_cross_words_are_found(rt: HostRuntime) -> Result<(), Fail> {
     let s = Segment::of(all.arena(), all.first(), 114);
     let layout = packed(alloc)?;
     for (text, answer) in ANSWERS.iter() {
-        let found = asked(&rt, &mut m, &layout, &s, text)?;
+        let found = asked(alloc, &rt, &mut m, &layout, &s, text)?;
         assert_eq!(rt; found.as_slice(), answer.as_bytes());
     }
     Ok(())

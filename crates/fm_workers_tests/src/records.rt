@@ -1,5 +1,4 @@
-ghost use Rattle.std.specs.Prelude.{◌≡◌, ◌≤◌, ◌*◌, length, None, IfOk};
-ghost use Rattle.fm_mono.specs.Shown.{view_of};
+ghost use Rattle.std.specs.Prelude.{◌≡◌, ◌≤◌, ◌*◌, length, None};
 ghost use Rattle.fm_segment.specs.Access.{IsKnown};
 
 use crate::printed::printed;
@@ -9,7 +8,7 @@ use fm_layout::Layout;
 use fm_mono::Mono;
 use fm_records::{check_record, parse_query, query_segment};
 use fm_segment::Segment;
-use std::alloc::{AllocGlobal, Global};
+use std::alloc::Global;
 use std::process::Abort;
 use std::sync::Wait;
 use std::test::Fail;
@@ -28,7 +27,8 @@ pub(crate) fn order(alloc: Global) -> Result<Layout, Fail> {
 }
 
 /// What the query of this text answers over the segment's records.
-pub(crate) fn asked<R: Abort + AllocGlobal, M: Memory>(
+pub(crate) fn asked<R: Abort, M: Memory>(
+    alloc: Global,
     rt: &R,
     m: &mut M,
     layout: &Layout,
@@ -40,7 +40,6 @@ pub(crate) fn asked<R: Abort + AllocGlobal, M: Memory>(
     ensures outside { (M.view m.new).inside ≡ None }
     ensures known { IsKnown (M.view m.new) s.now }
 {
-    let alloc = rt.alloc();
     check_record(layout)?;
     let query = parse_query(alloc, text, layout)?;
     assert_eq!(rt; s.first() % query.record_alignment(), 0);
@@ -91,17 +90,6 @@ pub(crate) fn two_orders<R: Abort + Wait, M: Memory>(rt: &R, m: &mut M) -> Segme
     longs(rt, m, &WORDS)
 }
 
-/// Those two records in a memory of their own, and their layout.
-fn orders<R: Abort + AllocGlobal + Wait>(rt: &R) -> Result<(Mono, Segment, Layout), Fail>
-    ensures outside { IfOk result (λ r. r.0.inside ≡ None) }
-    ensures known { IfOk result (λ r. IsKnown (view_of r.0) r.1) }
-    ensures size { IfOk result (λ r. r.1.size ≡ 48) }
-{
-    let mut m = Mono::make(rt.alloc(), 1024);
-    let s = two_orders(rt, &mut m);
-    Ok((m, s, order(rt.alloc())?))
-}
-
 /// Queries over those two orders, and what they answer.
 const ANSWERS: [(&str, &str); 18] = [
     (
@@ -132,9 +120,12 @@ const ANSWERS: [(&str, &str); 18] = [
 
 #[test]
 fn answers_over_two_records(rt: HostRuntime) -> Result<(), Fail> {
-    let (mut m, s, layout) = orders(&rt)?;
+    let alloc = rt.alloc();
+    let mut m = Mono::make(alloc, 1024);
+    let s = two_orders(&rt, &mut m);
+    let layout = order(alloc)?;
     for (text, answer) in ANSWERS.iter() {
-        let found = asked(&rt, &mut m, &layout, &s, text)?;
+        let found = asked(alloc, &rt, &mut m, &layout, &s, text)?;
         assert_eq!(rt; found.as_slice(), answer.as_bytes());
     }
     Ok(())
@@ -153,25 +144,36 @@ fn bounds_of_0_have_no_values(rt: HostRuntime) -> Result<(), Fail> {
     members.push(Layout::value(ValueKind::Byte))?;
     members.push(many)?;
     let layout = Layout::structure(members)?;
-    let text = "count,sum(.#1[][]),min(.#1[][]),list(.#1[][])";
-    let found = asked(&rt, &mut m, &layout, &s, text)?;
-    let none = "count 2\nsum(.#1[][]) 0\nmin(.#1[][]) none\nlist(.#1[][])\n";
-    assert_eq!(rt; found.as_slice(), none.as_bytes());
+    let found = asked(
+        alloc,
+        &rt,
+        &mut m,
+        &layout,
+        &s,
+        "count,sum(.#1[][]),min(.#1[][]),list(.#1[][])",
+    )?;
+    assert_eq!(rt;
+        found.as_slice(),
+        b"count 2\nsum(.#1[][]) 0\nmin(.#1[][]) none\nlist(.#1[][])\n".as_slice()
+    );
     Ok(())
 }
 
 #[test]
 fn refuses_bytes_behind_the_last_record(rt: HostRuntime) -> Result<(), Fail> {
-    let (mut m, s, layout) = orders(&rt)?;
+    let alloc = rt.alloc();
+    let mut m = Mono::make(alloc, 1024);
+    let s = two_orders(&rt, &mut m);
+    let layout = order(alloc)?;
     let more = Segment::of(s.arena(), s.first(), 40);
     let fewer = Segment::of(s.arena(), s.first(), 23);
     m.close(&rt, s.arena())?;
     assert_eq!(rt;
-        asked(&rt, &mut m, &layout, &more, "sum(.price)").err(),
+        asked(alloc, &rt, &mut m, &layout, &more, "sum(.price)").err(),
         Some(Refusal::Ragged(16))
     );
     assert_eq!(rt;
-        asked(&rt, &mut m, &layout, &fewer, "count").err(),
+        asked(alloc, &rt, &mut m, &layout, &fewer, "count").err(),
         Some(Refusal::Ragged(23))
     );
     Ok(())
@@ -179,28 +181,42 @@ fn refuses_bytes_behind_the_last_record(rt: HostRuntime) -> Result<(), Fail> {
 
 #[test]
 fn a_closed_arena_is_found_at_the_first_value(rt: HostRuntime) -> Result<(), Fail> {
-    let (mut m, s, layout) = orders(&rt)?;
+    let alloc = rt.alloc();
+    let mut m = Mono::make(alloc, 1024);
+    let s = two_orders(&rt, &mut m);
+    let layout = order(alloc)?;
     m.close(&rt, s.arena())?;
     assert_eq!(rt;
-        asked(&rt, &mut m, &layout, &s, "sum(.price)").err(),
+        asked(alloc, &rt, &mut m, &layout, &s, "sum(.price)").err(),
         Some(Refusal::Closed)
     );
     assert_eq!(rt;
-        asked(&rt, &mut m, &layout, &s, "count where .kind=2").err(),
+        asked(alloc, &rt, &mut m, &layout, &s, "count where .kind=2").err(),
         Some(Refusal::Closed)
     );
-    let count = asked(&rt, &mut m, &layout, &s, "count")?;
+    let count = asked(alloc, &rt, &mut m, &layout, &s, "count")?;
     assert_eq!(rt; count.as_slice(), b"count 2\n".as_slice());
     Ok(())
 }
 
 #[test]
 fn an_empty_segment_has_no_records(rt: HostRuntime) -> Result<(), Fail> {
-    let (mut m, s, layout) = orders(&rt)?;
+    let alloc = rt.alloc();
+    let mut m = Mono::make(alloc, 1024);
+    let s = two_orders(&rt, &mut m);
+    let layout = order(alloc)?;
     let empty = Segment::of(s.arena(), s.first(), 0);
-    let text = "count,sum(.price),max(.price),list(.tags[]) where .kind>=2";
-    let found = asked(&rt, &mut m, &layout, &empty, text)?;
-    let none = "count 0\nsum(.price) 0\nmax(.price) none\nlist(.tags[])\n";
-    assert_eq!(rt; found.as_slice(), none.as_bytes());
+    let found = asked(
+        alloc,
+        &rt,
+        &mut m,
+        &layout,
+        &empty,
+        "count,sum(.price),max(.price),list(.tags[]) where .kind>=2",
+    )?;
+    assert_eq!(rt;
+        found.as_slice(),
+        b"count 0\nsum(.price) 0\nmax(.price) none\nlist(.tags[])\n".as_slice()
+    );
     Ok(())
 }

@@ -3,8 +3,8 @@ ghost use Rattle.fm_rule_calls.specs.Told.{view_of_pass};
 ghost use Rattle.fm_gate.specs.Needs.{IsOutside};
 ghost use Rattle.fm_segment.specs.Access.{IsKnown};
 
-use super::tallies::{at_zeros, held, tallied};
-use super::{ANSWER, asked, at_records};
+use super::tallies::{held, query_of, tallied, zeros};
+use super::{ANSWER, asked, made, query, stocked};
 use fm_base::{Kind, Refusal};
 use fm_io::FreeGate;
 use fm_lanes::ValueKind;
@@ -26,7 +26,9 @@ fn ask_often<R: Abort + AllocGlobal + Threads + Wait + Sync>(
     requires some { 0 < most }
     requires few { most ≤ 16 }
 {
-    let (q, pool, mut pass, s) = at_records(rt, most + 1, Kind::Shared)?;
+    let q = query(rt.alloc())?;
+    let (pool, mut pass) = made(rt, most + 1, 8);
+    let s = stocked(rt, &pool, &mut pass, Kind::Shared);
     for _turn in 0..times {
         for threads in 1..most + 1 {
             let answer = asked(rt, &pool, &mut pass, &q, &s, threads, &FreeGate);
@@ -69,9 +71,13 @@ fn ask_beside<R: Abort + AllocGlobal + Threads + Wait + Sync>(
 
 #[test]
 fn a_crew_may_have_what_numbers_are_free(rt: HostRuntime) -> Result<(), Fail> {
-    let (q, pool, mut pass, s) = at_records(&rt, 4, Kind::Shared)?;
-    let by_four = asked(&rt, &pool, &mut pass, &q, &s, 4, &FreeGate);
-    assert_eq!(rt; by_four, Err(Refusal::NoPass));
+    let q = query(rt.alloc())?;
+    let (pool, mut pass) = made(&rt, 4, 8);
+    let s = stocked(&rt, &pool, &mut pass, Kind::Shared);
+    assert_eq!(rt;
+        asked(&rt, &pool, &mut pass, &q, &s, 4, &FreeGate),
+        Err(Refusal::NoPass)
+    );
     let by_three = asked(&rt, &pool, &mut pass, &q, &s, 3, &FreeGate);
     assert_eq!(rt; by_three.as_deref(), Ok(ANSWER));
     ask_beside(&rt, &pool, &mut pass, &q, &s);
@@ -83,10 +89,13 @@ fn a_crew_may_have_what_numbers_are_free(rt: HostRuntime) -> Result<(), Fail> {
 /// Each adds to the shared counts, and answers what it counted itself.
 #[test]
 fn tallies_follow_each_other(rt: HostRuntime) -> Result<(), Fail> {
-    let (q, pool, mut pass, s, shared) = at_zeros(&rt, 3, ValueKind::Byte, Kind::Shared)?;
-    let first = tallied(&rt, &pool, &mut pass, &q, &s, &shared, 2, &FreeGate)?;
+    let q = query_of(rt.alloc(), ValueKind::Byte, "list([])")?;
+    let (pool, mut pass) = made(&rt, 3, 256);
+    let s = stocked(&rt, &pool, &mut pass, Kind::Shared);
+    let shared = zeros(&rt, &pool, &mut pass, Kind::Shared, &s);
+    let first = tallied(&rt, &pool, &mut pass, &q, &s, &shared, 2, &FreeGate).expect(&rt, "counts");
     assert_eq!(rt; first.at(255), 7);
-    let again = tallied(&rt, &pool, &mut pass, &q, &s, &shared, 2, &FreeGate)?;
+    let again = tallied(&rt, &pool, &mut pass, &q, &s, &shared, 2, &FreeGate).expect(&rt, "counts");
     assert_eq!(rt; again.at(255), 7);
     assert_eq!(rt; held(&rt, &pool, &mut pass, &shared, 255), 14);
     Ok(())

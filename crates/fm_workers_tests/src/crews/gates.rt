@@ -3,8 +3,8 @@ ghost use Rattle.fm_rule_calls.specs.Told.{view_of_pass};
 ghost use Rattle.fm_gate.specs.Needs.{IsOutside};
 ghost use Rattle.fm_segment.specs.Access.{IsKnown};
 
-use super::tallies::{at_zeros, tallied};
-use super::{ANSWER, asked, at_records};
+use super::tallies::{query_of, tallied, zeros};
+use super::{ANSWER, asked, made, query, stocked};
 use fm_base::Kind;
 use fm_gate::{enter, leave, store};
 use fm_io::Gate;
@@ -20,9 +20,11 @@ use std::thread::join_mut;
 /// A body that runs one share after the other, in whatever order, misses a worker in one of these runs.
 #[test]
 fn two_workers_meet(rt: HostRuntime) -> Result<(), Fail> {
+    let q = query(rt.alloc())?;
     for order in [Order::Together, Order::FirstLast, Order::SecondLast] {
         let gate = Meeting::of(order);
-        let (q, pool, mut pass, s) = at_records(&rt, 3, Kind::Shared)?;
+        let (pool, mut pass) = made(&rt, 3, 8);
+        let s = stocked(&rt, &pool, &mut pass, Kind::Shared);
         let answer = asked(&rt, &pool, &mut pass, &q, &s, 2, &gate);
         assert_eq!(rt; answer.as_deref(), Ok(ANSWER));
         assert!(rt; !gate.is_missed());
@@ -33,10 +35,15 @@ fn two_workers_meet(rt: HostRuntime) -> Result<(), Fail> {
 
 #[test]
 fn two_workers_meet_at_a_tally(rt: HostRuntime) -> Result<(), Fail> {
+    let q = query_of(rt.alloc(), ValueKind::Byte, "list([])")?;
     for order in [Order::Together, Order::FirstLast, Order::SecondLast] {
         let gate = Meeting::of(order);
-        let (q, pool, mut pass, s, shared) = at_zeros(&rt, 3, ValueKind::Byte, Kind::Shared)?;
-        let counts = tallied(&rt, &pool, &mut pass, &q, &s, &shared, 2, &gate)?;
+        let (pool, mut pass) = made(&rt, 3, 256);
+        let s = stocked(&rt, &pool, &mut pass, Kind::Shared);
+        let shared = zeros(&rt, &pool, &mut pass, Kind::Shared, &s);
+        let counts = tallied(&rt, &pool, &mut pass, &q, &s, &shared, 2, &gate).expect(
+            &rt, "counts",
+        );
         assert_eq!(rt; counts.at(0), 43);
         assert!(rt; !gate.is_missed());
         assert!(rt; gate.both_began_and_ended());
@@ -49,8 +56,10 @@ const FOUR_CALLS: &str = "1: +0 -0 +1 -1 +2 -2 +3 -3\n";
 
 #[test]
 fn each_share_is_one_call(rt: HostRuntime) -> Result<(), Fail> {
+    let q = query(rt.alloc())?;
     let gate = Recording::new(rt.alloc())?;
-    let (q, pool, mut pass, s) = at_records(&rt, 2, Kind::Shared)?;
+    let (pool, mut pass) = made(&rt, 2, 8);
+    let s = stocked(&rt, &pool, &mut pass, Kind::Shared);
     let answer = asked(&rt, &pool, &mut pass, &q, &s, 1, &gate);
     assert_eq!(rt; answer.as_deref(), Ok(ANSWER));
     assert_eq!(rt; gate.text(rt.alloc())?.as_str(), FOUR_CALLS);
@@ -59,9 +68,12 @@ fn each_share_is_one_call(rt: HostRuntime) -> Result<(), Fail> {
 
 #[test]
 fn each_share_of_a_tally_is_one_call(rt: HostRuntime) -> Result<(), Fail> {
+    let q = query_of(rt.alloc(), ValueKind::Byte, "list([])")?;
     let gate = Recording::new(rt.alloc())?;
-    let (q, pool, mut pass, s, shared) = at_zeros(&rt, 2, ValueKind::Byte, Kind::Shared)?;
-    let counts = tallied(&rt, &pool, &mut pass, &q, &s, &shared, 1, &gate)?;
+    let (pool, mut pass) = made(&rt, 2, 256);
+    let s = stocked(&rt, &pool, &mut pass, Kind::Shared);
+    let shared = zeros(&rt, &pool, &mut pass, Kind::Shared, &s);
+    let counts = tallied(&rt, &pool, &mut pass, &q, &s, &shared, 1, &gate).expect(&rt, "counts");
     assert_eq!(rt; counts.at(0), 43);
     assert_eq!(rt; gate.text(rt.alloc())?.as_str(), FOUR_CALLS);
     Ok(())
@@ -96,8 +108,10 @@ fn change<R: Abort + Wait>(rt: &R, pool: &Pool, pass: &mut Pass, s: &Segment, ga
 /// A body that leaves the gate before it has read its share reads what was changed then.
 #[test]
 fn a_share_is_read_before_the_gate_is_left(rt: HostRuntime) -> Result<(), Fail> {
+    let q = query(rt.alloc())?;
     let gate = Meeting::of(Order::SecondNext);
-    let (q, pool, mut pass, s) = at_records(&rt, 3, Kind::Shared)?;
+    let (pool, mut pass) = made(&rt, 3, 8);
+    let s = stocked(&rt, &pool, &mut pass, Kind::Shared);
     let mut other = drawn(&rt, &pool, &mut pass, &s);
     let (answer, ()) = join_mut(
         &rt,

@@ -1,4 +1,4 @@
-ghost use Rattle.std.specs.Prelude.{◌≡◌, ◌≢◌, ◌<◌, ◌≤◌, [], IfOk};
+ghost use Rattle.std.specs.Prelude.{◌≡◌, ◌≢◌, ◌<◌, ◌≤◌, []};
 ghost use Rattle.fm_rule_calls.specs.Told.{view_of_pass};
 ghost use Rattle.fm_gate.specs.Needs.{IsOutside};
 ghost use Rattle.fm_segment.specs.Access.{IsKnown};
@@ -45,29 +45,6 @@ pub(crate) fn query_of(alloc: Global, kind: ValueKind, text: &str) -> Result<Que
     let layout = Layout::sequence(alloc, 8, Layout::value(kind))?;
     check_record(&layout)?;
     Ok(parse_query(alloc, text, &layout)?)
-}
-
-/// Records of eight such values and the query that lists them, in a pool of so many passes, and zeros in an arena of this
-/// kind.
-pub(crate) fn at_zeros<R: Abort + AllocGlobal + Wait>(
-    rt: &R,
-    passes: u32,
-    values: ValueKind,
-    kind: Kind,
-) -> Result<(Query, Pool, Pass, Segment, Segment), Fail>
-    requires some { 0 < passes }
-    requires few { passes < 65 }
-    ensures outside { IfOk result (λ r. IsOutside r.1 r.2) }
-    ensures known { IfOk result (λ r. IsKnown (view_of_pass r.2) r.3) }
-    ensures counts { IfOk result (λ r. IsKnown (view_of_pass r.2) r.4) }
-    ensures first { IfOk result (λ r. r.4.first ≡ 0) }
-    ensures size { IfOk result (λ r. r.4.size ≡ 2048) }
-{
-    let q = query_of(rt.alloc(), values, "list([])")?;
-    let (pool, mut pass) = made(rt, passes, 256);
-    let s = stocked(rt, &pool, &mut pass, Kind::Shared);
-    let counts = zeros(rt, &pool, &mut pass, kind, &s);
-    Ok((q, pool, pass, s, counts))
 }
 
 /// What so many passes count.
@@ -123,8 +100,13 @@ const COUNTED: &str = "-8 1\n-1 7\n0 43\n1 1\n2 2\n3 2\n4 1\n5 2\n6 1\n7 2\n8 1\
 
 #[test]
 fn two_passes_count_bytes(rt: HostRuntime) -> Result<(), Fail> {
-    let (q, pool, mut pass, s, shared) = at_zeros(&rt, 3, ValueKind::Byte, Kind::Shared)?;
-    let counts = tallied(&rt, &pool, &mut pass, &q, &s, &shared, 2, &FreeGate)?;
+    let q = query_of(rt.alloc(), ValueKind::Byte, "list([])")?;
+    let (pool, mut pass) = made(&rt, 3, 256);
+    let s = stocked(&rt, &pool, &mut pass, Kind::Shared);
+    let shared = zeros(&rt, &pool, &mut pass, Kind::Shared, &s);
+    let counts = tallied(&rt, &pool, &mut pass, &q, &s, &shared, 2, &FreeGate).expect(
+        &rt, "counts",
+    );
     let text = print_counts(rt.alloc(), &counts);
     assert_eq!(rt; text.as_deref(), Ok(COUNTED));
     assert_eq!(rt; held(&rt, &pool, &mut pass, &shared, 255), 7);
@@ -133,22 +115,32 @@ fn two_passes_count_bytes(rt: HostRuntime) -> Result<(), Fail> {
 
 #[test]
 fn sixteen_passes_count_booleans(rt: HostRuntime) -> Result<(), Fail> {
-    let (q, pool, mut pass, s, shared) = at_zeros(&rt, 17, ValueKind::Boolean, Kind::Shared)?;
-    let counts = tallied(&rt, &pool, &mut pass, &q, &s, &shared, 16, &FreeGate)?;
-    assert_eq!(rt; (counts.at(0), counts.at(1), counts.at(255)), (43, 21, 0));
+    let q = query_of(rt.alloc(), ValueKind::Boolean, "list([])")?;
+    let (pool, mut pass) = made(&rt, 17, 256);
+    let s = stocked(&rt, &pool, &mut pass, Kind::Shared);
+    let shared = zeros(&rt, &pool, &mut pass, Kind::Shared, &s);
+    let counts = tallied(&rt, &pool, &mut pass, &q, &s, &shared, 16, &FreeGate).expect(
+        &rt, "counts",
+    );
+    assert_eq!(rt; counts.at(0), 43);
+    assert_eq!(rt; counts.at(1), 21);
+    assert_eq!(rt; counts.at(255), 0);
     assert_eq!(rt; pool.whole(&mut pass), true);
     Ok(())
 }
 
 #[test]
 fn tallies_are_refused(rt: HostRuntime) -> Result<(), Fail> {
-    let (q, pool, mut pass, s, shared) = at_zeros(&rt, 4, ValueKind::Byte, Kind::Shared)?;
-    let sums = query_of(rt.alloc(), ValueKind::Byte, "sum([])")?;
-    let ragged = s.as_slice(0, 20).expect(&rt, "two records and a half");
-    let refused = tallied(&rt, &pool, &mut pass, &sums, &ragged, &shared, 2, &FreeGate);
-    assert_eq!(rt; refused.err(), Some(Refusal::Unsupported));
+    let q = query_of(rt.alloc(), ValueKind::Byte, "list([])")?;
+    let (pool, mut pass) = made(&rt, 4, 256);
+    let s = stocked(&rt, &pool, &mut pass, Kind::Shared);
+    let shared = zeros(&rt, &pool, &mut pass, Kind::Shared, &s);
     let refused = tallied(&rt, &pool, &mut pass, &q, &s, &shared, 4, &FreeGate);
     assert_eq!(rt; refused.err(), Some(Refusal::NoPass));
+    let ragged = s.as_slice(0, 20).expect(&rt, "two records and a half");
+    let sums = query_of(rt.alloc(), ValueKind::Byte, "sum([])")?;
+    let refused = tallied(&rt, &pool, &mut pass, &sums, &ragged, &shared, 2, &FreeGate);
+    assert_eq!(rt; refused.err(), Some(Refusal::Unsupported));
     let refused = tallied(&rt, &pool, &mut pass, &q, &ragged, &shared, 2, &FreeGate);
     assert_eq!(rt; refused.err(), Some(Refusal::Ragged(4)));
     Ok(())
@@ -156,7 +148,10 @@ fn tallies_are_refused(rt: HostRuntime) -> Result<(), Fail> {
 
 #[test]
 fn closed_counts_are_not_added_to(rt: HostRuntime) -> Result<(), Fail> {
-    let (q, pool, mut pass, s, shared) = at_zeros(&rt, 3, ValueKind::Byte, Kind::Shared)?;
+    let q = query_of(rt.alloc(), ValueKind::Byte, "list([])")?;
+    let (pool, mut pass) = made(&rt, 3, 256);
+    let s = stocked(&rt, &pool, &mut pass, Kind::Shared);
+    let shared = zeros(&rt, &pool, &mut pass, Kind::Shared, &s);
     assert_eq!(rt; close(&rt, &pool, &mut pass, shared.arena()), Ok(()));
     let refused = tallied(&rt, &pool, &mut pass, &q, &s, &shared, 2, &FreeGate);
     assert_eq!(rt; refused.err(), Some(Refusal::Closed));
@@ -165,7 +160,10 @@ fn closed_counts_are_not_added_to(rt: HostRuntime) -> Result<(), Fail> {
 
 #[test]
 fn confined_counts_are_not_added_to(rt: HostRuntime) -> Result<(), Fail> {
-    let (q, pool, mut pass, s, own) = at_zeros(&rt, 3, ValueKind::Byte, Kind::Confined)?;
+    let q = query_of(rt.alloc(), ValueKind::Byte, "list([])")?;
+    let (pool, mut pass) = made(&rt, 3, 256);
+    let s = stocked(&rt, &pool, &mut pass, Kind::Shared);
+    let own = zeros(&rt, &pool, &mut pass, Kind::Confined, &s);
     let refused = tallied(&rt, &pool, &mut pass, &q, &s, &own, 2, &FreeGate);
     assert_eq!(rt; refused.err(), Some(Refusal::WrongThread));
     Ok(())
