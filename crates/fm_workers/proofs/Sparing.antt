@@ -1,5 +1,5 @@
 -- What is answered where nobody else writes.
-use Rattle.std.proofs.Common.{◌≡◌, ◌≢◌, ℕ, Bool, true, false, List, [], ◌∷◌, sym, ap, ◌∙◌, subst, inl, inr, ⊎_elim}
+use Rattle.std.proofs.Common.{◌≡◌, ◌≢◌, ℕ, Bool, true, false, List, [], ◌∷◌, ◌++◌, sym, ◌∙◌, subst, inl, inr, ⊎_elim}
 use Rattle.std.specs.Prelude.{◌⊎◌, cond}
 use Rattle.std.specs.List.{AllByRecursion, flat_map}
 use Rattle.fm_base_lists.specs.Among.{IsAmong}
@@ -20,7 +20,6 @@ use Rattle.fm_records.specs.Reads.{read_visit}
 use Rattle.fm_records.specs.Shares.{Share, AreSpared, IsSpared}
 use Rattle.fm_records.proofs.Sharing.{shares_answer, shares_read}
 use Rattle.fm_workers_shares.specs.Answered.{AnsweredBy}
-use Rattle.fm_workers_crew.specs.Crew.{CrewGathered, callers}
 use Rattle.fm_workers.specs.Query.{OnlyReads, reads, stops, NobodyElseWrites, IsAnswer}
 use Rattle.fm_workers.specs.Tally.{OnlyAddsTo, OnlyTallies, closed, no_more, one_add}
 use Rattle.fm_workers_crew.proofs.Working.{nobody}
@@ -102,17 +101,15 @@ share_caller cs [] w i h = absurd i
 share_caller cs (x ∷ ws) w (inl is) h = subst (λ (y : Share). IsAmong y.caller cs) (sym is) h.0
 share_caller cs (x ∷ ws) w (inr i) h = share_caller cs ws w i h.1
 
-pub is_answer : {old new : View} {p : Plan} {s : Region} {each : ℕ} {a : List Found} (c : CrewGathered old new) → IsPlan p → IsSound new
-    → AnsweredBy p s each (callers c.crew) c.more a → AllByRecursion (λ x. OnlyReads s x (made_by x c.more)) (callers c.crew)
-    → NobodyElseWrites s (callers c.crew) c.more → IsAnswer old p s (callers c.crew) c.more a
-is_answer {old = old} {new = new} {p = p} {s = s} c plan sound by visits nobody =
-    let n : ℕ = limit_of old.shape in
-    let r = reached_by {p = old} {q = new} c.more c.seen (ap (λ (v : View). v.shape) c.is) sound in
-    let spared : IsSpared (limit_of old.shape) (state_in old) c.more s =
-    record { legal = r.legal; spared = spared_by s (callers c.crew) c.more nobody visits } in
+pub is_answer : {old new : View} {p : Plan} {s : Region} {each : ℕ} {a : List Found} (more : List Entry) (cs : List Caller) → new.seen ≡ old.seen ++ more
+    → new.shape ≡ old.shape → IsPlan p → IsSound new → AnsweredBy p s each cs more a → AllByRecursion (λ x. OnlyReads s x (made_by x more)) cs
+    → NobodyElseWrites s cs more → IsAnswer old p s cs more a
+is_answer {old = old} {new = new} {p = p} {s = s} more cs seen shape plan sound by visits nobody =
+    let r = reached_by {p = old} {q = new} more seen shape sound in
+    let spared : IsSpared (limit_of old.shape) (state_in old) more s = record { legal = r.legal; spared = spared_by s cs more nobody visits } in
     record {
-      value = by.joined ∙ shares_answer (limit_of old.shape) (state_in old) c.more p s by.all.shares plan spared by.all.cut by.all.done;
+      value = by.joined ∙ shares_answer (limit_of old.shape) (state_in old) more p s by.all.shares plan spared by.all.cut by.all.done;
       read = λ index path is word asked of.
-          let x = shares_read (limit_of old.shape) (state_in old) c.more p s by.all.shares index path is word plan spared by.all.cut by.all.done asked of in
-          record { caller = x.share.caller; among = share_caller (callers c.crew) by.all.shares x.share x.among by.all.callers; read = x.read };
+          let x = shares_read (limit_of old.shape) (state_in old) more p s by.all.shares index path is word plan spared by.all.cut by.all.done asked of in
+          record { caller = x.share.caller; among = share_caller cs by.all.shares x.share x.among by.all.callers; read = x.read };
     }

@@ -30,7 +30,7 @@ use Rattle.fm_workers_shares.proofs.Each.{answered_each}
 use Rattle.fm_workers_shares.proofs.Ends.{both_ended, either_refused}
 use Rattle.fm_workers_shares.proofs.Settling.{dones}
 use Rattle.fm_workers_shares.proofs.Sharing.{IsAnsweredAt}
-use Rattle.fm_workers.specs.Query.{FoundClosed, HasAnswered, IsFirstRefused, OnlyReads, WantedMemory, reads, stops}
+use Rattle.fm_workers.specs.Query.{FoundClosed, HasAnswered, IsFirstRefused, OnlyReads, WantedMemory, reads}
 use Rattle.fm_workers.specs.Taking.{Asking, CanTakeShares, Takes}
 use Rattle.fm_workers.proofs.Asked.{query_reads, stopped_by, stops_wider}
 use Rattle.fm_workers.proofs.Reading.{each_read, reads_after, share_lies}

@@ -1,3 +1,4 @@
+pub mod Beside
 pub mod Adding
 pub mod Asking
 pub mod Counts

@@ -25,6 +25,7 @@
 #![tactic(auto)]
 
 mod adding;
+mod beside;
 mod counting;
 mod counts;
 mod printing;
@@ -35,6 +36,7 @@ mod tally;
 mod tally_batch;
 mod tallying;
 
+pub use beside::query_beside;
 pub use counts::Counts;
 pub use printing::print_counts;
 pub use query::query_with;

@@ -18,14 +18,14 @@ use std::thread::Threads;
 
 /// What a crew takes: the shares of a segment's records, of which the query is asked.
 #[derive(Drop)]
-struct Asking<'a, R, G> {
-    rt: &'a R,
-    gate: &'a G,
-    jobs: &'a Jobs,
-    query: &'a Query,
-    segment: Segment,
+pub(crate) struct Asking<'a, R, G> {
+    pub(crate) rt: &'a R,
+    pub(crate) gate: &'a G,
+    pub(crate) jobs: &'a Jobs,
+    pub(crate) query: &'a Query,
+    pub(crate) segment: Segment,
     /// How many records a share has.
-    each: u64,
+    pub(crate) each: u64,
 }
 
 /// Each pass takes shares up to its stop, and answers the query over them.

@@ -1,5 +1,5 @@
 -- What a crew did, where all that counts of its passes are their callers.
-use Rattle.std.proofs.Common.{List, [], ◌∷◌, map, sym, subst, Ok}
+use Rattle.std.proofs.Common.{◌≡◌, List, [], ◌∷◌, map, sym, subst, Ok}
 use Rattle.std.specs.Prelude.{⊤}
 use Rattle.fm_base.specs.declared.caller.Caller.{Caller}
 use Rattle.fm_base.specs.Calls.{Entry}
@@ -25,8 +25,11 @@ module _ {T : Type 0} (Does : Caller → T → T → List Entry → Type 0) (mor
   done_by_passes (p ∷ ps) (t ∷ ts) [] h = absurd h
 
 -- What was gathered did so.
+pub done_by_crew : {T : Type 0} (Does : Caller → T → T → List Entry → Type 0) (more : List Entry) {crew : List Gathered} (passes : List View) (ts us : List T)
+    → crew ≡ map as_gathered passes → AreDone (by_caller Does) more passes ts us → AreDoneBy Does more (callers crew) ts us
+done_by_crew Does more passes ts us are done =
+    subst (λ (gs : List Gathered). AreDoneBy Does more (callers gs) ts us) (sym are) (done_by_passes Does more passes ts us done)
+
 pub worked_by_callers : {T : Type 0} (Does : Caller → T → T → List Entry → Type 0) {old new : View} {ts us : List T} {u : Unit {0}}
     (w : CrewWorked (by_caller Does) old new ts us (Ok u)) → AreDoneBy Does w.crew.more (callers w.crew.crew) ts us
-worked_by_callers Does {ts = ts} {us = us} w =
-    subst (λ (gs : List Gathered). AreDoneBy Does w.crew.more (callers gs) ts us) (sym w.crew.are_passes)
-    (done_by_passes Does w.crew.more w.crew.passes ts us w.ends)
+worked_by_callers Does {ts = ts} {us = us} w = done_by_crew Does w.crew.more w.crew.passes ts us w.crew.are_passes w.ends

@@ -1,5 +1,5 @@
 -- A pass that was known to be whole is so again once its crew is gathered.
-use Rattle.std.proofs.Common.{◌≡◌, true, false, List, [], ◌∷◌, ◌++◌, refl, ap, sym, ◌∙◌, subst, ⊎_elim, inl, inr, All, Some}
+use Rattle.std.proofs.Common.{◌≡◌, ◌⊎◌, true, false, List, [], ◌∷◌, ◌++◌, refl, ap, sym, ◌∙◌, subst, ⊎_elim, inl, inr, All, Some}
 use Rattle.std.specs.List.{AllByRecursion}
 use Rattle.std.proofs.lemmas.List.Elements.{recursion_from_All}
 use Rattle.fm_base_lists.specs.Among.{IsAmong, AreApart}
@@ -56,23 +56,28 @@ all_in P (y ∷ xs) x h (inl e) = subst P (sym e) h.0
 all_in P (y ∷ xs) x h (inr i) = all_in P xs x h.1 i
 
 module _ (old new : View) (more : List Entry) (crew : List Gathered) (seen : new.seen ≡ old.seen ++ more) (caller : new.caller ≡ old.caller)
-    (gathered : new.gathered ≡ old.gathered ++ crew) (own : made_by old.caller more ≡ []) (apart : All (Made more) old.gathered) (sound : IsSound new)
-    (whole : new.whole ≡ true) where
-  by_crew : (e : Entry) → In e more → IsAmong e.caller (callers crew)
-  by_crew e i =
+    (gathered : new.gathered ≡ old.gathered ++ crew) (apart : All (Made more) old.gathered) (sound : IsSound new) (whole : new.whole ≡ true) where
+  by_own_or_crew : (e : Entry) → In e more → (e.caller ≡ old.caller) ⊎ IsAmong e.caller (callers crew)
+  by_own_or_crew e i =
       ⊎_elim
-      (λ (is : e.caller ≡ new.caller). absurd (made_in e more i (ap (λ (c : Caller). made_by c more) (is ∙ caller) ∙ own)))
+      (λ (is : e.caller ≡ new.caller). inl (is ∙ caller))
       (λ (h : (g : Gathered) × In g new.gathered × (g.caller ≡ e.caller)).
       ⊎_elim
       (λ (a : In h.0 old.gathered).
       let none = all_in (Made more) old.gathered h.0 (recursion_from_All (Made more) old.gathered apart) a in
       absurd (made_in e more i (ap (λ (c : Caller). made_by c more) (sym h.2) ∙ none)))
-      (λ (b : In h.0 crew). subst (λ (c : Caller). IsAmong c (callers crew)) h.2 (gathered_among h.0 crew b))
+      (λ (b : In h.0 crew). inr (subst (λ (c : Caller). IsAmong c (callers crew)) h.2 (gathered_among h.0 crew b)))
       (in_append h.0 old.gathered crew (subst (In h.0) gathered h.1)))
       (sound.knows whole e (subst (In e) (sym seen) (in_right e old.seen more i)))
 
-  pub only_crew : AllByRecursion (λ e. IsAmong e.caller (callers crew)) more
-  only_crew = each_in (λ e. IsAmong e.caller (callers crew)) more by_crew
+  pub only_own_or_crew : AllByRecursion (λ e. (e.caller ≡ old.caller) ⊎ IsAmong e.caller (callers crew)) more
+  only_own_or_crew = each_in (λ e. (e.caller ≡ old.caller) ⊎ IsAmong e.caller (callers crew)) more by_own_or_crew
+
+  pub only_crew : made_by old.caller more ≡ [] → AllByRecursion (λ e. IsAmong e.caller (callers crew)) more
+  only_crew own = each_in (λ e. IsAmong e.caller (callers crew)) more (λ e i. ⊎_elim
+      (λ (is : e.caller ≡ old.caller). absurd (made_in e more i (ap (λ (c : Caller). made_by c more) is ∙ own)))
+      (λ (among : IsAmong e.caller (callers crew)). among)
+      (by_own_or_crew e i))
 
 -- ---- every caller that was drawn is there again
 
@@ -92,6 +97,31 @@ undrawn_in (w ∷ ws) h g i f j = ⊎_elim (λ (a : In g (crew_of ws)). undrawn_
     ⊎_elim (λ (e : g ≡ as_gathered w.memory). h.0 f (subst (λ (x : Gathered). In f x.finds) e j)) (λ k. absurd k) b)
     (in_append g (crew_of ws) (as_gathered w.memory ∷ []) i)
 
+-- Where the finds grew by these, each draw of which drew one of the crew.
+module _ {T : Type 0} (old got : View) (vs : List (Worker T)) (finds : List Find) (caller : got.caller ≡ old.caller)
+    (gathered : got.gathered ≡ old.gathered ++ crew_of vs) (grown : got.finds ≡ old.finds ++ finds) where
+  still : (c : Caller) → HasCaller old c → HasCaller got c
+  still c h = keeps_caller old got (crew_of vs) c caller gathered h
+
+  crew_has : (c : Caller) → IsAmong c (callers (crew_of vs)) → HasCaller got c
+  crew_has c i =
+      let r = among_gathered c (crew_of vs) i in
+      inr (r.0, subst (In r.0) (sym gathered) (in_right r.0 old.gathered (crew_of vs) r.1), r.2)
+
+  pub has_all_drawn : ((f : Find) (c : Caller) → In f finds → is_draw f.step ≡ true → f.drew ≡ Some c → IsAmong c (callers (crew_of vs)))
+      → AllByRecursion (λ (v : Worker T). NoDraws v.memory) vs → HasAllDrawn old → HasAllDrawn got
+  has_all_drawn only undrawn h = record {
+    first = still only_caller h.first;
+    others = λ f c i draw drew. ⊎_elim
+        (λ (j : In f got.finds). ⊎_elim (λ (a : In f old.finds). still c (h.others f c (inl a) draw drew))
+        (λ (b : In f finds). crew_has c (only f c b draw drew)) (in_append f old.finds finds (subst (In f) grown j)))
+        (λ (j : (g : Gathered) × In g got.gathered × In f g.finds).
+        ⊎_elim (λ (a : In j.0 old.gathered). still c (h.others f c (inr (j.0, a, j.2)) draw drew))
+        (λ (b : In j.0 (crew_of vs)). let not : true ≡ false = sym draw ∙ undrawn_in vs undrawn j.0 b f j.2 in absurd (cc))
+        (in_append j.0 old.gathered (crew_of vs) (subst (In j.0) gathered j.1)))
+        i;
+  }
+
 module _ {T : Type 0} {old drew got : View} {vs : List (Worker T)} (m : Went old drew) (k : GatheredCrew drew got vs) where
   pub caller_again : got.caller ≡ old.caller
   caller_again = gatherer_still k ∙ caller_still m
@@ -102,24 +132,6 @@ module _ {T : Type 0} {old drew got : View} {vs : List (Worker T)} (m : Went old
   pub finds_again : got.finds ≡ old.finds ++ m.draws
   finds_again = ap (λ (v : View). v.finds) k.is ∙ m.finds
 
-  still : (c : Caller) → HasCaller old c → HasCaller got c
-  still c h = keeps_caller old got (crew_of vs) c caller_again gathered_again h
-
-  crew_has : (c : Caller) → IsAmong c (callers (crew_of vs)) → HasCaller got c
-  crew_has c i =
-      let r = among_gathered c (crew_of vs) i in
-      inr (r.0, subst (In r.0) (sym gathered_again) (in_right r.0 old.gathered (crew_of vs) r.1), r.2)
-
   pub all_drawn_again : ((f : Find) (c : Caller) → In f m.draws → f.drew ≡ Some c → IsAmong c (callers (crew_of vs)))
       → AllByRecursion (λ (v : Worker T). NoDraws v.memory) vs → HasAllDrawn old → HasAllDrawn got
-  all_drawn_again only undrawn h = record {
-    first = still only_caller h.first;
-    others = λ f c i draw drew. ⊎_elim
-        (λ (j : In f got.finds). ⊎_elim (λ (a : In f old.finds). still c (h.others f c (inl a) draw drew))
-        (λ (b : In f m.draws). crew_has c (only f c b drew)) (in_append f old.finds m.draws (subst (In f) finds_again j)))
-        (λ (j : (g : Gathered) × In g got.gathered × In f g.finds).
-        ⊎_elim (λ (a : In j.0 old.gathered). still c (h.others f c (inr (j.0, a, j.2)) draw drew))
-        (λ (b : In j.0 (crew_of vs)). let not : true ≡ false = sym draw ∙ undrawn_in vs undrawn j.0 b f j.2 in absurd (cc))
-        (in_append j.0 old.gathered (crew_of vs) (subst (In j.0) gathered_again j.1)))
-        i;
-  }
+  all_drawn_again only undrawn h = has_all_drawn old got vs m.draws caller_again gathered_again finds_again (λ f c i draw drew. only f c i drew) undrawn h

@@ -102,7 +102,7 @@ module _ {T : Type 0} {old drew got new : View} {vs : List (Worker T)} {b : Bool
       is = round_is;
       whole = λ w. l.whole ∙ found_whole w;
       alone = λ w. only_crew old new (m.more ++ (g.more ++ l.asked.more)) (crew_of vs) round_seen (ap (λ (v : View). v.caller) round_is)
-          gathered_now round_own round_apart l.sound (l.whole ∙ found_whole w);
+          gathered_now round_apart l.sound (l.whole ∙ found_whole w) round_own;
     }
 
     -- so it found as many as the pass has then

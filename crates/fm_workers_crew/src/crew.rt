@@ -48,7 +48,7 @@ fn draw_crew<'a, R: Wait, T>(
 
 /// A pass for each task, the last task first, where the last worker is the first drawn. After a refusal the other tasks
 /// are left. Refused: `NoPass`.
-fn call_up<'a, R: Wait, T>(
+pub(crate) fn call_up<'a, R: Wait, T>(
     rt: &R,
     pool: &'a Pool,
     pass: &mut Pass,
@@ -68,7 +68,7 @@ fn call_up<'a, R: Wait, T>(
 }
 
 /// Moves all to the end of the other list, the last first.
-fn turn<T>(from: &mut Vec<T>, to: &mut Vec<T>)
+pub(crate) fn turn<T>(from: &mut Vec<T>, to: &mut Vec<T>)
     requires room { vec_len to.old + vec_len from.old ≤ vec_capacity to.old }
     ensures moved { to.new.items ≡ to.old.items ++ reverse from.old.items }
     ensures none { from.new.items ≡ [] }
@@ -82,7 +82,12 @@ fn turn<T>(from: &mut Vec<T>, to: &mut Vec<T>)
 }
 
 /// Gathers all, and gives their tasks back, in the order in which `draw_crew` took them.
-fn gather_crew<T>(pool: &Pool, pass: &mut Pass, mut crew: Vec<Worker<T>>, tasks: &mut Vec<T>)
+pub(crate) fn gather_crew<T>(
+    pool: &Pool,
+    pass: &mut Pass,
+    mut crew: Vec<Worker<T>>,
+    tasks: &mut Vec<T>,
+)
     requires outside { IsOutside pool.now pass.old }
     requires spare { AllByRecursion (λ w. IsSpare pool.now w.memory) crew.items }
     requires room { vec_len tasks.old + vec_len crew ≤ vec_capacity tasks.old }
@@ -123,7 +128,7 @@ fn work_one<R: Wait, T, W: Work<T>, G: Gate>(
 }
 
 /// The work of all, side by side.
-fn work_all<R: Threads + Wait + Sync, T: Send, W: Work<T>, G: Gate>(
+pub(crate) fn work_all<R: Threads + Wait + Sync, T: Send, W: Work<T>, G: Gate>(
     rt: &R,
     alloc: Global,
     gate: &G,

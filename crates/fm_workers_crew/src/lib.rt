@@ -1,9 +1,11 @@
 //! Crews of passes: drawn, run as threads, each at a task of its own, and gathered again.
 #![tactic(auto)]
 
+mod beside;
 mod crew;
 mod work;
 mod worker;
 
+pub use beside::{Beside, work_crew_beside};
 pub use crew::work_crew;
 pub use work::Work;

@@ -1,5 +1,6 @@
 mod again;
 mod ample;
+mod beside;
 mod gates;
 mod tallies;
 

@@ -1,7 +1,7 @@
 use Rattle.std.proofs.Common.{refl}
 use Rattle.std.proofs.lemmas.List.Elements.{All-from_recursion}
 use Rattle.fm_workers.specs.Taking.{Asking, CanTakeShares, asking}
-use Rattle.fm_workers.proofs.Queried.{can_finish, queried, queried_refused}
+use Rattle.fm_workers.proofs.Queried.{can_finish_batch, queried, queried_refused}
 use Rattle.fm_workers.proofs.Taking.{can_take_all}
 use Rattle.fm_workers.proofs.query.take_batch.Goals as goal
 
@@ -14,7 +14,7 @@ work_crew-requires-clause-can g c κs within =
 
 pub finish-requires : goal.finish-requires
 finish-requires g c =
-    can_finish {k = asking c.args.batch.jobs c.args.q.now c.args.s.now c.args.each} c.in-Ok.ensures.worked c.requires refl
+    can_finish_batch {k = asking c.args.batch.jobs c.args.q.now c.args.s.now c.args.each} c.in-Ok.ensures.worked c.requires refl
 
 pub returns-in-Ok-clause-queried : goal.returns-in-Ok-clause-queried
 returns-in-Ok-clause-queried g c =

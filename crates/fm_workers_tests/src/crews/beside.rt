@@ -1,0 +1,96 @@
+ghost use Rattle.std.specs.Prelude.{◌≡◌, ◌<◌, ◌≤◌, []};
+ghost use Rattle.fm_rule_calls.specs.Told.{view_of_pass};
+ghost use Rattle.fm_gate.specs.Needs.{IsOutside};
+ghost use Rattle.fm_segment.specs.Access.{IsKnown};
+
+use super::{ANSWER, made, query, stocked};
+use crate::printed::printed;
+use fm_arena::Shared;
+use fm_base::{Kind, Refusal};
+use fm_io::FreeGate;
+use fm_records::Query;
+use fm_rule::{Pass, Pool};
+use fm_segment::Segment;
+use fm_workers::query_beside;
+use fm_workers_crew::Beside;
+use std::alloc::AllocGlobal;
+use std::process::Abort;
+use std::sync::Wait;
+use std::test::Fail;
+use std::thread::Threads;
+
+/// Raises a number, and makes no entry.
+#[derive(Drop)]
+struct Raises;
+
+impl Beside<u32> for Raises {
+    ghost use Rattle.std.specs.Prelude.{◌≡◌, [], ⊤};
+
+    ghost can = { λ beside v number. ⊤ };
+
+    ghost does = { λ beside done old new caller own. own ≡ [] };
+
+    fn act<R: Wait>(&mut self, _rt: &R, number: &mut u32, _memory: &mut Shared) {
+        *number = number.saturating_add(1);
+    }
+
+    ghost stays = { λ beside p q number lasts can. can };
+}
+
+/// What a crew of two answers, as text, and how often a number was raised beside it.
+fn asked_beside<R: Abort + AllocGlobal + Threads + Wait + Sync>(
+    rt: &R,
+    pool: &Pool,
+    pass: Pass,
+    q: &Query,
+    s: &Segment,
+) -> (Result<Vec<u8>, Refusal>, u32)
+    requires outside { IsOutside pool.now pass }
+    requires no_page { pass.pages ≡ [] }
+    requires known { IsKnown (view_of_pass pass) s.now }
+{
+    let alloc = rt.alloc();
+    assert_eq!(rt; s.first() % q.record_alignment(), 0);
+    assert_eq!(rt; s.size() % q.record_size(), 0);
+    assert_eq!(rt; s.arena().is_confined(), false);
+    let mut raised = 0;
+    let (_pass, asked) = query_beside(
+        rt,
+        alloc,
+        pool,
+        pass,
+        q,
+        s,
+        2,
+        &FreeGate,
+        &mut Raises,
+        &mut raised,
+    );
+    let answer = match asked {
+        Ok(Ok(answer)) => printed(alloc, q, &answer),
+        Ok(Err(refusal)) | Err(refusal) => Err(refusal),
+    };
+    (answer, raised)
+}
+
+#[test]
+fn a_number_is_raised_beside_a_crew(rt: HostRuntime) -> Result<(), Fail> {
+    let q = query(rt.alloc())?;
+    let (pool, mut pass) = made(&rt, 3, 8);
+    let s = stocked(&rt, &pool, &mut pass, Kind::Shared);
+    let (answer, raised) = asked_beside(&rt, &pool, pass, &q, &s);
+    assert_eq!(rt; answer.as_deref(), Ok(ANSWER));
+    assert_eq!(rt; raised, 1);
+    Ok(())
+}
+
+#[test]
+fn nothing_is_raised_where_a_pass_is_wanting(rt: HostRuntime) -> Result<(), Fail> {
+    let q = query(rt.alloc())?;
+    let (pool, mut pass) = made(&rt, 2, 8);
+    let s = stocked(&rt, &pool, &mut pass, Kind::Shared);
+    let (answer, raised) = asked_beside(&rt, &pool, pass, &q, &s);
+    assert_eq!(rt; answer, Err(Refusal::NoPass));
+    assert_eq!(rt; raised, 0);
+    Ok(())
+}
