@@ -60,7 +60,7 @@ puts_then {x} {y} {z} {a} {room} place bytes first are fits e put =
     }
 
 -- an arena that is held has bytes for all that is within the limit
-has_bytes : {v : View} {a : ArenaId} (n : ℕ) → IsHeld v a → n ≤ v.limit → n ≤ length (bytes_of_arena v.state a)
+pub has_bytes : {v : View} {a : ArenaId} (n : ℕ) → IsHeld v a → n ≤ v.limit → n ≤ length (bytes_of_arena v.state a)
 has_bytes {v} {a} n held within =
     let size = held.size in
     omega (arith, length-bytes_in (words_at v a), size, within)

@@ -3,6 +3,7 @@ pub mod Held
 pub mod Limits
 pub mod Loaded
 pub mod Loading
+pub mod Putting
 pub mod Reached
 pub mod Reading
 pub mod Whole

@@ -94,7 +94,7 @@ module _ (MayAdd : ArenaId → ℕ → Type 0) where
   below b end (Leave a) reply within h = tt
   below b end call reply within h = absurd h
 
-  stay_below : (b : ArenaId) (end : ℕ) (es : List Entry) → ((a : ArenaId) (word : ℕ) → MayAdd a word → (a ≡ b) × (8 * word + 8 ≤ end)) → AllTouch es
+  pub stay_below : (b : ArenaId) (end : ℕ) (es : List Entry) → ((a : ArenaId) (word : ℕ) → MayAdd a word → (a ≡ b) × (8 * word + 8 ≤ end)) → AllTouch es
       → StayBelow b end es
   stay_below b end [] within h = tt
   stay_below b end (e ∷ es) within h = (below b end e.call e.reply within h.0, stay_below b end es within h.1)

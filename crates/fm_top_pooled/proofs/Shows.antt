@@ -1,6 +1,7 @@
 -- What a crew answers of records in a pool, that nothing but memory is wanting, and what the pool's history shows then.
 use Rattle.std.proofs.Common.{◌≡◌, ℕ, ◌%◌, ◌<◌, ◌≤◌, List, [], ◌++◌, append_assoc, length, Result, Ok, Err, IfErr, refl, ap, sym, ◌∙◌, subst, inl, inr, ⊎_elim, arith, length-append}
 use Rattle.std.specs.Prelude.{◌⊎◌}
+use Rattle.std.specs.List.{AllByRecursion}
 use Rattle.std.proofs.Math.Nat.{zero-mod}
 use Rattle.fm_base.specs.declared.arena_id.ArenaId.{ArenaId}
 use Rattle.fm_base.specs.declared.caller.Caller.{Caller}
@@ -64,17 +65,17 @@ can_ask {s = s} plan threads h some few = record {
 pub region_is : {n : ℕ} {pool : Pool} {p : View} {s : Region} → IsStockedOf n pool p s → region_of s.arena 0 (length (bytes_in_pool p s)) ≡ s
 region_is {p = p} {s = s} h = ap (λ n. region_of s.arena 0 n) (length-pooled p s) ∙ sym h.start
 
--- what one of the crew has read, others than the first pass have
-by_other : {p q : View} {s : Region} (crew : CrewGathered p q) (word : ℕ) → IsReadByCrew s (callers crew.crew) crew.more word
-    → IsReadByOther crew.more s.arena word
-by_other {p} {q} {s} crew word r = record {
+-- what one of a crew that was drawn has read, others than the first pass have
+by_other : (p : View) (s : Region) (cs : List Caller) (more : List Entry) → AllByRecursion (IsFresh p) cs → (word : ℕ) → IsReadByCrew s cs more word
+    → IsReadByOther more s.arena word
+by_other p s cs more fresh word r = record {
   caller = r.caller;
-  other = (all_among (IsFresh p) r.caller (callers crew.crew) crew.fresh r.among).later;
+  other = (all_among (IsFresh p) r.caller cs fresh r.among).later;
   read = record {
     found = r.read.found;
     among =
         let e : Entry = entry_of r.caller (Read s.arena word) (Found_word r.read.found) in
-        among_kept (λ x. are_one x.caller r.caller) e crew.more r.read.among;
+        among_kept (λ x. are_one x.caller r.caller) e more r.read.among;
   };
 }
 
@@ -84,10 +85,10 @@ AreReadByCrew p plan s crew more =
     (index : ℕ) (r : Resolution) (is : List ℕ) (word : ℕ) → IsAsked plan (bytes_at_places (state_in p) s) index r is
     → IsWordOf (value_in plan s index r is) word → IsReadByCrew s crew more word
 
-pub are_read : {n : ℕ} {pool : Pool} {p q : View} {s : Region} (plan : Plan) → IsStockedOf n pool p s → (crew : CrewGathered p q)
-    → AreReadByCrew p plan s (callers crew.crew) crew.more → AreRead crew.more (AsksWord plan (bytes_in_pool p s)) s.arena
-are_read {p = p} {s = s} plan h crew read word asks =
-    by_other crew word
+pub are_read : {n : ℕ} {pool : Pool} {p : View} {s : Region} (plan : Plan) (cs : List Caller) (more : List Entry) → IsStockedOf n pool p s
+    → AllByRecursion (IsFresh p) cs → AreReadByCrew p plan s cs more → AreRead more (AsksWord plan (bytes_in_pool p s)) s.arena
+are_read {p = p} {s = s} plan cs more h fresh read word asks =
+    by_other p s cs more fresh word
     (read asks.index asks.path asks.indices word
     (subst (λ (bs : List ℕ). IsAsked plan bs asks.index asks.path asks.indices) (pooled_is p s) asks.asked)
     (subst (λ (r : Region). IsWordOf (value_in plan r asks.index asks.path asks.indices) word) (region_is h) asks.has))
@@ -103,7 +104,7 @@ asked {p = p} {q = q} threads plan h crew few read stocked same spared = record 
   more = crew.more;
   seen = crew.seen;
   spared = spared;
-  read = are_read plan h crew read;
+  read = are_read plan (callers crew.crew) crew.more h crew.fresh read;
   drawn = omega (arith, ap (λ (v : View). length v.gathered) crew.is, length-append p.gathered crew.crew, few);
 }
 
