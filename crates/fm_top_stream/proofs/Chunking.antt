@@ -1,30 +1,66 @@
--- The reads of one chunk, its first piece and then the rest of it, behind those before.
-use Rattle.std.proofs.Common.{◌≡◌, ℕ, List, Option, None, refl, ◌∙◌}
-use Rattle.fm_io.specs.Reads.{Read, Next, At, ReadsFile}
+-- The reads of a stream, each behind those before.
+use Rattle.std.proofs.Common.{◌≡◌, ℕ, ◌+◌, ◌≤◌, min, List, length, take, true, false, Option, None, refl, ap, sym, subst, ◌∙◌, arith}
+use Rattle.fm_io.specs.Files.{Contents, EndsBefore}
+use Rattle.fm_io.specs.Reads.{Read, Next, ReadsFile, At}
 use Rattle.fm_io.specs.View.{FilesView, Leaves}
-use Rattle.fm_io.proofs.Left.{leaves_then}
+use Rattle.fm_io.proofs.Left.{leaves_none, leaves_then}
 use Rattle.fm_top_load.specs.declared.load_fault.LoadFault.{LoadFault}
-use Rattle.fm_top_load.specs.Reading.{piece_limit}
-use Rattle.fm_top_load.specs.Whole.{TellsLoad}
+use Rattle.fm_top_load.specs.Reached.{IsNextPiece}
+use Rattle.fm_top_load.specs.Reading.{GoesBy, ReadsFurther, piece_limit}
+use Rattle.fm_top_load.specs.Whole.{CanRead, TellsLoad}
+use Rattle.fm_top_load.proofs.Chunks.{no_bytes_from}
 use Rattle.fm_top_load.proofs.Following.{chunk_reads, reads_then}
+use Rattle.fm_top_load.proofs.Placing.{none_taken}
 use Rattle.fm_top_load.proofs.Telling.{read_quietly, tells_then}
 
--- what was read before, and is followed so, was read on
-abbrev Further : Option (List Read) → Option (List Read) → List ℕ → ℕ → (Next → Type 0) → (Next → Type 0) → Type 0
-Further old new name end Starts Goes = (before : Option (List Read)) (from : ℕ) → ReadsFile before old name piece_limit end from Starts
-    → ReadsFile before new name piece_limit end from Goes
+-- Where the file ends before the place, nothing is its next piece.
+pub no_piece : {limit most at : ℕ} {told : Option Contents} {name buffer : List ℕ} → CanRead limit at buffer → EndsBefore told name at
+    → IsNextPiece limit most told name at buffer (record { count = 0; ended = true })
+no_piece {limit} {most} {at} {told} {name} {buffer} read ends =
+    let none : length (take 0 buffer) ≡ 0 = ap length (none_taken buffer) in
+    let short = read.short in
+    record {
+      small = omega arith;
+      bytes = record {
+        bytes = no_bytes_from told name at (take 0 buffer) (none_taken buffer);
+        short = omega (arith, none, short);
+        within = subst (λ n. n ≤ min piece_limit most) (sym none) (omega arith);
+        full = λ e. absurd (cc);
+        ends = λ e. subst (EndsBefore told name) (omega (arith, none)) ends;
+      };
+    }
+
+-- They were read on, and on.
+pub further_then : (limit : ℕ) {old mid new : Option (List Read)} {name : List ℕ} {Starts Goes Says : Next → Type 0} → ReadsFurther old mid name limit Starts Goes
+    → ReadsFurther mid new name limit Goes Says → ReadsFurther old new name limit Starts Says
+further_then limit first next before from h = next before from (first before from h)
+
+-- A weaker thing is said of what follows.
+pub further_says : (limit : ℕ) {old new : Option (List Read)} {name : List ℕ} {Starts Goes Says : Next → Type 0} → ReadsFurther old new name limit Starts Goes
+    → ((next : Next) → Goes next → Says next) → ReadsFurther old new name limit Starts Says
+further_says limit {Goes = Goes} {Says = Says} reads says before from h = chunk_reads {Goes = Goes} {Says = Says} (reads before from h) refl says
 
 -- Whatever follows.
-pub further_some : {old new : Option (List Read)} {name : List ℕ} {end : ℕ} {Starts Goes : Next → Type 0} → Further old new name end Starts Goes
-    → Further old new name end Starts (λ next. Unit {0})
-further_some {Goes = Goes} reads before from h = chunk_reads {Goes = Goes} {Says = λ next. Unit {0}} (reads before from h) refl (λ next goes. tt)
+pub further_some : (limit : ℕ) {old new : Option (List Read)} {name : List ℕ} {Starts Goes : Next → Type 0} → ReadsFurther old new name limit Starts Goes
+    → ReadsFurther old new name limit Starts (λ next. Unit {0})
+further_some limit reads = further_says limit reads (λ next goes. tt)
 
--- They follow on the reads before, and a weaker thing is said of what follows on them.
-pub chunk_read : {old mid part new : Option (List Read)} {name : List ℕ} {end at : ℕ} {Starts Goes Says : Next → Type 0}
-    → ReadsFile old mid name piece_limit end 0 (λ next. next ≡ At at) → ReadsFile mid part name piece_limit end at Starts
-    → Further part new name end Starts Goes → ((next : Next) → Goes next → Says next) → ReadsFile old new name piece_limit end 0 Says
-chunk_read {old} {Starts = Starts} {Goes} {Says} before first rest says =
-    chunk_reads {Goes = Goes} {Says = Says} (rest old 0 (reads_then {Goes = Starts} {Says = Starts} before first (λ next goes. goes))) refl says
+-- Nothing was read where the file had ended.
+pub further_none : (limit : ℕ) {at there : ℕ} {old : Option (List Read)} {name : List ℕ} → ReadsFurther old old name limit (GoesBy true at) (GoesBy true there)
+further_none limit {at = at} {there = there} before from h =
+    chunk_reads {Goes = GoesBy true at} {Says = GoesBy true there} h refl (λ next goes. (goes.0, λ e. absurd (cc)))
+
+-- The next piece was read.
+pub further_by : (limit : ℕ) {at : ℕ} {old new : Option (List Read)} {name : List ℕ} {Goes : Next → Type 0} → ReadsFile old new name piece_limit (limit + 1) at Goes
+    → ReadsFurther old new name limit (GoesBy false at) Goes
+further_by limit {at = at} {Goes = Goes} reads before from h =
+    reads_then {Goes = Goes} {Says = Goes} (chunk_reads {Goes = GoesBy false at} {Says = λ next. next ≡ At at} h refl (λ next goes. goes.1 refl)) reads (λ next goes. goes)
+
+-- What was read first, and then on.
+pub reads_further : (limit : ℕ) {old mid new : Option (List Read)} {name : List ℕ} {from : ℕ} {Starts Says : Next → Type 0}
+    → ReadsFile old mid name piece_limit (limit + 1) from Starts → ReadsFurther mid new name limit Starts Says
+    → ReadsFile old new name piece_limit (limit + 1) from Says
+reads_further limit {old = old} {from = from} first rest = rest old from first
 
 module _ {limit : ℕ} {old mid part : FilesView} {name : List ℕ} (before : Leaves ⊥ ⊥ old mid) (first : TellsLoad ⊥ limit mid part name None) where
   -- Where the first piece came to something, the load tells what the rest of the chunk tells.
@@ -38,3 +74,12 @@ module _ {limit : ℕ} {old mid part : FilesView} {name : List ℕ} (before : Le
   -- The files tell the same then as before all reads.
   pub held_before : part.holds ≡ old.holds
   held_before = (read_quietly first).held ∙ before.held
+
+-- Where all came to something nothing is told but that.
+pub tells_none : {Full : Type 0} {limit : ℕ} {old new : FilesView} {name : List ℕ} → Leaves ⊥ ⊥ old new → TellsLoad Full limit old new name None
+tells_none {new = new} left = tells_then left (record {
+  left = leaves_none new (λ e. absurd {A = ⊥} (cc)) (λ e. absurd {A = ⊥} (cc));
+  too_long = λ e. absurd (cc);
+  absent = λ e. absurd (cc);
+  pool_full = λ e. absurd (cc);
+})

@@ -2,6 +2,7 @@
 use Rattle.std.proofs.Common.{◌≡◌, ℕ, ◌/◌, ◌%◌, ◌<◌, ◌≤◌, List, length, Option, ap, sym, ◌∙◌, subst, arith}
 use Rattle.std.specs.List.{AllZip}
 use Rattle.std.proofs.Math.Nat.{mul-mod_left}
+use Rattle.std.proofs.lemmas.List.{append-nil}
 use Rattle.fm_base.specs.Arenas.{State}
 use Rattle.fm_base.specs.Calls.{Entry}
 use Rattle.fm_io.specs.Files.{Contents}
@@ -56,6 +57,7 @@ streamed {threads} {p = p} {pool = pool} {v = v} {a = a} {f = f} most is any sha
     let kept = keeps_history through.gone.alone.outside.of.1 through.gone.alone.tidy finishes in
     let state : state_of f ≡ state_in v = state_kept kept in
     let cut = cuts_again most through.runs any through.cut in
+    let names : through.gone.ids ≡ names_in (state_in v) = sym (through.gone.names ∙ append-nil through.gone.ids) in
     record {
       bytes = all_bytes through.runs;
       is_file = through.is_file;
@@ -67,7 +69,8 @@ streamed {threads} {p = p} {pool = pool} {v = v} {a = a} {f = f} most is any sha
         shape = finishes.shape ∙ shape;
         chunks = subst (λ n. AllZip (ShowsChunk (state_of f) f.history p) (names_in (state_of f)) (cut_in n (all_bytes through.runs))) is
             (subst (λ runs. AllZip (ShowsChunk (state_of f) f.history p) (names_in (state_of f)) runs) (sym cut)
-            (subst (λ (x : State × List Entry). AllZip (ShowsChunk x.0 x.1 p) (names_in x.0) through.runs) (λ i. (sym state i, sym finishes.history i)) through.gone.chunks));
+            (subst (λ (x : State × List Entry). AllZip (ShowsChunk x.0 x.1 p) (names_in x.0) through.runs) (λ i. (sym state i, sym finishes.history i))
+            (subst (λ ids. AllZip (ShowsChunk (state_in v) v.seen p) ids through.runs) names through.gone.chunks)));
       };
       printed = few_answer (length (all_bytes through.runs)) p.items a through.gone.few;
     }

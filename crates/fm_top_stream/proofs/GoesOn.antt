@@ -1,19 +1,23 @@
 -- A stream goes on by one chunk, and ends.
-use Rattle.std.proofs.Common.{◌≡◌, ℕ, ◌+◌, ◌*◌, ◌/◌, ◌%◌, ◌^◌, ◌<◌, ◌≤◌, Bool, true, false, List, [], ◌∷◌, ◌++◌, length, map, take, Option, refl, ap, sym, ◌∙◌, subst, arith, append_assoc, length-append}
-use Rattle.std.specs.List.{AllByRecursion, AllZip, range_with_len}
-use Rattle.std.proofs.Math.Nat.{mul-add-mod_self_right, mul-mod_left, zero-mod}
-use Rattle.std.proofs.lemmas.List.{append-nil, length-take-le}
-use Rattle.std.proofs.lemmas.Nat.{div-add-mod'}
+use Rattle.std.proofs.Common.{◌≡◌, ◌≢◌, ℕ, ◌+◌, ◌%◌, ◌^◌, ◌<◌, ◌≤◌, Bool, true, false, List, [], ◌∷◌, ◌++◌, length, map, take, Option, Some, None, refl, ap, sym, ◌∙◌, subst, inr, ⊎_elim, arith, append_assoc, length-append}
+use Rattle.std.specs.Prelude.{IfSome}
+use Rattle.std.specs.List.{AllByRecursion, range_with_len}
+use Rattle.std.proofs.Math.Nat.{zero-mod}
+use Rattle.std.proofs.lemmas.List.{length-take-le}
 use Rattle.fm_base_bytes.specs.Words.{byte_at}
+use Rattle.fm_base_lists.specs.Among.{IsAmong}
+use Rattle.fm_base_lists.proofs.Among.{among_either, among_left}
+use Rattle.fm_base_lists.proofs.Each.{all_both, all_weaker}
 use Rattle.fm_base.specs.declared.arena_id.ArenaId.{ArenaId}
-use Rattle.fm_base.specs.Arenas.{arena_of}
+use Rattle.fm_base.specs.declared.kind.Kind.TheVariants.{Confined, Shared}
+use Rattle.fm_base.specs.Arenas.{Arena, arena_of}
+use Rattle.fm_base.specs.Machine.{words_within}
+use Rattle.fm_base_bytes.specs.Words.{bytes_in}
 use Rattle.fm_base.specs.Calls.{Entry}
 use Rattle.fm_base.specs.Histories.{state_after}
-use Rattle.fm_base.specs.View.{given_in}
 use Rattle.fm_io.specs.Files.{Contents, AreBytesFrom, EndsBefore}
-use Rattle.fm_io.proofs.Filled.{AreBytesFrom-append}
 use Rattle.fm_rule_calls.specs.Told.{view_of_pass}
-use Rattle.fm_rule_facts.specs.Views.{View, limit_of, state_in}
+use Rattle.fm_rule_facts.specs.Views.{View, IsKnown, limit_of, state_in}
 use Rattle.fm_rule.specs.declared.pool.Pool.{Pool}
 use Rattle.fm_segment_access.specs.Alone.{bytes_of_arena}
 use Rattle.fm_segment.specs.Region.{Region, region_of}
@@ -26,257 +30,85 @@ use Rattle.fm_records.specs.Joined.{CanJoin, joined}
 use Rattle.fm_records.proofs.AnsweringBytes.{places_have}
 use Rattle.fm_records.proofs.Few.{few_join}
 use Rattle.fm_records.proofs.Joining.{answer-append}
+use Rattle.fm_words.specs.declared.shape.Shape.{Shape}
 use Rattle.fm_top_load.specs.declared.chunk.Chunk.{Chunk}
 use Rattle.fm_top_load.specs.declared.chunk.Part.{Part}
-use Rattle.fm_top_load.specs.Held.{names_in}
-use Rattle.fm_top_load.specs.Reached.{IsNextPiece}
+use Rattle.fm_top_load.specs.Held.{IsHeld, OnlyIn, names_in}
+use Rattle.fm_top_load.specs.Reading.{piece_limit}
 use Rattle.fm_top_load.specs.Whole.{IsCut, IsWhole}
 use Rattle.fm_top_load.proofs.Chunks.{first_to_last}
-use Rattle.fm_top_load.proofs.Placing.{none_taken}
 use Rattle.fm_top_pooled.specs.Shown.{AsksWord, IsReadByOther}
 use Rattle.fm_top_pooled.specs.Stocked.{IsAlone, IsStockedOf, bytes_in_pool}
 use Rattle.fm_top_pooled.proofs.Filling.{held_room}
 use Rattle.fm_top_pooled.proofs.Shows.{pooled_is, read_in}
-use Rattle.fm_base_lists.proofs.Among.{among_left}
-use Rattle.fm_top_stream.specs.Chunks.{AreCut, all_bytes}
-use Rattle.fm_top_stream.specs.Gone.{CanAsk, GoesByChunk, GoneSoFar, GoneThrough, HasGone, IsRagged}
+use Rattle.fm_top_stream.specs.Chunks.{all_bytes}
+use Rattle.fm_top_stream.specs.Gone.{CanAsk, CanBegin, CanTakeChunk, GoesByChunk, GoesThrough, GoneSoFar, GoneThrough, HasGone, HasNext}
+use Rattle.fm_top_stream.specs.declared.under_way.UnderWay.{UnderWay}
 use Rattle.fm_top_stream.specs.declared.gone.Gone.{Gone}
+use Rattle.fm_top_stream.specs.declared.placed.Placed.{Placed}
 use Rattle.fm_top_stream.specs.Shown.{ShowsChunk}
-use Rattle.fm_top_stream.specs.Steps.{Answers, CanClose, Closes, Fills, Gives, GoesOn, Opens}
+use Rattle.fm_top_stream.specs.Steps.{AnswersOn, CanClose, Closes, Fills, Gives, GoesOn, Opens, StandsIn, arenas_of}
 use Rattle.fm_top_stream.proofs.Going.{goes_then}
-use Rattle.fm_top_stream.proofs.Standing.{AddsArena, one_more_shown}
-
--- ---- runs of bytes
-
-pub all_more : (runs : List (List ℕ)) (run : List ℕ) → all_bytes (runs ++ run ∷ []) ≡ all_bytes runs ++ run
-all_more [] run = append-nil run
-all_more (r ∷ runs) run = ap (λ bs. r ++ bs) (all_more runs run) ∙ sym (append_assoc r (all_bytes runs) run)
-
-pub whole_more : (most : ℕ) (runs : List (List ℕ)) (run : List ℕ) → AllByRecursion (λ r. length r ≡ most) runs → length run ≡ most
-    → AllByRecursion (λ r. length r ≡ most) (runs ++ run ∷ [])
-whole_more most [] run h is = (is, tt)
-whole_more most (r ∷ runs) run h is = (h.0, whole_more most runs run h.1 is)
-
--- Whole runs, and perhaps a last one, are a cut.
-pub cut_whole : (most : ℕ) (runs : List (List ℕ)) → 0 < most → AllByRecursion (λ r. length r ≡ most) runs → AreCut most runs
-cut_whole most [] some h = tt
-cut_whole most (r ∷ []) some h = let is = h.0 in (omega (arith, is, some), omega (arith, is))
-cut_whole most (r ∷ (next ∷ runs)) some h = (h.0, cut_whole most (next ∷ runs) some h.1)
-
-pub cut_more : (most : ℕ) (runs : List (List ℕ)) (run : List ℕ) → AllByRecursion (λ r. length r ≡ most) runs → 0 < length run → length run ≤ most
-    → AreCut most (runs ++ run ∷ [])
-cut_more most [] run h some within = (some, within)
-cut_more most (r ∷ []) run h some within = (h.0, (some, within))
-cut_more most (r ∷ (next ∷ runs)) run h some within = (h.0, cut_more most (next ∷ runs) run h.1 some within)
-
-even_sum : (a b n : ℕ) → a % n ≡ 0 → b % n ≡ 0 → (a + b) % n ≡ 0
-even_sum a b n ea eb =
-    let first : a ≡ a / n * n = sym (div-add-mod' a n) ∙ omega (arith, ea) in
-    let second : b ≡ b / n * n = sym (div-add-mod' b n) ∙ omega (arith, eb) in
-    let both : a + b ≡ (a / n + b / n) * n = omega (arith, first, second) in
-    ap (λ m. m % n) both ∙ mul-mod_left (a / n + b / n) n
-
-pub even_all : (most size : ℕ) (runs : List (List ℕ)) → most % size ≡ 0 → 0 % size ≡ 0 → AllByRecursion (λ r. length r ≡ most) runs
-    → length (all_bytes runs) % size ≡ 0
-even_all most size [] even none h = none
-even_all most size (r ∷ runs) even none h =
-    ap (λ n. n % size) (length-append r (all_bytes runs))
-    ∙ even_sum (length r) (length (all_bytes runs)) size (ap (λ n. n % size) h.0 ∙ even) (even_all most size runs even none h.1)
-
--- ---- a chunk in its arena
-
--- What was read is read later.
-read_later : (es more : List Entry) (id : ArenaId) (word : ℕ) → IsReadByOther es id word → IsReadByOther (es ++ more) id word
-read_later es more id word read = read_in es (es ++ more) id word (λ e i. among_left e es more i) read
-
-module _ {part : Part} {told : Option Contents} {pool : Pool} {v u w x : View} {a : ArenaId} {chunk : Chunk}
-    (opens : Opens pool v u a) (gives : Gives pool u w a part.most) (fills : Fills part told pool w x a chunk) (room : part.most ≤ limit_of pool.shape) where
-  fits : chunk.count ≤ length (bytes_of_arena (state_in x) a)
-  fits =
-      let limits : limit_of x.shape ≡ limit_of pool.shape = ap limit_of fills.goes.alone.outside.of.1 in
-      let within = fills.has.within in
-      held_room x a chunk.count fills.held (omega (arith, limits, within, room))
-
-  pub long : length (take chunk.count (bytes_of_arena (state_in x) a)) ≡ chunk.count
-  long = length-take-le chunk.count (bytes_of_arena (state_in x) a) fits
-
-  given_now : given_in (view_of_pass x) a ≡ part.most
-  given_now = fills.given ∙ gives.held.given_is
-
-  -- It is a stock of the pool.
-  pub is_stocked : (s : Region) → s ≡ region_of a 0 chunk.count → IsStockedOf x.shape.passes pool x s
-  is_stocked s is =
-      let alone = fills.goes.alone in
-      let given = given_now in
-      let within = fills.has.within in
-      subst (λ (r : Region). IsStockedOf x.shape.passes pool x r) (sym is) (record {
-        outside = alone.outside;
-        sound = alone.sound;
-        whole = alone.whole;
-        tidy = alone.tidy;
-        start = refl;
-        known = record { arena = fills.held.known; given = omega (arith, given, within) };
-        alive = fills.held.alive;
-        shared = opens.opened.shared;
-        passes = refl;
-      })
-
-  pub bytes_are : (s : Region) → s ≡ region_of a 0 chunk.count → bytes_in_pool x s ≡ take chunk.count (bytes_of_arena (state_in x) a)
-  bytes_are s is =
-      let all = fits in
-      pooled_is x s ∙ ap (bytes_at_places (state_in x)) is ∙ places_have (state_in x) (region_of a 0 chunk.count) (omega (arith, all))
-
-  module _ {passes : ℕ} {y : View} {s : Region} {plan : Plan} {found : List Found} (is : s ≡ region_of a 0 chunk.count)
-      (answers : Answers passes pool x y s plan found) where
-    -- Its arena can be closed.
-    pub can_close : CanClose pool y a
-    can_close =
-        let at : s.arena ≡ a = ap (λ (r : Region). r.arena) is in
-        record {
-          alone = answers.goes.alone;
-          known = answers.stand.arenas a ∙ fills.held.known;
-          alive = answers.stand.life a ∙ fills.held.alive;
-          shared = opens.opened.shared;
-        }
-
-    module _ {z : View} (closes : Closes pool y z a) where
-      goes : GoesOn pool v z
-      goes = goes_then opens.goes (goes_then gives.goes (goes_then fills.goes (goes_then answers.goes closes.goes)))
-
-      adds : AddsArena v z a
-      adds = record {
-        names = closes.elsewhere.names ∙ answers.stand.names ∙ fills.elsewhere.names ∙ gives.elsewhere.names ∙ opens.opened.names;
-        unknown = opens.opened.unknown;
-        life = λ b known other.
-            ap (λ o. o.life) (closes.elsewhere.others b other) ∙ answers.stand.life b ∙ ap (λ o. o.life) (fills.elsewhere.others b other)
-            ∙ ap (λ o. o.life) (gives.elsewhere.others b other) ∙ ap (λ o. o.life) (opens.opened.keeps.same b known);
-        words = λ b known other.
-            ap (λ o. o.words) (closes.elsewhere.others b other) ∙ answers.stand.words b ∙ ap (λ o. o.words) (fills.elsewhere.others b other)
-            ∙ ap (λ o. o.words) (gives.elsewhere.others b other) ∙ ap (λ o. o.words) (opens.opened.keeps.same b known);
-        more = goes.more;
-        seen = goes.seen;
-      }
-
-      shown : ShowsChunk (state_in z) z.seen plan a (take chunk.count (bytes_of_arena (state_in x) a))
-      shown =
-          let bytes = take chunk.count (bytes_of_arena (state_in x) a) in
-          let words : (arena_of (state_in z) a).words ≡ (arena_of (state_in x) a).words = closes.words ∙ answers.stand.words a in
-          let region : region_of a 0 (length bytes) ≡ s = ap (λ n. region_of a 0 n) long ∙ sym is in
-          let arena : s.arena ≡ a = ap (λ (r : Region). r.arena) is in
-          record {
-            ended = closes.ended;
-            stand = ap (λ (ws : List ℕ). map (byte_at ws) (range_with_len 0 (length bytes))) words
-                ∙ ap (bytes_at_places (state_in x)) region ∙ sym (pooled_is x s) ∙ bytes_are s is;
-            read = λ word asks.
-                let was : AsksWord plan (bytes_in_pool x s) s.arena word =
-                subst (λ (q : List ℕ × ArenaId). AsksWord plan q.0 q.1 word) (λ i. (sym (bytes_are s is) i, sym arena i)) asks in
-                let read : IsReadByOther y.seen a word = subst (λ b. IsReadByOther y.seen b word) arena (answers.read word was) in
-                subst (λ es. IsReadByOther es a word) (sym closes.goes.seen) (read_later y.seen closes.goes.more a word read);
-          }
-
-      -- The runs go on by it, and so does the answer.
-      pub gone_on : (runs : List (List ℕ)) (was : List Found) → HasGone pool v plan runs was → 0 < plan.size → length (all_bytes runs) % plan.size ≡ 0
-          → length (all_bytes runs) + chunk.count ≤ 2 ^ 62
-          → CanJoin was found × HasGone pool z plan (runs ++ take chunk.count (bytes_of_arena (state_in x) a) ∷ []) (joined was found)
-      gone_on runs was gone some even small =
-          let bytes = take chunk.count (bytes_of_arena (state_in x) a) in
-          let all : all_bytes (runs ++ bytes ∷ []) ≡ all_bytes runs ++ bytes = all_more runs bytes in
-          let size : s.size ≡ length bytes = ap (λ (r : Region). r.size) is ∙ sym long in
-          let joins = few_join plan (length (all_bytes runs)) s.size was found gone.few answers.few (let n = ap (λ (r : Region). r.size) is in omega (arith, n, small)) in
-          let count : length (all_bytes runs) + s.size ≡ length (all_bytes (runs ++ bytes ∷ [])) =
-          ap (λ n. length (all_bytes runs) + n) size ∙ sym (length-append (all_bytes runs) bytes) ∙ ap length (sym all) in (
-            joins.can,
-            record {
-              alone = closes.goes.alone;
-              value = ap (λ b. joined b found) gone.value ∙ ap (joined (answer plan (all_bytes runs))) (answers.value ∙ ap (answer plan) (bytes_are s is))
-                  ∙ answer-append plan (all_bytes runs) bytes some even ∙ ap (answer plan) (sym all);
-              few = subst (λ n. AreFew n plan (joined was found)) count joins.few;
-              chunks = one_more_shown plan runs bytes adds gone.chunks shown;
-            },
-          )
-
--- ---- the file so far
-
-is_true : (b : Bool) → ¬ (b ≡ false) → b ≡ true
-is_true true n = refl
-is_true false n = absurd (n refl)
-
-module _ {limit most at : ℕ} {told : Option Contents} {name : List ℕ} (bytes : List ℕ) {ended : Bool} (cut : IsCut limit most told name at bytes ended) where
-  module _ (before : List ℕ) (count : length before ≡ at) (first : AreBytesFrom told name 0 before) where
-    -- It comes behind what came before.
-    pub first_more : AreBytesFrom told name 0 (before ++ bytes)
-    first_more =
-        let there : at ≡ 0 + length before = omega (arith, count) in
-        AreBytesFrom-append told name before bytes 0 first (subst (λ n. AreBytesFrom told name n bytes) there cut.bytes_are)
-
-    pub count_more : length (before ++ bytes) ≡ at + length bytes
-    count_more = length-append before bytes ∙ ap (λ n. n + length bytes) count
-
-    -- Where the file ends with it they are the file.
-    pub whole_file : ended ≡ true → IsWhole told name (before ++ bytes)
-    whole_file last = first_to_last told name (before ++ bytes) first_more (subst (EndsBefore told name) (sym count_more) (cut.ends last))
-
-    -- Where it leaves a rest the file does.
-    pub is_ragged : (p : Plan) (rest : ℕ) → length before % p.size ≡ 0 → most % p.size ≡ 0 → rest ≡ length bytes % p.size → 0 < rest
-        → IsRagged limit told name p rest
-    is_ragged p rest even whole is some = record {
-      bytes = before ++ bytes;
-      is_file = whole_file (is_true ended (λ f. let all = cut.full f in omega (arith, ap (λ n. n % p.size) all, whole, is, some)));
-      short = (let short = cut.short in omega (arith, count_more, short));
-      is = is ∙ sym (ap (λ n. n % p.size) (length-append before bytes) ∙ rest_of (length before) (length bytes) p.size even);
-      some = some;
-    }
-      where
-        rest_of : (a b n : ℕ) → a % n ≡ 0 → (a + b) % n ≡ b % n
-        rest_of a b n e =
-            let whole : a ≡ a / n * n = sym (div-add-mod' a n) ∙ omega (arith, e) in
-            ap (λ m. (m + b) % n) whole ∙ mul-add-mod_self_right (a / n) n b
-
--- Where nothing comes the file has ended.
-pub ends_here : {limit most at : ℕ} {told : Option Contents} {name buffer : List ℕ} {piece : Chunk} → IsNextPiece limit most told name at buffer piece
-    → piece.count ≡ 0 → 0 < most → EndsBefore told name at
-ends_here {most = most} {at = at} {told = told} {name = name} {buffer = buffer} {piece = piece} next none some =
-    let short : length (take piece.count buffer) ≡ 0 = ap (λ n. length (take n buffer)) none ∙ ap length (none_taken buffer) in
-    subst (EndsBefore told name) (omega (arith, short)) (next.bytes.ends (is_true piece.ended (λ f. let full = next.bytes.full f in omega (arith, full, short, some))))
+use Rattle.fm_top_stream.proofs.Runs.{all_more, count_more, cut_more, cut_whole, even_all, even_sum, first_more, is_ragged, whole_file, whole_more}
+use Rattle.fm_top_stream.proofs.Standing.{all_shown, all_zip_more, named_known}
 
 -- ---- the stream so far
 
 -- No chunk has gone through.
 pub gone_none : {told : Option Contents} {name : List ℕ} {most : ℕ} {pool : Pool} {v : View} {p : Plan} {a : List Found} → IsAlone v.gathered pool v
-    → v.seen ≡ [] → a ≡ answer p [] → AreFew 0 p a → AreBytesFrom told name 0 [] → GoneSoFar told name most 0 pool v p a
+    → v.seen ≡ [] → a ≡ answer p [] → AreFew 0 p a → AreBytesFrom told name 0 [] → GoneSoFar told name most 0 pool v p [] a
 gone_none {v = v} {p = p} alone none is few first = record {
   runs = [];
   gone = record {
     alone = alone;
     value = is;
     few = few;
-    chunks = subst (λ (es : List Entry). AllZip (ShowsChunk (state_in v) v.seen p) (names_in (state_after (limit_of v.shape) [] es)) []) (sym none) tt;
+    ids = [];
+    chunks = tt;
+    names = ap (λ (es : List Entry). names_in (state_after (limit_of v.shape) [] es)) none;
+    apart = tt;
   };
   whole = tt;
   count = refl;
   first = first;
 }
 
-module _ {told : Option Contents} {name : List ℕ} {most at : ℕ} {pool : Pool} {v : View} {p : Plan} {was : List Found}
-    (so_far : GoneSoFar told name most at pool v p was) where
+-- An arena that showed a chunk is known.
+pub shown_known : {pool : Pool} {v : View} {p : Plan} {behind : List ArenaId} {runs : List (List ℕ)} {a : List Found} (gone : HasGone pool v p behind runs a)
+    (id : ArenaId) → IsAmong id gone.ids → IsKnown v id
+shown_known {v = v} {behind = behind} gone id i =
+    named_known (state_in v) id (subst (λ ns. IsAmong id ns) (sym gone.names) (among_left id gone.ids behind i))
+
+module _ {pool : Pool} {v w : View} {p : Plan} {behind : List ArenaId} {runs : List (List ℕ)} {a : List Found} where
+  -- Arenas were opened behind all others, which are as they were.
+  pub gone_behind : (new : List ArenaId) → HasGone pool v p behind runs a → GoesOn pool v w
+      → ((b : ArenaId) → IsKnown v b → (arena_of (state_in w) b).life ≡ (arena_of (state_in v) b).life)
+      → ((b : ArenaId) → IsKnown v b → (arena_of (state_in w) b).words ≡ (arena_of (state_in v) b).words)
+      → names_in (state_in w) ≡ names_in (state_in v) ++ new → AllByRecursion (λ b. ¬ (IsKnown v b)) new → HasGone pool w p (behind ++ new) runs a
+  gone_behind new gone goes life words names unknown = record {
+    alone = goes.alone;
+    value = gone.value;
+    few = gone.few;
+    ids = gone.ids;
+    chunks = all_shown v w p gone.ids runs goes.more goes.seen (λ b i. life b (shown_known gone b i)) (λ b i. words b (shown_known gone b i)) gone.chunks;
+    names = names ∙ ap (λ ns. ns ++ new) gone.names ∙ append_assoc gone.ids behind new;
+    apart = all_both (λ id. ¬ (IsAmong id gone.ids)) behind new gone.apart
+        (all_weaker (λ b. ¬ (IsKnown v b)) (λ b. ¬ (IsAmong b gone.ids)) (λ b not i. not (shown_known gone b i)) new unknown);
+  }
+
+module _ {told : Option Contents} {name : List ℕ} {most at : ℕ} {pool : Pool} {v : View} {p : Plan} {behind : List ArenaId} {was : List Found}
+    (so_far : GoneSoFar told name most at pool v p behind was) where
   pub even_so_far : 0 < p.size → most % p.size ≡ 0 → length (all_bytes so_far.runs) % p.size ≡ 0
   even_so_far some even = even_all most p.size so_far.runs even (zero-mod p.size) so_far.whole
 
-  -- The file ended behind whole chunks.
-  pub gone_whole : 0 < p.size → 0 < most → most % p.size ≡ 0 → {limit : ℕ} → at ≤ limit → EndsBefore told name at → GoneThrough limit told name most pool v p was
-  gone_whole some any even within ends = record {
-    runs = so_far.runs;
-    gone = so_far.gone;
-    cut = cut_whole most so_far.runs any so_far.whole;
-    is_file = first_to_last told name (all_bytes so_far.runs) so_far.first (subst (EndsBefore told name) (sym so_far.count) ends);
-    short = (let count = so_far.count in omega (arith, count, within));
-    even = even_so_far some even;
-  }
+  -- The same chunks, in the pool as it is later.
+  pub gone_later : {w : View} {then : List ArenaId} → HasGone pool w p then so_far.runs was → GoneSoFar told name most at pool w p then was
+  gone_later gone = record { runs = so_far.runs; gone = gone; whole = so_far.whole; count = so_far.count; first = so_far.first }
 
-  module _ {z : View} {bytes : List ℕ} {now : List Found} {limit : ℕ} {ended : Bool} (gone : HasGone pool z p (so_far.runs ++ bytes ∷ []) now)
+  module _ {z : View} {then : List ArenaId} {bytes : List ℕ} {now : List Found} {limit : ℕ} {ended : Bool} (gone : HasGone pool z p then (so_far.runs ++ bytes ∷ []) now)
       (cut : IsCut limit most told name at bytes ended) where
     -- One chunk more, which isn't the last.
-    pub gone_more : ended ≡ false → GoneSoFar told name most (at + length bytes) pool z p now
+    pub gone_more : ended ≡ false → GoneSoFar told name most (at + length bytes) pool z p then now
     gone_more goes =
         let all = all_more so_far.runs bytes in
         record {
@@ -287,77 +119,294 @@ module _ {told : Option Contents} {name : List ℕ} {most at : ℕ} {pool : Pool
           first = subst (AreBytesFrom told name 0) (sym all) (first_more bytes cut (all_bytes so_far.runs) so_far.count so_far.first);
         }
 
+  module _ {z : View} {bytes : List ℕ} {now : List Found} {limit : ℕ} {ended : Bool} (gone : HasGone pool z p [] (so_far.runs ++ bytes ∷ []) now)
+      (cut : IsCut limit most told name at bytes ended) where
     -- The last one.
-    pub gone_last : ended ≡ true → 0 < length bytes → 0 < p.size → most % p.size ≡ 0 → length bytes % p.size ≡ 0 → GoneThrough limit told name most pool z p now
-    gone_last last any some even whole =
+    pub gone_last : EndsBefore told name (at + length bytes) → 0 < length bytes → 0 < p.size → most % p.size ≡ 0 → length bytes % p.size ≡ 0
+        → GoneThrough limit told name most pool z p now
+    gone_last ends any some even whole =
         let all = all_more so_far.runs bytes in
         record {
           runs = so_far.runs ++ bytes ∷ [];
           gone = gone;
           cut = cut_more most so_far.runs bytes so_far.whole any cut.within;
           short = (let count = ap length all ∙ count_more bytes cut (all_bytes so_far.runs) so_far.count so_far.first in let short = cut.short in omega (arith, count, short));
-          is_file = subst (IsWhole told name) (sym all) (whole_file bytes cut (all_bytes so_far.runs) so_far.count so_far.first last);
+          is_file = subst (IsWhole told name) (sym all) (whole_file bytes cut (all_bytes so_far.runs) so_far.count so_far.first ends);
           even = ap (λ bs. length bs % p.size) all ∙ ap (λ n. n % p.size) (length-append (all_bytes so_far.runs) bytes)
               ∙ even_sum (length (all_bytes so_far.runs)) (length bytes) p.size (even_so_far some even) whole;
         }
 
--- ---- the next chunk of a stream
+-- The file is empty.
+pub empty_file : {told : Option Contents} {name : List ℕ} {most : ℕ} {pool : Pool} {v : View} {p : Plan} {a : List Found} {limit : ℕ}
+    (so_far : GoneSoFar told name most 0 pool v p [] a) → 0 < most → 0 < p.size → most % p.size ≡ 0 → EndsBefore told name 0
+    → GoneThrough limit told name most pool v p a
+empty_file {told = told} {name = name} {most = most} so_far any some even ends = record {
+  runs = so_far.runs;
+  gone = so_far.gone;
+  cut = cut_whole most so_far.runs any so_far.whole;
+  is_file = first_to_last told name (all_bytes so_far.runs) so_far.first (subst (EndsBefore told name) (sym so_far.count) ends);
+  short = (let count = so_far.count in omega (arith, count));
+  even = even_so_far so_far some even;
+}
 
-module _ {part : Part} {told : Option Contents} {pool : Pool} {v u w x : View} {a : ArenaId} {chunk : Chunk} {threads : ℕ} {p : Plan} {was : List Found}
-    (opens : Opens pool v u a) (gives : Gives pool u w a part.most) (fills : Fills part told pool w x a chunk)
-    (so_far : GoneSoFar told part.name.now part.most part.at pool v p was) (asks : CanAsk part.most threads p pool) where
-  -- It has so many bytes.
-  count_is : length (take chunk.count (bytes_of_arena (state_in x) a)) ≡ chunk.count
-  count_is = long opens gives fills asks.room
+-- ---- a chunk that stands in its arena
 
-  next_short : part.at + chunk.count ≤ part.limit
-  next_short = let short = fills.has.cut.short in omega (arith, short, count_is)
+-- The next chunk's arena was not known before.
+pub unknown_next : (P : ArenaId → Type 0) (Q : Placed → Type 0) (next : Option Placed) → IfSome next (λ x. P x.arena × Q x) → AllByRecursion P (arenas_of next)
+unknown_next P Q None h = tt
+unknown_next P Q (Some x) h = (h.0, tt)
 
-  -- It is of whole records, if it isn't the last.
-  next_whole : chunk.ended ≡ false → chunk.count % p.size ≡ 0
-  next_whole goes = ap (λ n. n % p.size) (sym count_is ∙ fills.has.cut.full goes) ∙ asks.even
+-- What was read is read later.
+read_later : (es more : List Entry) (id : ArenaId) (word : ℕ) → IsReadByOther es id word → IsReadByOther (es ++ more) id word
+read_later es more id word read = read_in es (es ++ more) id word (λ e i. among_left e es more i) read
 
-  -- It leaves a rest, so it is the last.
-  pub through_ragged : (g : Gone) → g.rest ≡ chunk.count % p.size → ¬ (g.rest ≡ 0) → GoesByChunk part told p pool g chunk
-  through_ragged g is other = record {
-    some = fills.has.some;
-    short = next_short;
-    ends = λ last. record {
-      whole = λ none. absurd (other none);
-      ragged = λ any. is_ragged (take chunk.count (bytes_of_arena (state_in x) a)) fills.has.cut (all_bytes so_far.runs) so_far.count so_far.first p g.rest
-          (even_so_far so_far asks.sized asks.even) asks.even (is ∙ ap (λ n. n % p.size) (sym count_is)) any;
-    };
-    even = λ goes. is ∙ next_whole goes;
-    on = λ goes. absurd (other (is ∙ next_whole goes));
-  }
+module _ {limit most at : ℕ} {told : Option Contents} {name : List ℕ} {pool : Pool} {v : View} {x : Placed} (alone : IsAlone v.gathered pool v)
+    (room : most ≤ limit_of pool.shape) (stands : StandsIn limit most told name at v x) where
+  abbrev pub chunk_bytes : List ℕ
+  chunk_bytes = take x.chunk.count (bytes_of_arena (state_in v) x.arena)
 
-  module _ (few : part.limit ≤ 2 ^ 62) {passes : ℕ} {y z : View} {s : Region} {found : List Found} (is : s ≡ region_of a 0 chunk.count)
-      (answers : Answers passes pool x y s p found) (closes : Closes pool y z a) where
-    on : CanJoin was found × HasGone pool z p (so_far.runs ++ take chunk.count (bytes_of_arena (state_in x) a) ∷ []) (joined was found)
-    on =
-        let short = fills.has.cut.short in
-        let count = so_far.count in
-        gone_on opens gives fills asks.room is answers closes so_far.runs was so_far.gone asks.sized (even_so_far so_far asks.sized asks.even)
-        (omega (arith, count, short, count_is, few))
+  fits : x.chunk.count ≤ length (bytes_of_arena (state_in v) x.arena)
+  fits =
+      let limits : limit_of v.shape ≡ limit_of pool.shape = ap limit_of alone.outside.of.1 in
+      let within = stands.within in
+      held_room v x.arena x.chunk.count stands.held (omega (arith, limits, within, room))
 
-    pub next_joins : CanJoin was found
-    next_joins = on.0
+  pub long : length chunk_bytes ≡ x.chunk.count
+  long = length-take-le x.chunk.count (bytes_of_arena (state_in v) x.arena) fits
 
-    -- It is of whole records, and the file's last or one after which more may come.
-    pub through_whole : (g : Gone) → g.pass ≡ z → g.answer ≡ joined was found → g.rest ≡ chunk.count % p.size → g.rest ≡ 0 → GoesByChunk part told p pool g chunk
-    through_whole g here same rest none =
-        let any = fills.has.some in
-        let gone : HasGone pool g.pass p (so_far.runs ++ take chunk.count (bytes_of_arena (state_in x) a) ∷ []) g.answer =
-        subst (λ (v : View). HasGone pool v p (so_far.runs ++ take chunk.count (bytes_of_arena (state_in x) a) ∷ []) g.answer) (sym here)
-        (subst (HasGone pool z p (so_far.runs ++ take chunk.count (bytes_of_arena (state_in x) a) ∷ [])) (sym same) on.1) in
+  -- It is a stock of the pool.
+  pub is_stocked : (s : Region) → s ≡ region_of x.arena 0 x.chunk.count → IsStockedOf v.shape.passes pool v s
+  is_stocked s is =
+      let given = stands.given in
+      let within = stands.within in
+      subst (λ (r : Region). IsStockedOf v.shape.passes pool v r) (sym is) (record {
+        outside = alone.outside;
+        sound = alone.sound;
+        whole = alone.whole;
+        tidy = alone.tidy;
+        start = refl;
+        known = record { arena = stands.held.known; given = omega (arith, given, within) };
+        alive = stands.held.alive;
+        shared = stands.shared;
+        passes = refl;
+      })
+
+  pub bytes_are : (s : Region) → s ≡ region_of x.arena 0 x.chunk.count → bytes_in_pool v s ≡ chunk_bytes
+  bytes_are s is =
+      let all = fits in
+      pooled_is v s ∙ ap (bytes_at_places (state_in v)) is ∙ places_have (state_in v) (region_of x.arena 0 x.chunk.count) (omega (arith, all))
+
+  module _ {passes : ℕ} {part : Part} {y : View} {s : Region} {plan : Plan} {found : List Found} {next : Option Placed}
+      (is : s ≡ region_of x.arena 0 x.chunk.count) (answers : AnswersOn passes part told pool v y s plan found next) where
+    -- Its arena can be closed.
+    pub can_close : CanClose pool y x.arena
+    can_close =
+        let at : s.arena ≡ x.arena = ap (λ (r : Region). r.arena) is in
         record {
-          some = any;
-          short = next_short;
-          ends = λ last. record {
-            whole = λ whole. gone_last so_far gone fills.has.cut last (omega (arith, count_is, any)) asks.sized asks.even
-                (ap (λ n. n % p.size) count_is ∙ sym rest ∙ none);
-            ragged = λ some. absurd (omega (arith, some, none));
-          };
-          even = λ goes. none;
-          on = λ goes. subst (λ n. GoneSoFar told part.name.now part.most (part.at + n) pool g.pass p g.answer) count_is (gone_more so_far gone fills.has.cut goes);
+          alone = answers.goes.alone;
+          known = subst (λ a. IsKnown y a) at answers.stocked.known.arena;
+          alive = answers.life x.arena stands.held.known ∙ stands.held.alive;
+          shared = stands.shared;
         }
+
+    module _ {z : View} (closes : Closes pool y z x.arena) where
+      -- It shows what it had.
+      pub shown : ShowsChunk (state_in z) z.seen plan x.arena chunk_bytes
+      shown =
+          let words : (arena_of (state_in z) x.arena).words ≡ (arena_of (state_in v) x.arena).words = closes.words ∙ answers.words x.arena stands.held.known in
+          let region : region_of x.arena 0 (length chunk_bytes) ≡ s = ap (λ n. region_of x.arena 0 n) long ∙ sym is in
+          let arena : s.arena ≡ x.arena = ap (λ (r : Region). r.arena) is in
+          record {
+            ended = closes.ended;
+            stand = ap (λ (ws : List ℕ). map (byte_at ws) (range_with_len 0 (length chunk_bytes))) words
+                ∙ ap (bytes_at_places (state_in v)) region ∙ sym (pooled_is v s) ∙ bytes_are s is;
+            read = λ word asks.
+                let was : AsksWord plan (bytes_in_pool v s) s.arena word =
+                subst (λ (q : List ℕ × ArenaId). AsksWord plan q.0 q.1 word) (λ i. (sym (bytes_are s is) i, sym arena i)) asks in
+                let read : IsReadByOther y.seen x.arena word = subst (λ b. IsReadByOther y.seen b word) arena (answers.read word was) in
+                subst (λ es. IsReadByOther es x.arena word) (sym closes.goes.seen) (read_later y.seen closes.goes.more x.arena word read);
+          }
+
+      -- The runs go on by it, and so does the answer.
+      pub gone_on : (runs : List (List ℕ)) (was : List Found) → HasGone pool v plan (x.arena ∷ []) runs was → 0 < plan.size
+          → length (all_bytes runs) % plan.size ≡ 0 → length (all_bytes runs) + x.chunk.count ≤ 2 ^ 62
+          → CanJoin was found × HasGone pool z plan (arenas_of next) (runs ++ chunk_bytes ∷ []) (joined was found)
+      gone_on runs was gone some even small =
+          let all : all_bytes (runs ++ chunk_bytes ∷ []) ≡ all_bytes runs ++ chunk_bytes = all_more runs chunk_bytes in
+          let size : s.size ≡ length chunk_bytes = ap (λ (r : Region). r.size) is ∙ sym long in
+          let joins = few_join plan (length (all_bytes runs)) s.size was found gone.few answers.few (let n = ap (λ (r : Region). r.size) is in omega (arith, n, small)) in
+          let count : length (all_bytes runs) + s.size ≡ length (all_bytes (runs ++ chunk_bytes ∷ [])) =
+          ap (λ n. length (all_bytes runs) + n) size ∙ sym (length-append (all_bytes runs) chunk_bytes) ∙ ap length (sym all) in
+          let unknown = unknown_next (λ b. ¬ (IsKnown v b)) (λ n. StandsIn part.limit part.most told part.name.now part.at y n) next answers.stands in
+          let mid : HasGone pool y plan (x.arena ∷ arenas_of next) runs was =
+          gone_behind (arenas_of next) gone answers.goes answers.life answers.words answers.names unknown in
+          let other : (b : ArenaId) → IsAmong b mid.ids → b ≢ x.arena = λ b i e. mid.apart.0 (subst (λ (a : ArenaId). IsAmong a mid.ids) e i) in
+          let kept = all_shown y z plan mid.ids runs closes.goes.more closes.goes.seen (λ b i. ap (λ o. o.life) (closes.elsewhere.others b (other b i)))
+          (λ b i. ap (λ o. o.words) (closes.elsewhere.others b (other b i))) mid.chunks in (
+            joins.can,
+            record {
+              alone = closes.goes.alone;
+              value = ap (λ b. joined b found) gone.value ∙ ap (joined (answer plan (all_bytes runs))) (answers.value ∙ ap (answer plan) (bytes_are s is))
+                  ∙ answer-append plan (all_bytes runs) chunk_bytes some even ∙ ap (answer plan) (sym all);
+              few = subst (λ n. AreFew n plan (joined was found)) count joins.few;
+              ids = mid.ids ++ x.arena ∷ [];
+              chunks = all_zip_more (ShowsChunk (state_in z) z.seen plan) mid.ids runs x.arena chunk_bytes kept shown;
+              names = closes.elsewhere.names ∙ mid.names ∙ sym (append_assoc mid.ids (x.arena ∷ []) (arenas_of next));
+              apart = apart_behind mid.ids x.arena (arenas_of next) mid.apart.1
+                  (all_weaker (λ b. ¬ (IsKnown v b)) (λ b. b ≢ x.arena) (λ b not e. not (subst (λ (a : ArenaId). IsKnown v a) (sym e) stands.held.known)) (arenas_of next)
+                  unknown);
+            },
+          )
+        where
+          apart_behind : (ids : List ArenaId) (a : ArenaId) (ns : List ArenaId) → AllByRecursion (λ id. ¬ (IsAmong id ids)) ns → AllByRecursion (λ id. id ≢ a) ns
+              → AllByRecursion (λ id. ¬ (IsAmong id (ids ++ a ∷ []))) ns
+          apart_behind ids a [] h k = tt
+          apart_behind ids a (n ∷ ns) h k = (
+            (λ i. ⊎_elim (λ (j : IsAmong n ids). h.0 j) (λ (j : IsAmong n (a ∷ [])). ⊎_elim (λ (e : n ≡ a). k.0 e) (λ (f : ⊥). f) j) (among_either n ids (a ∷ []) i)),
+            apart_behind ids a ns h.1 k.1,
+          )
+
+-- ---- and the next one
+
+-- An arena is held still by a pass that is known to be whole.
+pub held_still : {pool : Pool} {v w : View} {a : ArenaId} → IsHeld (view_of_pass v) a → a.kind ≡ Shared → IsAlone v.gathered pool v → IsAlone w.gathered pool w → IsKnown w a
+    → (arena_of (state_in w) a).life ≡ (arena_of (state_in v) a).life → (arena_of (state_in w) a).words ≡ (arena_of (state_in v) a).words
+    → IsHeld (view_of_pass w) a
+held_still {v = v} {w = w} {a = a} held shared before now known life words =
+    let shape : w.shape ≡ v.shape = now.outside.of.1 ∙ sym before.outside.of.1 in
+    record {
+      by_itself = inr now.whole;
+      small = subst (λ (z : Shape). limit_of z ≤ 2 ^ 40) (sym shape) held.small;
+      outside = now.outside.outside;
+      known = known;
+      usable = λ e. let no : Confined ≡ Shared = sym e ∙ shared in absurd (cc);
+      alive = life ∙ held.alive;
+      size = ap length words ∙ held.size ∙ ap (λ (z : Shape). words_within (limit_of z)) (sym shape);
+    }
+
+-- A chunk stands still while the pool's other arenas change.
+pub stands_still : {limit most at : ℕ} {told : Option Contents} {name : List ℕ} {pool : Pool} {v w : View} {a : ArenaId} {x : Placed}
+    → StandsIn limit most told name at v x → x.arena ≢ a → GoesOn pool v w → IsAlone v.gathered pool v → OnlyIn a (state_in v) (state_in w)
+    → StandsIn limit most told name at w x
+stands_still {limit} {most} {at} {told} {name} {v = v} {w = w} {x = x} stands other goes before only =
+    let same : arena_of (state_in w) x.arena ≡ arena_of (state_in v) x.arena = only.others x.arena other in
+    record {
+      held = held_still stands.held stands.shared before goes.alone (only.arenas x.arena ∙ stands.held.known) (ap (λ o. o.life) same) (ap (λ o. o.words) same);
+      given = subst (λ (o : Arena). most ≤ o.given) (sym same) stands.given;
+      shared = stands.shared;
+      cut = subst (λ (o : Arena). IsCut limit most told name at (take x.chunk.count (bytes_in o.words)) x.chunk.ended) (sym same) stands.cut;
+      some = stands.some;
+      within = stands.within;
+    }
+
+module _ {part : Part} {told : Option Contents} {threads : ℕ} {p : Plan} {pool : Pool} {g : UnderWay} {x : Placed} (can : CanTakeChunk part told threads p pool g x)
+    {y z : View} {s : Region} {found : List Found} {next : Option Placed} (is : s ≡ region_of x.arena 0 x.chunk.count)
+    (answers : AnswersOn g.pass.shape.passes part told pool g.pass y s p found next) (closes : Closes pool y z x.arena) where
+  room : part.most ≤ limit_of pool.shape
+  room = can.asks.room
+
+  alone : IsAlone g.pass.gathered pool g.pass
+  alone = can.has.gone.gone.alone
+
+  stands : StandsIn part.limit part.most told part.name.now can.from g.pass x
+  stands = can.has.stands
+
+  on : CanJoin g.answer found × HasGone pool z p (arenas_of next) (can.has.gone.runs ++ chunk_bytes alone room stands ∷ []) (joined g.answer found)
+  on =
+      let so_far = can.has.gone in
+      let count = so_far.count in
+      let at = can.at in
+      let short = can.read.short in
+      let small = can.read.small in
+      gone_on alone room stands is answers closes so_far.runs g.answer so_far.gone can.asks.sized (even_so_far so_far can.asks.sized can.asks.even)
+      (omega (arith, count, at, short, small))
+
+  pub next_joins : CanJoin g.answer found
+  next_joins = on.0
+
+  -- The next one stands, or the file was gone through.
+  pub goes_by : (h : UnderWay) → h.pass ≡ z → h.answer ≡ joined g.answer found → length h.buffer.items ≡ piece_limit
+      → IfSome next (λ n. x.chunk.ended ≡ false) → GoesByChunk part told p pool h next
+  goes_by h here same buffer more =
+      let so_far = can.has.gone in
+      let bytes = chunk_bytes alone room stands in
+      let count : length bytes ≡ x.chunk.count = long alone room stands in
+      let at : can.from + length bytes ≡ part.at = ap (λ n. can.from + n) count ∙ can.at in
+      let gone : HasGone pool h.pass p (arenas_of next) (so_far.runs ++ bytes ∷ []) h.answer =
+      subst (λ (v : View). HasGone pool v p (arenas_of next) (so_far.runs ++ bytes ∷ []) h.answer) (sym here)
+      (subst (HasGone pool z p (arenas_of next) (so_far.runs ++ bytes ∷ [])) (sym same) on.1) in
+      record {
+        on = on_next next gone answers.stands more;
+        ends = λ none. gone_last so_far (subst (λ (n : Option Placed). HasGone pool h.pass p (arenas_of n) (so_far.runs ++ bytes ∷ []) h.answer) none gone) stands.cut
+            (subst (EndsBefore told part.name.now) (sym at) (answers.ended none)) (let some = stands.some in omega (arith, count, some)) can.asks.sized can.asks.even
+            (ap (λ n. n % p.size) count ∙ can.even);
+      }
+    where
+      on_next : (n : Option Placed) → HasGone pool h.pass p (arenas_of n) (can.has.gone.runs ++ chunk_bytes alone room stands ∷ []) h.answer
+          → IfSome n (λ k. (¬ (IsKnown g.pass k.arena)) × StandsIn part.limit part.most told part.name.now part.at y k) → IfSome n (λ k. x.chunk.ended ≡ false)
+          → IfSome n (HasNext part.limit part.most told part.name.now part.at p pool h)
+      on_next None gone new more = tt
+      on_next (Some k) gone new more =
+          let count : length (chunk_bytes alone room stands) ≡ x.chunk.count = long alone room stands in
+          let at : can.from + length (chunk_bytes alone room stands) ≡ part.at = ap (λ n. can.from + n) count ∙ can.at in
+          let other : k.arena ≢ x.arena = λ e. new.0 (subst (λ (a : ArenaId). IsKnown g.pass a) (sym e) stands.held.known) in
+          record {
+            buffer = buffer;
+            gone = subst (λ n. GoneSoFar told part.name.now part.most n pool h.pass p (k.arena ∷ []) h.answer) at (gone_more can.has.gone gone stands.cut more);
+            stands = subst (λ (v : View). StandsIn part.limit part.most told part.name.now part.at v k) (sym here)
+                (stands_still new.1 other closes.goes answers.goes.alone closes.elsewhere);
+          }
+
+-- Where a next chunk begins the file didn't end before it.
+pub goes_on : (ended : Bool) (count : ℕ) (next : Option Placed) → IfSome next (λ n. 0 < count) → (ended ≡ true → count ≡ 0) → IfSome next (λ n. ended ≡ false)
+goes_on ended count None some none = tt
+goes_on true count (Some n) some none = absurd (let zero = none refl in omega (arith, some, zero))
+goes_on false count (Some n) some none = refl
+
+-- The chunk ends within the limit.
+pub ends_within : {limit most at : ℕ} {told : Option Contents} {name : List ℕ} {p : Plan} {pool : Pool} {g : UnderWay} {x : Placed} {threads : ℕ}
+    (has : HasNext limit most told name at p pool g x) → CanAsk most threads p pool → at + x.chunk.count ≤ limit
+ends_within has asks =
+    let count = long has.gone.gone.alone asks.room has.stands in
+    let short = has.stands.cut.short in
+    omega (arith, count, short)
+
+-- The chunk leaves a rest, so it is the file's last.
+pub through_ragged : {limit most at : ℕ} {told : Option Contents} {name : List ℕ} {p : Plan} {pool : Pool} {g : UnderWay} {x : Placed} {threads : ℕ}
+    (has : HasNext limit most told name at p pool g x) → CanAsk most threads p pool → (r : Gone) → r.rest ≡ x.chunk.count % p.size → ¬ (r.rest ≡ 0)
+    → GoesThrough limit told name most p pool r
+through_ragged {p = p} {g = g} {x = x} has asks r is other =
+    let count : length (chunk_bytes has.gone.gone.alone asks.room has.stands) ≡ x.chunk.count = long has.gone.gone.alone asks.room has.stands in
+    record {
+      whole = λ none. absurd (other none);
+      ragged = λ any. is_ragged (chunk_bytes has.gone.gone.alone asks.room has.stands) has.stands.cut (all_bytes has.gone.runs) has.gone.count has.gone.first p r.rest
+          (even_so_far has.gone asks.sized asks.even) asks.even (is ∙ ap (λ n. n % p.size) (sym count)) any;
+    }
+
+-- ---- the first chunk
+
+pub begins : {part : Part} {told : Option Contents} {threads : ℕ} {p : Plan} {pool : Pool} {g h : UnderWay} {first : Chunk} {u w q : View} {a : ArenaId} {chunk : Chunk}
+    → CanBegin part told threads p pool g first → Opens pool g.pass u a → Gives pool u w a part.most → Fills part told pool w q a chunk
+    → h.pass ≡ q → h.answer ≡ g.answer → length h.buffer.items ≡ piece_limit
+    → HasNext part.limit part.most told part.name.now part.at p pool h (record { arena = a; chunk = chunk })
+begins {part} {told} {p = p} {pool = pool} {g = g} {h = h} {u = u} {w = w} {q = q} {a = a} {chunk = chunk} can opens gives fills here same buffer =
+    let given = fills.given ∙ gives.held.given_is in
+    let other : (b : ArenaId) → IsKnown g.pass b → b ≢ a = λ b k e. opens.opened.unknown (subst (λ (i : ArenaId). IsKnown g.pass i) e k) in
+    let still : (b : ArenaId) → IsKnown g.pass b → arena_of (state_in q) b ≡ arena_of (state_in g.pass) b =
+    λ b k. fills.elsewhere.others b (other b k) ∙ gives.elsewhere.others b (other b k) ∙ opens.opened.keeps.same b k in
+    let gone : HasGone pool q p (a ∷ []) can.gone.runs g.answer =
+    gone_behind (a ∷ []) can.gone.gone (goes_then opens.goes (goes_then gives.goes fills.goes)) (λ b k. ap (λ o. o.life) (still b k)) (λ b k. ap (λ o. o.words) (still b k))
+    (fills.elsewhere.names ∙ gives.elsewhere.names ∙ opens.opened.names) (opens.opened.unknown, tt) in
+    record {
+      buffer = buffer;
+      gone = subst (GoneSoFar told part.name.now part.most part.at pool h.pass p (a ∷ [])) (sym same)
+          (gone_later can.gone (subst (λ (v : View). HasGone pool v p (a ∷ []) can.gone.runs g.answer) (sym here) gone));
+      stands = subst (λ (v : View). StandsIn part.limit part.most told part.name.now part.at v (record { arena = a; chunk = chunk })) (sym here) (record {
+        held = fills.held;
+        given = omega (arith, given);
+        shared = opens.opened.shared;
+        cut = fills.has.cut;
+        some = fills.has.some;
+        within = fills.has.within;
+      });
+    }

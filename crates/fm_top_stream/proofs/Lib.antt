@@ -1,10 +1,16 @@
 pub mod Going
+pub mod Chunking
 pub mod Waiting
 pub mod Fills
 pub mod Reading
+pub mod Elsewhere
+pub mod Rounds
+pub mod Refusing
 pub mod Closes
 pub mod Cutting
 pub mod Standing
+pub mod Runs
 pub mod GoesOn
+pub mod Asks
+pub mod Beside
 pub mod Ends
-pub mod Chunking

@@ -1,5 +1,5 @@
 -- What was shown of chunks is shown still, while the pass goes on with the next.
-use Rattle.std.proofs.Common.{◌≡◌, ◌≢◌, ℕ, true, false, List, [], ◌∷◌, ◌++◌, length, map, refl, ap, sym, ◌∙◌, subst, inl, inr}
+use Rattle.std.proofs.Common.{◌≡◌, ℕ, true, false, List, [], ◌∷◌, ◌++◌, length, map, refl, ap, sym, ◌∙◌, subst, inl, inr}
 use Rattle.std.specs.Prelude.{if◌then◌else◌}
 use Rattle.std.specs.List.{AllZip, range_with_len}
 use Rattle.fm_base_bytes.specs.Words.{byte_at}
@@ -10,7 +10,7 @@ use Rattle.fm_base.specs.Arenas.{State, arena_of, has_arena, same_id}
 use Rattle.fm_base.specs.Calls.{Entry}
 use Rattle.fm_base.proofs.Names.{same_id-self}
 use Rattle.fm_records_query.specs.Plan.{Plan}
-use Rattle.fm_rule_facts.specs.Views.{View, IsKnown, state_in}
+use Rattle.fm_rule_facts.specs.Views.{View, state_in}
 use Rattle.fm_top_load.specs.Held.{names_in}
 use Rattle.fm_top_pooled.specs.Shown.{IsReadByOther}
 use Rattle.fm_top_pooled.proofs.Shows.{read_in}
@@ -55,24 +55,11 @@ named_known (a ∷ s) id (inr i) =
 
 -- ---- all of them
 
--- From one view to a later one an arena came last, and all others are as they were
-pub record AddsArena (v w : View) (id : ArenaId) : Type 0 where
-  pub names : names_in (state_in w) ≡ names_in (state_in v) ++ id ∷ []
-  pub unknown : ¬ (IsKnown v id)
-  pub life : (b : ArenaId) → IsKnown v b → b ≢ id → (arena_of (state_in w) b).life ≡ (arena_of (state_in v) b).life
-  pub words : (b : ArenaId) → IsKnown v b → b ≢ id → (arena_of (state_in w) b).words ≡ (arena_of (state_in v) b).words
-  pub more : List Entry
-  pub seen : w.seen ≡ v.seen ++ more
-
-pub one_more_shown : {v w : View} {id : ArenaId} (p : Plan) (runs : List (List ℕ)) (bytes : List ℕ) → AddsArena v w id
-    → AllZip (ShowsChunk (state_in v) v.seen p) (names_in (state_in v)) runs → ShowsChunk (state_in w) w.seen p id bytes
-    → AllZip (ShowsChunk (state_in w) w.seen p) (names_in (state_in w)) (runs ++ bytes ∷ [])
-one_more_shown {v} {w} {id} p runs bytes adds before last =
-    let still : (b : ArenaId) (run : List ℕ) → IsAmong b (names_in (state_in v)) → ShowsChunk (state_in v) v.seen p b run
-    → ShowsChunk (state_in w) w.seen p b run = λ b run i shown.
-    let known = named_known (state_in v) b i in
-    let other : b ≢ id = λ e. adds.unknown (subst (λ (x : ArenaId). IsKnown v x) e known) in
-    still_shown adds.more adds.seen (adds.life b known other) (adds.words b known other) shown in
-    subst (λ ns. AllZip (ShowsChunk (state_in w) w.seen p) ns (runs ++ bytes ∷ [])) (sym adds.names)
-    (all_zip_more (ShowsChunk (state_in w) w.seen p) (names_in (state_in v)) runs id bytes
-    (all_zip_each (ShowsChunk (state_in v) v.seen p) (ShowsChunk (state_in w) w.seen p) (names_in (state_in v)) runs still before) last)
+-- Arenas that keep their life and their words show still what they showed.
+pub all_shown : (v w : View) (p : Plan) (ids : List ArenaId) (runs : List (List ℕ)) (more : List Entry) → w.seen ≡ v.seen ++ more
+    → ((b : ArenaId) → IsAmong b ids → (arena_of (state_in w) b).life ≡ (arena_of (state_in v) b).life)
+    → ((b : ArenaId) → IsAmong b ids → (arena_of (state_in w) b).words ≡ (arena_of (state_in v) b).words)
+    → AllZip (ShowsChunk (state_in v) v.seen p) ids runs → AllZip (ShowsChunk (state_in w) w.seen p) ids runs
+all_shown v w p ids runs more seen life words shown =
+    all_zip_each (ShowsChunk (state_in v) v.seen p) (ShowsChunk (state_in w) w.seen p) ids runs
+    (λ b run i one. still_shown more seen (life b i) (words b i) one) shown

@@ -1,7 +1,9 @@
 -- How far a stream has gone.
-use Rattle.std.specs.Prelude.{◌≡◌, ◌+◌, ◌%◌, ◌<◌, ◌≤◌, ℕ, List, [], length, true, false, Option}
+use Rattle.std.specs.Prelude.{◌≡◌, ◌+◌, ◌%◌, ◌<◌, ◌≤◌, ℕ, Bool, true, List, [], ◌∷◌, ◌++◌, length, Option, None, IfSome}
 use Rattle.std.specs.List.{AllByRecursion, AllZip}
-use Rattle.fm_io.specs.Files.{Contents, AreBytesFrom}
+use Rattle.fm_base.specs.declared.arena_id.ArenaId.{ArenaId}
+use Rattle.fm_base_lists.specs.Among.{IsAmong}
+use Rattle.fm_io.specs.Files.{Contents, AreBytesFrom, EndsBefore}
 use Rattle.fm_rule_facts.specs.Views.{View, limit_of, state_in}
 use Rattle.fm_rule.specs.declared.pool.Pool.{Pool}
 use Rattle.fm_records_query.specs.Plan.{Plan}
@@ -12,23 +14,33 @@ use Rattle.fm_top_load.specs.Held.{names_in}
 use Rattle.fm_top_load.specs.declared.chunk.Chunk.{Chunk}
 use Rattle.fm_top_load.specs.declared.chunk.Part.{Part}
 use Rattle.fm_top_load.specs.Reached.{IsNextPiece}
+use Rattle.fm_top_load.specs.Reading.{piece_limit}
 use Rattle.fm_top_load.specs.Whole.{CanRead, IsWhole}
-use Rattle.fm_top_pooled.specs.Stocked.{IsAlone}
+use Rattle.fm_top_pooled.specs.Stocked.{IsAlone, IsStockedOf}
+use Rattle.fm_segment.specs.Region.{Region}
 use Rattle.fm_top_stream.specs.Chunks.{AreCut, all_bytes}
 use Rattle.fm_top_stream.specs.Shown.{ShowsChunk}
+use Rattle.fm_top_stream.specs.declared.ahead.Ahead.{Ahead}
+use Rattle.fm_top_stream.specs.declared.under_way.UnderWay.{UnderWay}
 use Rattle.fm_top_stream.specs.declared.gone.Gone.{Gone}
+use Rattle.fm_top_stream.specs.declared.placed.Placed.{Placed}
+use Rattle.fm_top_stream.specs.Steps.{AnswersOn, StandsIn}
 
--- these runs of bytes went through arenas of their own, one after the other, and this is the answer over all of them
-pub record HasGone (pool : Pool) (v : View) (p : Plan) (runs : List (List ℕ)) (a : List Found) : Type 0 where
+-- These runs of bytes went through arenas of their own, one after the other, and this is the answer over all of them. Behind those the pool has
+-- these arenas, and no other
+pub record HasGone (pool : Pool) (v : View) (p : Plan) (behind : List ArenaId) (runs : List (List ℕ)) (a : List Found) : Type 0 where
   pub alone : IsAlone v.gathered pool v
   pub value : a ≡ answer p (all_bytes runs)
   pub few : AreFew (length (all_bytes runs)) p a
-  pub chunks : AllZip (ShowsChunk (state_in v) v.seen p) (names_in (state_in v)) runs
+  pub ids : List ArenaId
+  pub chunks : AllZip (ShowsChunk (state_in v) v.seen p) ids runs
+  pub names : names_in (state_in v) ≡ ids ++ behind
+  pub apart : AllByRecursion (λ id. ¬ (IsAmong id ids)) behind
 
--- so far, whole chunks from the file's beginning
-pub record GoneSoFar (told : Option Contents) (name : List ℕ) (most at : ℕ) (pool : Pool) (v : View) (p : Plan) (a : List Found) : Type 0 where
+-- so far, whole chunks from the file's beginning up to the place
+pub record GoneSoFar (told : Option Contents) (name : List ℕ) (most at : ℕ) (pool : Pool) (v : View) (p : Plan) (behind : List ArenaId) (a : List Found) : Type 0 where
   pub runs : List (List ℕ)
-  pub gone : HasGone pool v p runs a
+  pub gone : HasGone pool v p behind runs a
   pub whole : AllByRecursion (λ run. length run ≡ most) runs
   pub count : length (all_bytes runs) ≡ at
   pub first : AreBytesFrom told name 0 (all_bytes runs)
@@ -44,7 +56,7 @@ pub record IsRagged (limit : ℕ) (told : Option Contents) (name : List ℕ) (p 
 -- the whole file, which may have so many bytes, in chunks
 pub record GoneThrough (limit : ℕ) (told : Option Contents) (name : List ℕ) (most : ℕ) (pool : Pool) (v : View) (p : Plan) (a : List Found) : Type 0 where
   pub runs : List (List ℕ)
-  pub gone : HasGone pool v p runs a
+  pub gone : HasGone pool v p [] runs a
   pub cut : AreCut most runs
   pub is_file : IsWhole told name (all_bytes runs)
   pub short : length (all_bytes runs) ≤ limit
@@ -65,23 +77,54 @@ pub record CanGoThrough (most threads : ℕ) (p : Plan) (pool : Pool) (v : View)
   pub begins : v.seen ≡ []
   pub asks : CanAsk most threads p pool
 
--- whole chunks have gone through, and the first piece of the next lies in the buffer
-pub record CanTakeChunk (part : Part) (told : Option Contents) (buffer : List ℕ) (first : Chunk) (threads : ℕ) (p : Plan) (pool : Pool) (g : Gone) : Type 0 where
+-- whole chunks have gone through up to the place, and the next one stands there in an open arena
+pub record HasNext (limit most : ℕ) (told : Option Contents) (name : List ℕ) (at : ℕ) (p : Plan) (pool : Pool) (g : UnderWay) (x : Placed) : Type 0 where
+  pub buffer : length g.buffer.items ≡ piece_limit
+  pub gone : GoneSoFar told name most at pool g.pass p (x.arena ∷ []) g.answer
+  pub stands : StandsIn limit most told name at g.pass x
+
+-- nothing has gone through, and the first piece of the file lies in the buffer
+pub record CanBegin (part : Part) (told : Option Contents) (threads : ℕ) (p : Plan) (pool : Pool) (g : UnderWay) (first : Chunk) : Type 0 where
   pub asks : CanAsk part.most threads p pool
+  pub read : CanRead part.limit part.at g.buffer.items
+  pub next : IsNextPiece part.limit part.most told part.name.now part.at g.buffer.items first
+  pub some : 0 < first.count
+  pub gone : GoneSoFar told part.name.now part.most part.at pool g.pass p [] g.answer
+
+-- the file may end with what is before the part
+abbrev pub IsUpTo : Part → Option Contents → Bool → Type 0
+IsUpTo part told ended = ended ≡ true → EndsBefore told part.name.now part.at
+
+-- a query can be asked of the segment, and the part's first piece lies in the buffer
+pub record CanAnswer (part : Part) (told : Option Contents) (threads : ℕ) (p : Plan) (pool : Pool) (v : View) (s : Region) (buffer : List ℕ) (first : Chunk) : Type 0 where
+  pub asks : CanAsk part.most threads p pool
+  pub alone : IsAlone v.gathered pool v
+  pub stocked : IsStockedOf v.shape.passes pool v s
+  pub even : s.size % p.size ≡ 0
   pub read : CanRead part.limit part.at buffer
   pub next : IsNextPiece part.limit part.most told part.name.now part.at buffer first
-  pub some : 0 < first.count
-  pub gone : GoneSoFar told part.name.now part.most part.at pool g.pass p g.answer
+
+-- it was answered, and the part stands in an arena of its own, if the file has one
+pub record AnswersAhead (part : Part) (told : Option Contents) (p : Plan) (pool : Pool) (v : View) (s : Region) (first : Chunk) (r : Ahead) : Type 0 where
+  pub answers : AnswersOn v.shape.passes part told pool v r.pass s p r.answer r.next
+  pub some : IfSome r.next (λ x. 0 < first.count)
+  pub buffer : length r.buffer.items ≡ piece_limit
+
+-- whole chunks have gone through, and the next one, which is of whole records, stands before the part
+pub record CanTakeChunk (part : Part) (told : Option Contents) (threads : ℕ) (p : Plan) (pool : Pool) (g : UnderWay) (x : Placed) : Type 0 where
+  pub from : ℕ
+  pub at : from + x.chunk.count ≡ part.at
+  pub asks : CanAsk part.most threads p pool
+  pub read : CanRead part.limit part.at g.buffer.items
+  pub even : x.chunk.count % p.size ≡ 0
+  pub has : HasNext part.limit part.most told part.name.now from p pool g x
+
+-- this chunk has gone through: the next one stands, or the file was gone through
+pub record GoesByChunk (part : Part) (told : Option Contents) (p : Plan) (pool : Pool) (g : UnderWay) (next : Option Placed) : Type 0 where
+  pub on : IfSome next (HasNext part.limit part.most told part.name.now part.at p pool g)
+  pub ends : next ≡ None → GoneThrough part.limit told part.name.now part.most pool g.pass p g.answer
 
 -- the whole file, which may have so many bytes, was gone through, or its end is no whole record
 pub record GoesThrough (limit : ℕ) (told : Option Contents) (name : List ℕ) (most : ℕ) (p : Plan) (pool : Pool) (g : Gone) : Type 0 where
   pub whole : g.rest ≡ 0 → GoneThrough limit told name most pool g.pass p g.answer
   pub ragged : 0 < g.rest → IsRagged limit told name p g.rest
-
--- this chunk has gone through: the last of the file, or one that is whole
-pub record GoesByChunk (part : Part) (told : Option Contents) (p : Plan) (pool : Pool) (g : Gone) (chunk : Chunk) : Type 0 where
-  pub some : 0 < chunk.count
-  pub short : part.at + chunk.count ≤ part.limit
-  pub ends : chunk.ended ≡ true → GoesThrough part.limit told part.name.now part.most p pool g
-  pub even : chunk.ended ≡ false → g.rest ≡ 0
-  pub on : chunk.ended ≡ false → GoneSoFar told part.name.now part.most (part.at + chunk.count) pool g.pass p g.answer

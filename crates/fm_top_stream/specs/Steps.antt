@@ -1,11 +1,11 @@
 -- What each step with a chunk's arena does, by the pool's first pass while it is known to be whole.
-use Rattle.std.specs.Prelude.{◌≡◌, ℕ, List, ◌++◌, Option}
+use Rattle.std.specs.Prelude.{◌≡◌, ◌≢◌, ◌<◌, ◌≤◌, ℕ, List, [], ◌∷◌, ◌++◌, take, Option, Some, None, IfSome}
 use Rattle.fm_base.specs.declared.arena_id.ArenaId.{ArenaId}
 use Rattle.fm_base.specs.declared.kind.Kind.TheVariants.{Shared}
 use Rattle.fm_base.specs.Arenas.{Alive, Ended, State, arena_of, has_arena}
 use Rattle.fm_base.specs.Calls.{Entry}
 use Rattle.fm_base.specs.View.{given_in}
-use Rattle.fm_io.specs.Files.{Contents}
+use Rattle.fm_io.specs.Files.{Contents, EndsBefore}
 use Rattle.fm_segment_access.specs.Alone.{bytes_of_arena}
 use Rattle.fm_rule_calls.specs.Told.{view_of_pass}
 use Rattle.fm_rule_facts.specs.Views.{View, IsKnown, state_in}
@@ -19,8 +19,10 @@ use Rattle.fm_top_load.specs.declared.chunk.Chunk.{Chunk}
 use Rattle.fm_top_load.specs.Held.{HoldsThen, IsHeld, OnlyIn, names_in, words_at}
 use Rattle.fm_top_load.specs.declared.chunk.Part.{Part}
 use Rattle.fm_top_load.specs.Reached.{HasChunk}
+use Rattle.fm_top_load.specs.Whole.{IsCut}
 use Rattle.fm_top_pooled.specs.Shown.{AreRead, AsksWord}
 use Rattle.fm_top_pooled.specs.Stocked.{HasOpened, IsAlone, IsStockedOf, bytes_in_pool}
+use Rattle.fm_top_stream.specs.declared.placed.Placed.{Placed}
 
 -- it is known to be whole still, and has seen more
 pub record GoesOn (pool : Pool) (p q : View) : Type 0 where
@@ -62,6 +64,54 @@ pub record Answers (passes : ℕ) (pool : Pool) (p q : View) (s : Region) (plan 
   pub value : a ≡ answer plan (bytes_in_pool p s)
   pub few : AreFew s.size plan a
   pub read : AreRead q.seen (AsksWord plan (bytes_in_pool p s)) s.arena
+
+-- there are the same arenas, and each but this one has the life and the words that it had
+pub record StandBut (b : ArenaId) (s t : State) : Type 0 where
+  pub names : names_in t ≡ names_in s
+  pub arenas : (x : ArenaId) → has_arena t x ≡ has_arena s x
+  pub life : (x : ArenaId) → x ≢ b → (arena_of t x).life ≡ (arena_of s x).life
+  pub words : (x : ArenaId) → x ≢ b → (arena_of t x).words ≡ (arena_of s x).words
+
+-- a crew answered the query over the segment, while the part of the file was put into another arena
+pub record AnswersBeside (passes : ℕ) (part : Part) (told : Option Contents) (pool : Pool) (p q : View) (s : Region) (plan : Plan) (b : ArenaId)
+    (a : List Found) (chunk : Chunk) : Type 0 where
+  pub goes : GoesOn pool p q
+  pub stocked : IsStockedOf passes pool q s
+  pub stand : StandBut b (state_in p) (state_in q)
+  pub value : a ≡ answer plan (bytes_in_pool p s)
+  pub few : AreFew s.size plan a
+  pub read : AreRead q.seen (AsksWord plan (bytes_in_pool p s)) s.arena
+  pub held : IsHeld (view_of_pass q) b
+  pub given : part.most ≤ given_in (view_of_pass q) b
+  pub has : HasChunk part told (bytes_of_arena (state_in q) b) chunk
+
+-- a chunk of the file, which may have so many bytes, stands at the start of a shared arena, which is alive and has given room for it
+pub record StandsIn (limit most : ℕ) (told : Option Contents) (name : List ℕ) (at : ℕ) (v : View) (x : Placed) : Type 0 where
+  pub held : IsHeld (view_of_pass v) x.arena
+  pub given : most ≤ given_in (view_of_pass v) x.arena
+  pub shared : x.arena.kind ≡ Shared
+  pub cut : IsCut limit most told name at (take x.chunk.count (bytes_of_arena (state_in v) x.arena)) x.chunk.ended
+  pub some : 0 < x.chunk.count
+  pub within : x.chunk.count ≤ most
+
+abbrev pub arenas_of : Option Placed → List ArenaId
+arenas_of None = []
+arenas_of (Some x) = x.arena ∷ []
+
+-- a crew answered the query over the segment; then the next part of the file stands in an arena of its own, or the file has ended
+pub record AnswersOn (passes : ℕ) (part : Part) (told : Option Contents) (pool : Pool) (p q : View) (s : Region) (plan : Plan) (a : List Found)
+    (next : Option Placed) : Type 0 where
+  pub goes : GoesOn pool p q
+  pub stocked : IsStockedOf passes pool q s
+  pub value : a ≡ answer plan (bytes_in_pool p s)
+  pub few : AreFew s.size plan a
+  pub read : AreRead q.seen (AsksWord plan (bytes_in_pool p s)) s.arena
+  -- what was known is as it was
+  pub life : (x : ArenaId) → IsKnown p x → (arena_of (state_in q) x).life ≡ (arena_of (state_in p) x).life
+  pub words : (x : ArenaId) → IsKnown p x → (arena_of (state_in q) x).words ≡ (arena_of (state_in p) x).words
+  pub names : names_in (state_in q) ≡ names_in (state_in p) ++ arenas_of next
+  pub stands : IfSome next (λ x. (¬ (IsKnown p x.arena)) × StandsIn part.limit part.most told part.name.now part.at q x)
+  pub ended : next ≡ None → EndsBefore told part.name.now part.at
 
 -- the arena, which was alive, has ended, with the words that it had; no other changed
 pub record Closes (pool : Pool) (p q : View) (a : ArenaId) : Type 0 where

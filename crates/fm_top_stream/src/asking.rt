@@ -1,14 +1,22 @@
-ghost use Rattle.std.specs.Prelude.{◌≡◌, ◌%◌, ◌<◌, ◌≤◌, IfOk};
+ghost use Rattle.std.specs.Prelude.{◌≡◌, ◌+◌, ◌%◌, ◌<◌, ◌≤◌, IfErr, IfOk};
+ghost use Rattle.std.specs.Result.{result_err};
+ghost use Rattle.fm_top_load.specs.Reading.{GoesBy, ReadsFurther};
+ghost use Rattle.fm_top_load.specs.Whole.{TellsLoad};
 ghost use Rattle.fm_top_pooled.specs.Stocked.{IsAlone, IsStockedOf};
+ghost use Rattle.fm_top_stream.specs.Ahead.{AsksAhead, CanAskBeside, IsBoth, IsFollowed, IsNeither, WasLetIn};
 ghost use Rattle.fm_top_stream.specs.Steps.{Answers};
 
+use crate::ahead::Ahead;
 use crate::crew::Crew;
+use crate::placed::Placed;
+use crate::putting::Putting;
 use fm_base::Refusal;
-use fm_io::Gate;
+use fm_io::{Files, Gate};
 use fm_records::Answer;
 use fm_rule::Pass;
 use fm_segment::Segment;
-use fm_workers::query_with;
+use fm_top_load::{LoadFault, PutFault};
+use fm_workers::{query_beside, query_with};
 use std::alloc::{AllocError, Global};
 use std::sync::Wait;
 use std::thread;
@@ -48,4 +56,80 @@ pub(crate) fn asked<R: Threads + Wait + Sync, G: Gate>(
         }
     }
     unreachable!()
+}
+
+/// The same, while the first pass puts the next chunk into an arena of its own.
+pub(crate) fn asked_beside<R: Threads + Wait + Sync, F: Files, G: Gate>(
+    rt: &R,
+    alloc: Global,
+    files: &mut F,
+    crew: &Crew<'_, G>,
+    mut pass: Pass,
+    s: &Segment,
+    mut putting: Putting<'_>,
+) -> Result<Ahead, LoadFault>
+    requires { CanAskBeside (F.view files.old).holds crew.now.threads crew.now.q.now crew.now.pool.now pass s.now putting }
+    ensures asks { IfOk result (AsksAhead (F.view files.old).holds crew.now.pool.now crew.now.q.now pass s.now putting.entry) }
+    ensures reads { ReadsFurther (F.view files.old).reads (F.view files.new).reads putting.entry.part.name.now
+        putting.entry.part.limit (GoesBy putting.entry.first.ended (putting.entry.part.at + putting.entry.first.count))
+        (λ next. IfOk result (λ r. IsFollowed putting.entry.part.at r.next next)) }
+    ensures tells { TellsLoad ⊥ putting.entry.part.limit (F.view files.old) (F.view files.new)
+        putting.entry.part.name.now (result_err result) }
+{
+    for _ in rt.forever() {
+        let (back, asked) = query_beside(
+            rt,
+            alloc,
+            crew.pool,
+            pass,
+            crew.q,
+            s,
+            crew.threads,
+            crew.gate,
+            &mut putting,
+            files,
+        );
+        match asked {
+            Ok(answer) => return both(back, answer, putting),
+            Err(Refusal::NoPass) => thread::yield_now(),
+            // The arena is alive and shared, and the records are whole.
+            Err(_) => return Err(LoadFault::Memory),
+        }
+        pass = back;
+    }
+    unreachable!()
+}
+
+/// What was answered, and what was put beside it. A read's fault goes before want of memory at the query.
+fn both(
+    pass: Pass,
+    answer: Result<Answer, Refusal>,
+    putting: Putting<'_>,
+) -> Result<Ahead, LoadFault>
+    requires { WasLetIn putting }
+    ensures both { IfOk result (IsBoth pass answer putting.entry) }
+    ensures neither { IfErr result (IsNeither putting.entry) }
+{
+    let Putting {
+        buffer,
+        arena,
+        put,
+        ..
+    } = putting;
+    let chunk = match put {
+        Some(Ok(chunk)) => chunk,
+        Some(Err(PutFault::Load(fault))) => return Err(fault),
+        // The arena is alive and shared, and has given the room.
+        Some(Err(PutFault::Refused(_))) | None => unreachable!(),
+    };
+    match answer {
+        Ok(answer) => Ok(Ahead {
+            pass,
+            answer,
+            buffer,
+            next: Some(Placed { arena, chunk }),
+        }),
+        // So is the segment's.
+        Err(_) => Err(LoadFault::Memory),
+    }
 }

@@ -49,7 +49,7 @@ pub fn stream_with<R: Threads + Wait + Sync, F: Files, G: Gate>(
     let Ok((pool, pass)) = Pool::make(alloc, shape_of(threads)) else {
         return Err(StreamFault::Memory);
     };
-    let Ok(mut buffer) = zero_bytes(alloc, CHUNK) else {
+    let Ok(buffer) = zero_bytes(alloc, CHUNK) else {
         return Err(StreamFault::Memory);
     };
     let most = chunk_bytes(q);
@@ -59,7 +59,7 @@ pub fn stream_with<R: Threads + Wait + Sync, F: Files, G: Gate>(
         threads,
         gate,
     };
-    let gone = match go_through(rt, alloc, files, name, most, &mut buffer, &crew, pass) {
+    let gone = match go_through(rt, alloc, files, name, most, buffer, &crew, pass) {
         Ok(gone) => gone,
         Err(fault) => return Err(fault_of(fault)),
     };

@@ -1,109 +1,59 @@
-use Rattle.std.proofs.Common.{◌+◌, [], Option, refl, sym, subst, arith}
+use Rattle.std.proofs.Common.{◌≡◌, ℕ, List, [], ◌++◌, length, take, drop, Option, refl, ap, sym, ◌∙◌, subst, arith}
+use Rattle.std.proofs.lemmas.List.{take_at}
 use Rattle.fm_io.specs.Files.{Contents}
-use Rattle.fm_io.proofs.Followed.{ReadsFile-none}
-use Rattle.fm_io.proofs.Left.{leaves_none}
+use Rattle.fm_io.specs.Reads.{At}
+use Rattle.fm_io.proofs.Left.{leaves_then}
 use Rattle.fm_top_load.specs.Reached.{IsNextPiece}
-use Rattle.fm_top_load.specs.Reading.{piece_limit}
 use Rattle.fm_top_load.proofs.Chunks.{no_bytes_from}
-use Rattle.fm_top_load.proofs.Following.{reads_then}
 use Rattle.fm_top_load.proofs.Telling.{read_quietly, tells_then}
 use Rattle.fm_top_stream.specs.Chunks.{stream_file_limit}
-use Rattle.fm_top_stream.specs.Gone.{GoesThrough, GoneSoFar}
-use Rattle.fm_top_stream.proofs.Chunking.{chunk_leaves, chunk_read, chunk_tells, held_before}
-use Rattle.fm_top_stream.proofs.GoesOn.{ends_here, gone_none, gone_whole}
+use Rattle.fm_top_stream.specs.Gone.{GoneSoFar}
+use Rattle.fm_top_stream.proofs.Chunking.{further_says, further_some, further_then, reads_further}
+use Rattle.fm_top_stream.proofs.GoesOn.{empty_file, gone_none}
+use Rattle.fm_top_stream.proofs.Runs.{ends_here}
 use Rattle.fm_top_stream.proofs.streaming.go_through.Goals as goal
-
-pub chunks-init : goal.chunks-init
-chunks-init g c =
-    let files = g.F.Files.view c.args.files.now in
-    record {
-      buffer = c.requires.buffer;
-      short = omega arith;
-      gone = gone_none c.requires.can.alone c.requires.can.begins c.in-Ok.ensures.answer c.in-Ok.ensures.few
-          (no_bytes_from files.holds c.args.name.now 0 [] refl);
-      none = refl;
-      reads = ReadsFile-none files.reads c.args.name.now piece_limit (stream_file_limit + 1) 0;
-      left = leaves_none files (λ e. e) (λ e. e);
-    }
-
-pub chunk_through-requires-after_bounds : goal.chunk_through-requires-after_bounds
-chunk_through-requires-after_bounds g c κs within =
-    let i = c.chunks.invariant in
-    let crew = c.args.crew.now in
-    let first = c.in-Ok-read_piece.ensures in
-    record {
-      asks = c.requires.can.asks;
-      read = record { room = first.buffer; small = omega arith; short = i.short };
-      next = subst (λ (told : Option Contents). IsNextPiece stream_file_limit c.args.most told c.args.name.now c.chunks.at c.read_piece.new.bytes
-          c.in-Ok-read_piece.piece) (sym (read_quietly first.tells).held) first.took;
-      some = omega (arith, c.if-first-eq0.false);
-      gone = subst (λ (told : Option Contents). GoneSoFar told c.args.name.now c.args.most c.chunks.at crew.pool.now c.chunks.gone.pass crew.q.now c.chunks.gone.answer)
-          (sym (held_before i.left first.tells)) i.gone;
-    }
-
-pub chunks-preserved : goal.chunks-preserved
-chunks-preserved g c =
-    let i = c.chunks.invariant in
-    let crew = c.args.crew.now in
-    let first = c.in-Ok-read_piece.ensures in
-    let through = c.in-Ok-chunk_through.ensures in
-    let r = c.in-Ok-chunk_through.through in
-    record {
-      buffer = c.chunk_through.ensures.buffer;
-      short = through.goes.short;
-      gone = subst (λ (told : Option Contents). GoneSoFar told c.args.name.now c.args.most (c.chunks.at + r.1.count) crew.pool.now r.0.pass crew.q.now r.0.answer)
-          (held_before i.left first.tells) (through.goes.on c.if-chunk.false);
-      none = through.goes.even c.if-chunk.false;
-      reads = chunk_read i.reads first.reads through.reads (λ next goes. goes.1 c.if-chunk.false);
-      left = chunk_leaves i.left first.tells through.tells;
-    }
-
-pub returns-in-Err-clause-reads : goal.returns-in-Err-clause-reads
-returns-in-Err-clause-reads g c = reads_then c.chunks.invariant.reads c.in-Err.ensures.reads (λ next goes. tt)
-
-pub returns-in-Err-clause-tells : goal.returns-in-Err-clause-tells
-returns-in-Err-clause-tells g c = tells_then c.chunks.invariant.left c.in-Err.ensures.tells
-
--- ---- the file ends behind whole chunks
 
 pub returns-then-first-eq0-clause-goes : goal.returns-then-first-eq0-clause-goes
 returns-then-first-eq0-clause-goes g c =
-    let i = c.chunks.invariant in
-    let asks = c.requires.can.asks in
-    let next = subst (λ (told : Option Contents). IsNextPiece stream_file_limit c.args.most told c.args.name.now c.chunks.at c.read_piece.new.bytes
-    c.in-Ok-read_piece.piece) i.left.held c.in-Ok-read_piece.ensures.took in
+    let can = c.requires.can in
+    let told = (g.F.Files.view c.args.files.now).holds in
+    let none = gone_none can.alone can.begins c.in-Ok.ensures.answer c.in-Ok.ensures.few (no_bytes_from told c.args.name.now 0 [] refl) in
     record {
-      whole = λ none. gone_whole i.gone asks.sized asks.any asks.even i.short (ends_here next c.if-first-eq0.true asks.any);
-      ragged = λ some. absurd (omega (arith, some, i.none));
+      whole = λ e. empty_file none can.asks.any can.asks.sized can.asks.even (ends_here c.in-Ok-read_piece.ensures.took c.if-first-eq0.true can.asks.any);
+      ragged = λ some. absurd (omega (arith, some));
     }
 
-pub returns-then-first-eq0-clause-reads : goal.returns-then-first-eq0-clause-reads
-returns-then-first-eq0-clause-reads g c = reads_then c.chunks.invariant.reads c.in-Ok-read_piece.ensures.reads (λ next goes. tt)
-
-pub returns-then-first-eq0-clause-tells : goal.returns-then-first-eq0-clause-tells
-returns-then-first-eq0-clause-tells g c = tells_then c.chunks.invariant.left c.in-Ok-read_piece.ensures.tells
-
--- ---- a chunk went through, or not
-
-pub returns-in-Err-chunk_through-clause-reads : goal.returns-in-Err-chunk_through-clause-reads
-returns-in-Err-chunk_through-clause-reads g c =
-    chunk_read c.chunks.invariant.reads c.in-Ok-read_piece.ensures.reads c.in-Err-chunk_through.ensures.reads (λ next goes. tt)
-
-pub returns-in-Err-chunk_through-clause-tells : goal.returns-in-Err-chunk_through-clause-tells
-returns-in-Err-chunk_through-clause-tells g c =
-    chunk_tells c.chunks.invariant.left c.in-Ok-read_piece.ensures.tells c.in-Err-chunk_through.ensures.tells
-
-pub returns-then-chunk-clause-goes : goal.returns-then-chunk-clause-goes
-returns-then-chunk-clause-goes g c =
+pub begun-requires-after_bounds : goal.begun-requires-after_bounds
+begun-requires-after_bounds g c κs within =
+    let can = c.requires.can in
     let crew = c.args.crew.now in
-    let r = c.in-Ok-chunk_through.through in
-    subst (λ (told : Option Contents). GoesThrough stream_file_limit told c.args.name.now c.args.most crew.q.now crew.pool.now r.0)
-    (held_before c.chunks.invariant.left c.in-Ok-read_piece.ensures.tells) (c.in-Ok-chunk_through.ensures.goes.ends c.if-chunk.true)
+    let first = c.in-Ok-read_piece.ensures in
+    let told = (g.F.Files.view c.args.files.now).holds in
+    let held = (read_quietly first.tells).held in
+    let was = c.args.buffer in
+    let now = c.read_piece.new.bytes in
+    let len : length now ≡ was.len = c.read_piece.ensures.buffer ∙ sym (ap length c.deref_mut.ensures.value ∙ c.requires.buffer) ∙ c.deref_mut.ensures.len in
+    let back : take was.len (now ++ drop (length now) was.items) ≡ now = take_at now (drop (length now) was.items) was.len len in
+    record {
+      asks = can.asks;
+      read = record { room = ap length back ∙ c.read_piece.ensures.buffer; small = omega arith; short = omega arith };
+      next = subst (λ (y : Option Contents × List ℕ). IsNextPiece stream_file_limit c.args.most y.0 c.args.name.now 0 y.1 c.in-Ok-read_piece.piece)
+          (λ i. (sym held i, sym back i)) first.took;
+      some = omega (arith, c.if-first-eq0.false);
+      gone = subst (λ (t : Option Contents). GoneSoFar t c.args.name.now c.args.most 0 crew.pool.now c.args.pass crew.q.now [] c.in-Ok.answer) (sym held)
+          (gone_none can.alone can.begins c.in-Ok.ensures.answer c.in-Ok.ensures.few (no_bytes_from told c.args.name.now 0 [] refl));
+    }
 
-pub returns-then-chunk-clause-reads : goal.returns-then-chunk-clause-reads
-returns-then-chunk-clause-reads g c =
-    chunk_read c.chunks.invariant.reads c.in-Ok-read_piece.ensures.reads c.in-Ok-chunk_through.ensures.reads (λ next goes. tt)
+pub returns-in-Ok-begun-clause-reads : goal.returns-in-Ok-begun-clause-reads
+returns-in-Ok-begun-clause-reads g c =
+    reads_further stream_file_limit c.in-Ok-read_piece.ensures.reads
+    (further_then stream_file_limit (further_says stream_file_limit c.in-Ok-begun.ensures.reads (λ next goes. (goes.0, λ e. goes.1 e ∙ ap At (omega arith))))
+    c.take_chunks.ensures.reads)
 
-pub returns-then-chunk-clause-tells : goal.returns-then-chunk-clause-tells
-returns-then-chunk-clause-tells g c =
-    chunk_tells c.chunks.invariant.left c.in-Ok-read_piece.ensures.tells c.in-Ok-chunk_through.ensures.tells
+pub returns-in-Ok-begun-clause-tells : goal.returns-in-Ok-begun-clause-tells
+returns-in-Ok-begun-clause-tells g c =
+    tells_then (leaves_then (read_quietly c.in-Ok-read_piece.ensures.tells) (read_quietly c.in-Ok-begun.ensures.tells)) c.take_chunks.ensures.tells
+
+pub returns-in-Err-begun-clause-reads : goal.returns-in-Err-begun-clause-reads
+returns-in-Err-begun-clause-reads g c =
+    reads_further stream_file_limit c.in-Ok-read_piece.ensures.reads (further_some stream_file_limit c.in-Err-begun.ensures.reads)

@@ -1,0 +1,96 @@
+-- What is put beside a crew is never refused: nobody shuts the arena.
+use Rattle.std.proofs.Common.{◌≡◌, ℕ, ◌==◌, Bool, true, false, List, [], ◌++◌, length, Result, Ok, Err, ap, sym, ◌∙◌, subst, append_assoc}
+use Rattle.std.specs.Prelude.{MatchBool}
+use Rattle.fm_base.specs.declared.arena_id.ArenaId.{ArenaId}
+use Rattle.fm_base.specs.declared.caller.Caller.{Caller}
+use Rattle.fm_base.specs.declared.refusal.Refusal.{Refusal}
+use Rattle.fm_base.specs.declared.refusal.Refusal.TheVariants.{Closed, WrongThread}
+use Rattle.fm_base.specs.Arenas.{MayUse}
+use Rattle.fm_base.specs.Calls.{Call, Enter, Entry, Leave, Read}
+use Rattle.fm_base.specs.Histories.{made_by}
+use Rattle.fm_base.specs.Untouched.{AllLeaveOpen, LeavesOpen}
+use Rattle.fm_base.specs.Visits.{Run, ends, goes_on, refused_visit}
+use Rattle.fm_base.proofs.Untouched.{alive}
+use Rattle.fm_base_lists.proofs.Each.{all_both, all_weaker}
+use Rattle.fm_records_query.specs.Plan.{Plan}
+use Rattle.fm_records.specs.declared.found.Found.{Found as Answer}
+use Rattle.fm_rule_facts.specs.Views.{View, limit_of, state_in}
+use Rattle.fm_rule.specs.declared.pool.Pool.{Pool}
+use Rattle.fm_segment.specs.Region.{Region}
+use Rattle.fm_segment_access.specs.Ranges.{DoesPutBy, EndsPutting, Putting, putting}
+use Rattle.fm_segment_access.specs.Runs.{DoesPutAll, PutsMore}
+use Rattle.fm_top_load.specs.Putting.{StopsPutting}
+use Rattle.fm_top_pooled.proofs.Crews.{Touches, not_stopped}
+use Rattle.fm_top_pooled.proofs.Shows.{NoneMayAdd}
+use Rattle.fm_workers.specs.Beside.{AskedBeside}
+use Rattle.fm_workers_crew.specs.Crew.{callers}
+use Rattle.fm_top_stream.proofs.Elsewhere.{IsOfPuts, open_by_puts, run_is, runs_are}
+use Rattle.fm_top_stream.proofs.Rounds.{AwaitsBeside, are_of, crew_each, of_all, reach}
+
+-- ---- how a run is refused
+
+-- the entries end in a visit that was refused
+record StopsAt (c : Caller) (id : ArenaId) (own : List Entry) : Type 0 where
+  before : List Entry
+  stops : own ≡ before ++ refused_visit c id
+
+stops_behind : {c : Caller} {id : ArenaId} {own : List Entry} (first : List Entry) → StopsAt c id own → StopsAt c id (first ++ own)
+stops_behind {c} {id} first h = record {
+  before = first ++ h.before;
+  stops = ap (λ es. first ++ es) h.stops ∙ sym (append_assoc first h.before (refused_visit c id));
+}
+
+module _ (c : Caller) (id : ArenaId) where
+  run_stops : (Step : Putting → List Entry → Putting → Type 0) (x : Putting) (own : List Entry) → Run Step (EndsPutting c id) x own false
+      → StopsAt c id own
+  run_stops Step x own (ends e) = record { before = []; stops = e.1 }
+  run_stops Step x own (goes_on y first rest step run) = stops_behind first (run_stops Step y rest run)
+
+  -- Who may use the arena found it closed.
+  puts_stop : (at : ℕ) (bytes : List ℕ) (r : Refusal) (own : List Entry) → MayUse id c → DoesPutBy PutsMore c id at bytes (Err r) own
+      → StopsAt c id own
+  puts_stop at bytes WrongThread own may d = absurd (d.0 may)
+  puts_stop at bytes Closed own may d = run_stops (PutsMore c id) (putting at bytes) own d.1
+  puts_stop at bytes r own may d = absurd d
+
+  -- With no bytes nothing is refused.
+  some_refused : (none : Bool) (r : Refusal) (own : List Entry) (Does : Type 0) → MatchBool none ((Err r ≡ Ok (tt {0})) × (own ≡ [])) Does → Does
+  some_refused true r own Does d = let is = d.0 in absurd cc
+  some_refused false r own Does d = d
+
+  all_stop : (at : ℕ) (bytes : List ℕ) (r : Refusal) (own : List Entry) → MayUse id c → DoesPutAll c id at bytes (Err r) own → StopsAt c id own
+  all_stop at bytes r own may d =
+      puts_stop at bytes r own may (some_refused (length bytes == 0) r own (DoesPutBy PutsMore c id at bytes (Err r) own) d)
+
+-- ---- it isn't refused
+
+-- What holds of the calls by which bytes are put holds of the crew's too.
+reading_is : {P : Call → Type 0} {a : ArenaId} → IsOfPuts P a → (call : Call) → Touches NoneMayAdd call → P call
+reading_is k (Enter x) h = k.enter x
+reading_is k (Read x word) h = k.read x word
+reading_is k (Leave x) h = k.leave x
+reading_is k call h = absurd h
+
+module _ {passes most : ℕ} {pool : Pool} {p m q : View} {s : Region} {plan : Plan} {threads : ℕ} {b : ArenaId}
+    (w : AwaitsBeside passes most pool p m s b) where
+  -- Nobody shuts the arena, so the first pass is let in each time.
+  pub never_refused : {Acts : List Entry → Type 0} {result : Result (List Answer) Refusal} (r : Refusal)
+      (asked : AskedBeside Acts threads m q plan s result) → ((own : List Entry) → Acts own → StopsPutting m.caller b r own) → ⊥
+  never_refused r asked refuses =
+      let c = m.caller in
+      let more = asked.crew.more in
+      let cs = callers asked.crew.crew in
+      let put = refuses (made_by c more) asked.crew.acts in
+      let opens = λ (e : Entry). LeavesOpen b e.call in
+      let k = open_by_puts b b in
+      let own : AllLeaveOpen b (made_by c more) =
+      subst (AllLeaveOpen b) (sym put.parts)
+      (all_both opens put.before put.last (runs_are (LeavesOpen b) b k c put.all put.before put.put)
+      (run_is (LeavesOpen b) b k c (length put.all) put.bytes (Err r) put.last put.refused)) in
+      let crew =
+      crew_each s more opens (λ es touch. all_weaker (λ (e : Entry). Touches NoneMayAdd e.call) opens (λ e t. reading_is k e.call t) es touch) cs
+      asked.visits in
+      let leave = of_all opens c cs more (are_of asked w.awaits.stocked) own crew in
+      let comes = (alive (limit_of m.shape) (state_in m) more b (reach asked).legal w.held.known w.held.alive leave).1 in
+      let last = stops_behind put.before (all_stop c b (length put.all) put.bytes r put.last w.held.usable put.refused) in
+      not_stopped b c more last.before comes (put.parts ∙ last.stops)

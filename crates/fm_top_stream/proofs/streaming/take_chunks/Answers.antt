@@ -1,0 +1,61 @@
+use Rattle.std.proofs.Common.{◌+◌, ◌%◌, Option, refl, sym, ap, subst, ◌∙◌, arith}
+use Rattle.std.specs.Prelude.{IfSome}
+use Rattle.fm_io.specs.Files.{Contents}
+use Rattle.fm_io.proofs.Left.{leaves_then}
+use Rattle.fm_top_load.specs.Reading.{GoesBy, ReadsFurther}
+use Rattle.fm_top_load.proofs.Telling.{read_quietly}
+use Rattle.fm_top_stream.specs.Ahead.{IsFollowed}
+use Rattle.fm_top_stream.specs.Chunks.{stream_file_limit}
+use Rattle.fm_top_stream.specs.Gone.{HasNext}
+use Rattle.fm_top_stream.specs.declared.placed.Placed.{Placed}
+use Rattle.fm_top_stream.proofs.Chunking.{further_some, further_then, tells_none}
+use Rattle.fm_top_stream.proofs.GoesOn.{ends_within, through_ragged}
+use Rattle.fm_top_stream.proofs.streaming.take_chunks.Goals as goal
+
+pub returns-then-rest-ne0-clause-goes : goal.returns-then-rest-ne0-clause-goes
+returns-then-rest-ne0-clause-goes g c =
+    through_ragged c.chunks.invariant.has c.requires.asks _ (ap (λ n. c.chunks.standing.chunk.count % n) c.record_size.ensures.size) c.if-rest-ne0.true
+
+pub returns-then-rest-ne0-clause-reads : goal.returns-then-rest-ne0-clause-reads
+returns-then-rest-ne0-clause-reads g c = further_some stream_file_limit c.chunks.invariant.reads
+
+pub returns-then-rest-ne0-clause-tells : goal.returns-then-rest-ne0-clause-tells
+returns-then-rest-ne0-clause-tells g c = tells_none c.chunks.invariant.left
+
+pub round-requires-after_bounds : goal.round-requires-after_bounds
+round-requires-after_bounds g c κs within =
+    let i = c.chunks.invariant in
+    let crew = c.args.crew.now in
+    record {
+      from = c.chunks.at;
+      at = refl;
+      asks = c.requires.asks;
+      read = record { room = i.has.buffer; small = omega arith; short = ends_within i.has c.requires.asks };
+      even = sym (ap (λ n. c.chunks.standing.chunk.count % n) c.record_size.ensures.size) ∙ c.if-rest-ne0.false;
+      has = subst (λ (told : Option Contents). HasNext stream_file_limit c.args.most told c.args.name.now c.chunks.at crew.q.now crew.pool.now c.chunks.going c.chunks.standing)
+          (sym i.left.held) i.has;
+    }
+
+pub returns-in-Err-clause-reads : goal.returns-in-Err-clause-reads
+returns-in-Err-clause-reads g c =
+    further_some stream_file_limit (further_then stream_file_limit c.chunks.invariant.reads c.in-Err.ensures.reads)
+
+pub returns-in-None-clause-reads : goal.returns-in-None-clause-reads
+returns-in-None-clause-reads g c =
+    further_some stream_file_limit (further_then stream_file_limit c.chunks.invariant.reads c.in-Ok.ensures.reads)
+
+pub chunks-preserved : goal.chunks-preserved
+chunks-preserved g c =
+    let i = c.chunks.invariant in
+    let crew = c.args.crew.now in
+    let old = g.F.Files.view c.chunks.files in
+    let new = g.F.Files.view c.round.new.files in
+    let at = c.chunks.at + c.chunks.standing.chunk.count in
+    let has = subst (λ (n : Option Placed). IfSome n (HasNext stream_file_limit c.args.most old.holds c.args.name.now at crew.q.now crew.pool.now c.in-Ok.gone.0)) c.in-Some.is
+    c.in-Ok.ensures.goes.on in
+    record {
+      has = subst (λ (told : Option Contents). HasNext stream_file_limit c.args.most told c.args.name.now at crew.q.now crew.pool.now c.in-Ok.gone.0 c.in-Some.chunk) i.left.held has;
+      reads = further_then stream_file_limit i.reads (subst (λ (n : Option Placed). ReadsFurther old.reads new.reads c.args.name.now stream_file_limit
+          (GoesBy c.chunks.standing.chunk.ended at) (λ next. IsFollowed at n next)) c.in-Some.is c.in-Ok.ensures.reads);
+      left = leaves_then i.left (read_quietly c.in-Ok.ensures.tells);
+    }
