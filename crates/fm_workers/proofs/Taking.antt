@@ -49,7 +49,7 @@ module _ (w : Asking) (more : List Entry) where
       subst (λ (es : List Entry). OnlyReads w.segment c (served ++ es)) (sym e.0) (subst (OnlyReads w.segment c) (sym (append-nil served)) (reads h))
   ends_read c t (Err r) served last h e =
       reads_after c w.segment served last h
-      (query_reads c w.plan (share_of w.plan w.segment w.each e.0) w.segment (Err r) last (share_lies w.plan w.segment w.each e.0) e.1)
+      (query_reads c w.plan (share_of w.plan w.segment w.each e.0) w.segment (Err r) last (share_lies w.plan w.segment w.each e.0) e.2)
 
   pub takers_read : (cs : List Caller) (ts us : List Taker) → AreDoneBy (Takes w) more cs ts us
       → AllByRecursion (λ c. OnlyReads w.segment c (made_by c more)) cs
@@ -157,7 +157,7 @@ module _ (w : Asking) (more : List Entry) where
           parts = h.parts;
           does = h.does;
           number = ends.0;
-          refused = ends.1;
+          refused = ends.2;
         };
       } in
       ⊎_elim
@@ -172,7 +172,7 @@ module _ (w : Asking) (more : List Entry) where
               (stops_wider c (share_of w.plan w.segment w.each ends.0) w.segment h.last (share_lies w.plan w.segment w.each ends.0) f.1));
         },
       ))
-      (stopped_by c w.plan (share_of w.plan w.segment w.each ends.0) r h.last even (may c) ends.1)
+      (stopped_by c w.plan (share_of w.plan w.segment w.each ends.0) r h.last even (may c) ends.2)
 
   pub some_refused : (cs : List Caller) (ts us : List Taker) (r : Refusal) → ((x : Caller) → MayUse w.segment.arena x)
       → AreDoneBy (Takes w) more cs ts us → end_of us ≡ Err r → HaveStopped w.plan w.segment w.each cs more r

@@ -95,7 +95,7 @@ counted_none {v = v} can ready = record {
   account = ready.turn;
 }
 
-is_taker : {jobs : Jobs} {turn : Turn} {taken : List ℕ} {ended : ℕ} → HasAccount jobs turn (took taken ended) → IsTaker jobs turn
+pub is_taker : {jobs : Jobs} {turn : Turn} {taken : List ℕ} {ended : ℕ} → HasAccount jobs turn (took taken ended) → IsTaker jobs turn
 is_taker h = record { is_of = h.is_of; role = ap (λ (v : Account). v.role) h.is }
 
 module _ {jobs : Jobs} {p : Plan} {s : Region} {each : ℕ} {old now : View} {t : Tallier} (h : CountsSoFar jobs p s each old now t) where
@@ -157,7 +157,7 @@ module _ {jobs : Jobs} {p : Plan} {s : Region} {each : ℕ} {old now : View} {t 
     -- Not all numbers of a share were counted.
     pub stopped_counting : (turn : Turn) (r : Refusal) → Did now next (DoesCount now.caller p (share_of p s each job) (Err r))
         → HasAccount jobs turn (after_take (account_of t.turn) (Some job))
-        → Did old next (λ own. StopsCounting old.caller p s each r own × IsTaker jobs turn)
+        → Did old next (λ own. (stops : StopsCounting old.caller p s each r own) × HasAccount jobs turn (took (jobs_of stops.done ++ stops.number ∷ []) 0))
     stopped_counting turn r d account = record {
       own = h.own ++ d.own;
       does = (
@@ -170,10 +170,7 @@ module _ {jobs : Jobs} {p : Plan} {s : Region} {each : ℕ} {old now : View} {t 
           number = job;
           uncounted = subst (λ (c : Caller). DoesCount c p (share_of p s each job) (Err r) d.own) h.makes.same_caller d.does;
         },
-        record {
-          is_of = account.is_of;
-          role = ap (λ (v : Account). v.role) (account.is ∙ ap (λ (v : Account). after_take v (Some job)) h.account.is);
-        },
+        record { is_of = account.is_of; is = account.is ∙ ap (λ (v : Account). after_take v (Some job)) h.account.is },
       );
       makes = Makes-then old now next h.own d.own h.makes d.makes;
     }
@@ -195,7 +192,7 @@ module _ {jobs : Jobs} {p : Plan} {s : Region} {each : ℕ} {x y : View} (counts
       so (Ok i) h = (d.does.0, record { reads = d.own; adds = a.own; parts = refl; counted = d.does.1; added = h }, d.does.2)
       so (Err e) h = (
         unadded d.does.0 t.counts (record { reads = d.own; adds = a.own; parts = refl; counted = d.does.1; added = h }),
-        is_taker d.does.2,
+        d.does.2,
       )
 
   -- Not all was counted, and nothing is added.

@@ -13,20 +13,20 @@ use Rattle.fm_base.specs.Visits.{refused_visit}
 use Rattle.fm_segment.specs.Region.{Region}
 use Rattle.fm_records_query.specs.Plan.{Plan}
 use Rattle.fm_records.specs.Reads.{IsWordOf}
-use Rattle.fm_workers_jobs.specs.declared.account.Account.{Account}
-use Rattle.fm_workers_jobs.specs.Turns.{IsTaker}
+use Rattle.fm_workers_jobs.specs.Turns.{HasAccount, IsTaker, Turn}
 use Rattle.fm_workers_shares.specs.declared.taker.Done.{Done}
 use Rattle.fm_workers_shares.specs.Shares.{share_of}
 use Rattle.fm_workers.specs.declared.tallier.Tallier.{Tallier}
 use Rattle.fm_workers.specs.Adding.{AddsAt, AddsBelow, DoesAdd, HasCounts, adds, count_word, none_yet, nothing, one_more}
 use Rattle.fm_workers.specs.Query.{OnlyReads, reads}
 use Rattle.fm_workers.specs.Summing.{end_of}
-use Rattle.fm_workers.specs.Tallies.{DoesCount, EndsTallying, StopsTally, Tallies, TalliesShares, Tallying, unadded, uncounted}
+use Rattle.fm_workers.specs.Tallies.{DoesCount, EndsTallying, StopsTally, Tallies, TalliesShares, Tallying, took_before, unadded, uncounted}
 use Rattle.fm_workers.specs.Tally.{FoundEitherClosed, HasCounted, IsFirstUncounted, OnlyAddsTo, OnlyTallies, closed, no_more, one_add}
 use Rattle.fm_workers_shares.proofs.Ends.{either_refused}
 use Rattle.fm_workers_crew.proofs.Callers.{AreDoneBy}
 use Rattle.fm_workers.proofs.Asked.{no_reads, stops_count}
 use Rattle.fm_workers.proofs.Reading.{each_read, reads_after, share_lies}
+use Rattle.fm_workers.proofs.Talliers.{is_taker}
 
 pub tasks_count : {T : Type 0} (Does : Caller → T → T → List Entry → Type 0) (more : List Entry) (cs : List Caller) (ts us : List T)
     → AreDoneBy Does more cs ts us → length cs ≡ length ts
@@ -206,10 +206,15 @@ module _ (w : Tallying) (more : List Entry) where
 
   -- ---- turns
 
+  stopped_taker : {c : Caller} {p : Plan} {s counts : Region} {each : ℕ} {r : Refusal} {own : List Entry} {turn : Turn}
+      → (stops : StopsTally c p s counts each r own) → HasAccount w.jobs turn (took_before stops) → IsTaker w.jobs turn
+  stopped_taker (uncounted stops) h = is_taker h
+  stopped_taker (unadded ds ns tallied) h = is_taker h
+
   ends_taker : (c : Caller) (t : Tallier) (r : Result (Unit {0}) Refusal) (own : List Entry)
       → EndsTallying w.jobs c w.plan w.segment w.counts w.each t r own → IsTaker w.jobs t.turn
-  ends_taker c t (Ok u) own d = record { is_of = d.2.is_of; role = ap (λ (v : Account). v.role) d.2.is }
-  ends_taker c t (Err r) own d = d.1
+  ends_taker c t (Ok u) own d = is_taker d.2
+  ends_taker c t (Err r) own d = stopped_taker d.0 d.1
 
   -- All have their turns still.
   pub are_takers : (cs : List Caller) (ts us : List Tallier) → AreDoneBy (Tallies w) more cs ts us → AllByRecursion (λ t. IsTaker w.jobs t.turn) us

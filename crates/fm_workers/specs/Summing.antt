@@ -1,6 +1,6 @@
 -- What comes of a batch of shares that are counted.
 use Rattle.std.specs.Prelude.{◌≡◌, ◌⊎◌, ℕ, ◌/◌, ◌<◌, ◌≤◌, ◌^◌, List, [], ◌∷◌, length, map, Result, Ok, Err}
-use Rattle.std.specs.List.{AllByRecursion}
+use Rattle.std.specs.List.{AllByRecursion, range_with_len}
 use Rattle.fm_base.specs.declared.refusal.Refusal.{Refusal}
 use Rattle.fm_base.specs.declared.refusal.Refusal.TheVariants.{Memory}
 use Rattle.fm_workers_jobs.specs.declared.account.Account.{Account}
@@ -24,6 +24,7 @@ pub record IsBegun (many threads : ℕ) (b : TallyBatch) : Type 0 where
   pub giver : HasAccount b.jobs b.giver (begun many threads)
   pub talliers : AllByRecursion (IsReady b.jobs) b.talliers.items
   pub count : length b.talliers.items ≡ threads
+  pub numbers : map (λ t. t.number) b.talliers.items ≡ range_with_len 1 threads
 
 abbrev pub talliers_in : TallyBatch → ℕ
 talliers_in b = length b.talliers.items

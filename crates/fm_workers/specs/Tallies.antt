@@ -16,9 +16,10 @@ use Rattle.fm_records.specs.declared.found.Found.{Found}
 use Rattle.fm_records.specs.Learnt.{CanQuery}
 use Rattle.fm_records.specs.Query.{DoesQuery}
 use Rattle.fm_records.specs.Reads.{AreReads, StopsReading}
+use Rattle.fm_workers_jobs.specs.declared.account.Account.{Account}
 use Rattle.fm_workers_jobs.specs.declared.jobs.Jobs.{Jobs}
 use Rattle.fm_workers_jobs.specs.Accounts.{taker}
-use Rattle.fm_workers_jobs.specs.Turns.{HasAccount, IsTaker}
+use Rattle.fm_workers_jobs.specs.Turns.{HasAccount}
 use Rattle.fm_workers_shares.specs.declared.taker.Done.{Done}
 use Rattle.fm_workers_shares.specs.Shares.{share_of}
 use Rattle.fm_workers_shares.specs.Taking.{CanServe, DoesEach, DoesShare, jobs_of, took}
@@ -106,16 +107,23 @@ pub record IsReady (jobs : Jobs) (t : Tallier) : Type 0 where
   pub turn : HasAccount jobs t.turn taker
   pub none : AreCounts [] t.counts
 
--- it took its stop, and counted what it took; or not all numbers of a share
+-- it took its stop, and counted what it took; or it took one share more, of which not all numbers were counted
 abbrev pub CountsTaken : Jobs → Caller → Plan → Region → (each : ℕ) → Tallier → Result (Unit {0}) Refusal → List Entry → Type 0
 CountsTaken jobs c p s each t (Ok u) own = (ds : List Done) × CountsShares c p s each ds t.counts own × HasAccount jobs t.turn (took (jobs_of ds) 1)
-CountsTaken jobs c p s each t (Err r) own = StopsCounting c p s each r own × IsTaker jobs t.turn
+CountsTaken jobs c p s each t (Err r) own =
+    (stops : StopsCounting c p s each r own) × HasAccount jobs t.turn (took (jobs_of stops.done ++ stops.number ∷ []) 0)
+
+-- what a tallier took that stopped so
+abbrev pub took_before : {c : Caller} {p : Plan} {s counts : Region} {each : ℕ} {r : Refusal} {own : List Entry}
+    → StopsTally c p s counts each r own → Account
+took_before (uncounted stops) = took (jobs_of stops.done ++ stops.number ∷ []) 0
+took_before (unadded ds ns tallied) = took (jobs_of ds) 1
 
 -- it took its stop, and counted and added what it took; or it was refused
 abbrev pub EndsTallying : Jobs → Caller → Plan → (s counts : Region) → (each : ℕ) → Tallier → Result (Unit {0}) Refusal → List Entry → Type 0
 EndsTallying jobs c p s counts each t (Ok u) own =
     (ds : List Done) × TalliesShares c p s counts each ds t.counts (Ok tt) own × HasAccount jobs t.turn (took (jobs_of ds) 1)
-EndsTallying jobs c p s counts each t (Err r) own = StopsTally c p s counts each r own × IsTaker jobs t.turn
+EndsTallying jobs c p s counts each t (Err r) own = (stops : StopsTally c p s counts each r own) × HasAccount jobs t.turn (took_before stops)
 
 -- ---- the work of a crew
 

@@ -1,5 +1,5 @@
-ghost use Rattle.std.specs.Prelude.{◌≡◌, ◌<◌, IfOk, length};
-ghost use Rattle.std.specs.List.{AllByRecursion};
+ghost use Rattle.std.specs.Prelude.{◌≡◌, ◌<◌, IfOk, length, map};
+ghost use Rattle.std.specs.List.{AllByRecursion, range_with_len};
 ghost use Rattle.fm_workers_jobs.specs.Turns.{account_of, HasAccount, IsGiver};
 ghost use Rattle.fm_workers_shares.specs.Batches.{after_turns};
 ghost use Rattle.fm_workers.specs.Tallies.{IsReady};
@@ -52,6 +52,8 @@ fn call_talliers(
     requires { IsGiver jobs.now giver.old }
     ensures ready { IfOk result (λ talliers. AllByRecursion (IsReady jobs.now) talliers.items) }
     ensures count { IfOk result (λ talliers. length talliers.items ≡ count) }
+    ensures numbers { IfOk result
+        (λ talliers. map (λ t. t.number) talliers.items ≡ range_with_len 1 count) }
     ensures giver { IfOk result
         (λ _. HasAccount jobs.now giver.new (after_turns (account_of giver.old) count)) }
 {

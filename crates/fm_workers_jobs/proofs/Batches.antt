@@ -8,7 +8,7 @@ use Rattle.fm_workers_jobs.specs.declared.item.Item.TheVariants.{Job}
 use Rattle.fm_workers_jobs.specs.Accounts.{after_push, after_jobs}
 
 -- A row of numbers with one more.
-range_with_len-more : (from count last : ℕ) → from + count ≡ last → range_with_len from (suc count) ≡ range_with_len from count ++ last ∷ []
+pub range_with_len-more : (from count last : ℕ) → from + count ≡ last → range_with_len from (suc count) ≡ range_with_len from count ++ last ∷ []
 range_with_len-more from zero last e = ap (λ n. n ∷ []) (omega arith)
 range_with_len-more from (suc count) last e = ap (λ ns. from ∷ ns) (range_with_len-more (from + 1) count last (omega arith))
 

@@ -1,8 +1,11 @@
 -- Where shares begin and end, and how many there are.
-use Rattle.std.proofs.Common.{◌≡◌, ℕ, ◌+◌, ◌-◌, ◌*◌, ◌/◌, ◌<◌, ◌≤◌, max, sym, ap, ◌∙◌, subst, arith}
+use Rattle.std.proofs.Common.{◌≡◌, ℕ, suc, ◌+◌, ◌-◌, ◌*◌, ◌/◌, ◌<◌, ◌≤◌, List, [], ◌∷◌, ◌++◌, map, max, sym, ap, ◌∙◌, subst, arith}
+use Rattle.std.specs.List.{range_with_len}
 use Rattle.std.specs.Int.{div_ceil}
 use Rattle.std.proofs.Math.Nat.{add-mul, mul-le-mul_right, div-mul-le_self}
 use Rattle.std.proofs.lemmas.Grind.{div_ceil_times}
+use Rattle.std.proofs.lemmas.List.{map-append}
+use Rattle.fm_workers_jobs.proofs.Batches.{range_with_len-more}
 use Rattle.fm_workers_shares.specs.Shares.{each_of, many_of, start_of}
 
 -- A run's bytes and those before it are all up to its end.
@@ -57,3 +60,11 @@ start_first count each = omega arith
 
 pub start_last : (count each : ℕ) → 0 < each → start_of count each (many_of count each) ≡ count
 start_last count each some = let all = all_in count each some in omega (arith, all)
+
+-- One more stands behind those that are numbered from 1 on.
+pub numbered_more : {X : Type 0} (number : X → ℕ) (xs : List X) (x : X) (k : ℕ) → map number xs ≡ range_with_len 1 k → number x ≡ k + 1
+    → map number (xs ++ x ∷ []) ≡ range_with_len 1 (k + 1)
+numbered_more number xs x k all is =
+    let next : suc k ≡ k + 1 = omega arith in
+    map-append number xs (x ∷ []) ∙ ap (λ (ns : List ℕ). ns ++ number x ∷ []) all
+    ∙ sym (range_with_len-more 1 k (number x) (omega (arith, is))) ∙ ap (range_with_len 1) next

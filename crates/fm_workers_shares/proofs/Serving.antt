@@ -147,17 +147,25 @@ module _ {jobs : Jobs} {p : Plan} {s : Region} {each : ℕ} {old now : View} {t 
         }
 
     -- A share was refused.
-    pub took_refused : {u : Taker} (r : Refusal) → Did now next (Serves now.caller p s each job t.done.items new (Err r)) → u.done.items ≡ new
-        → u.end ≡ Err r → Did old next (TakesShares jobs old.caller p s each u)
-    took_refused {u} r d is end = record {
+    pub took_refused : {u : Taker} (r : Refusal) → Did now next (Serves now.caller p s each job t.done.items new (Err r))
+        → HasAccount jobs u.turn (after_take (account_of t.turn) (Some job)) → u.done.items ≡ new → u.end ≡ Err r
+        → Did old next (TakesShares jobs old.caller p s each u)
+    took_refused {u} r d account is end = record {
       own = h.own ++ d.own;
       does = record {
         served = h.own;
         last = d.own;
         parts = refl;
         does = subst (λ ds. DoesEach p s each old.caller ds h.own) (sym (is ∙ d.does.0)) h.does;
-        ends = subst (λ q. EndsTaking jobs p s each old.caller u q d.own) (sym end)
-            (job, subst (λ (c : Caller). DoesQuery c p (share_of p s each job) (Err r) d.own) h.makes.same_caller d.does.1);
+        ends = subst (λ q. EndsTaking jobs p s each old.caller u q d.own) (sym end) (
+          job,
+          record {
+            is_of = account.is_of;
+            is = account.is ∙ ap (λ (v : Account). after_take v (Some job)) h.account.is
+                ∙ ap (λ (ds : List Done). took (jobs_of ds ++ job ∷ []) 0) (sym (is ∙ d.does.0));
+          },
+          subst (λ (c : Caller). DoesQuery c p (share_of p s each job) (Err r) d.own) h.makes.same_caller d.does.1,
+        );
       };
       makes = Makes-then old now next h.own d.own h.makes d.makes;
     }

@@ -1,6 +1,6 @@
 -- A batch before its shares are taken.
-use Rattle.std.specs.Prelude.{◌≡◌, ℕ, zero, suc, ◌+◌, List, [], ◌∷◌, None, length}
-use Rattle.std.specs.List.{AllByRecursion}
+use Rattle.std.specs.Prelude.{◌≡◌, ℕ, zero, suc, ◌+◌, List, [], ◌∷◌, None, length, map}
+use Rattle.std.specs.List.{AllByRecursion, range_with_len}
 use Rattle.fm_workers_jobs.specs.declared.account.Account.{Account}
 use Rattle.fm_workers_jobs.specs.Accounts.{after_batch, giver}
 use Rattle.fm_workers_jobs.specs.Turns.{HasAccount}
@@ -25,4 +25,5 @@ pub record IsBegun (many threads : ℕ) (b : Batch) : Type 0 where
   pub giver : HasAccount b.jobs b.giver (begun many threads)
   pub takers : AllByRecursion (IsReady b.jobs) b.takers.items
   pub count : length b.takers.items ≡ threads
+  pub numbers : map (λ t. t.number) b.takers.items ≡ range_with_len 1 threads
   pub slots : b.slots.items ≡ nones many

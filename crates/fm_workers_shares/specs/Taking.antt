@@ -51,10 +51,11 @@ jobs_of ds = map (λ d. d.job) ds
 abbrev pub took : List ℕ → (ended : ℕ) → Account
 took jobs ended = record { role = roles.Taker; out = 0; pushed = []; stops = 0; taken = jobs; ended = ended }
 
--- it took its stop; or a share was refused
+-- it took its stop; or it took one share more, which was refused
 abbrev pub EndsTaking : Jobs → Plan → Region → (each : ℕ) → Caller → Taker → Result (Unit {0}) Refusal → (last : List Entry) → Type 0
 EndsTaking jobs p s each c t (Ok u) last = (last ≡ []) × HasAccount jobs t.turn (took (jobs_of t.done.items) 1)
-EndsTaking jobs p s each c t (Err r) last = (job : ℕ) × DoesQuery c p (share_of p s each job) (Err r) last
+EndsTaking jobs p s each c t (Err r) last =
+    (job : ℕ) × HasAccount jobs t.turn (took (jobs_of t.done.items ++ job ∷ []) 0) × DoesQuery c p (share_of p s each job) (Err r) last
 
 -- it answered shares, one after the other, and ended
 pub record TakesShares (jobs : Jobs) (c : Caller) (p : Plan) (s : Region) (each : ℕ) (t : Taker) (own : List Entry) : Type 0 where

@@ -1,5 +1,5 @@
-ghost use Rattle.std.specs.Prelude.{◌≡◌, ◌+◌, ◌<◌, ◌^◌, ◌≤◌, IfOk, length, vec_len, vec_capacity};
-ghost use Rattle.std.specs.List.{AllByRecursion};
+ghost use Rattle.std.specs.Prelude.{◌≡◌, ◌+◌, ◌<◌, ◌^◌, ◌≤◌, IfOk, length, map, vec_len, vec_capacity};
+ghost use Rattle.std.specs.List.{AllByRecursion, range_with_len};
 ghost use Rattle.fm_workers_jobs.specs.Turns.{account_of, HasAccount, IsGiver};
 ghost use Rattle.fm_workers_shares.specs.Taking.{IsReady};
 ghost use Rattle.fm_workers_shares.specs.Batches.{IsBegun, after_turns, nones};
@@ -66,6 +66,8 @@ fn call_takers(
     requires { IsGiver jobs.now giver.old }
     ensures ready { IfOk result (λ takers. AllByRecursion (IsReady jobs.now) takers.items) }
     ensures count { IfOk result (λ takers. length takers.items ≡ count) }
+    ensures numbers { IfOk result
+        (λ takers. map (λ t. t.number) takers.items ≡ range_with_len 1 count) }
     ensures giver { IfOk result
         (λ _. HasAccount jobs.now giver.new (after_turns (account_of giver.old) count)) }
 {

@@ -9,7 +9,7 @@ pub serve-served-requires : goal.serve-served-requires
 serve-served-requires g c = can_serve_on c.loop.invariant c.requires.can
 
 pub returns-in-Err-clause-did : goal.returns-in-Err-clause-did
-returns-in-Err-clause-did g c = took_refused c.loop.invariant c.in-Some-take.job c.in-Err.refusal c.in-Err.ensures.did refl refl
+returns-in-Err-clause-did g c = took_refused c.loop.invariant c.in-Some-take.job c.in-Err.refusal c.in-Err.ensures.did c.in-Some-take.ensures refl refl
 
 pub loop-preserved : goal.loop-preserved
 loop-preserved g c =

@@ -1,0 +1,21 @@
+use Rattle.std.proofs.Common.{rules, ◌∷◌, [], List, map, refl, sym, ap, ◌∙◌, subst}
+use Rattle.std.specs.List.{AllByRecursion}
+use Rattle.fm_base_lists.proofs.Each.{all_both}
+use Rattle.fm_workers.specs.declared.tallier.Tallier.{Tallier}
+use Rattle.fm_workers.specs.Tallies.{IsReady}
+use Rattle.fm_workers_shares.proofs.Numbers.{numbered_more}
+use Rattle.fm_workers.proofs.tally_batch.call_talliers.Goals as goal
+
+pub loop-k-preserved : goal.loop-k-preserved
+loop-k-preserved c =
+    let ready = IsReady c.args.jobs.now in
+    let one : ready _ = record { turn = c.another.ensures.taker; none = c.none.ensures } in
+    record {
+      ready = subst (AllByRecursion ready) (sym c.push_reserved.ensures.items)
+          (all_both ready c.loop-k.talliers.items (_ ∷ []) c.loop-k.invariant.ready (one, tt));
+      count = search rules;
+      numbers = ap (λ (ts : List Tallier). map (λ t. t.number) ts) c.push_reserved.ensures.items
+          ∙ numbered_more (λ (t : Tallier). t.number) c.loop-k.talliers.items _ c.loop-k.k c.loop-k.invariant.numbers refl;
+      giver = search rules;
+      room = search rules;
+    }
