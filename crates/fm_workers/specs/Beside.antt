@@ -1,5 +1,5 @@
 -- What a query by a crew comes to while its drawer does something of its own.
-use Rattle.std.specs.Prelude.{◌/◌, ℕ, List, [], Result, IfOk}
+use Rattle.std.specs.Prelude.{◌/◌, ℕ, List, [], Result, Ok, Err, IfOk}
 use Rattle.std.specs.List.{AllByRecursion}
 use Rattle.fm_base.specs.declared.refusal.Refusal.{Refusal}
 use Rattle.fm_base.specs.Calls.{Entry}
@@ -14,7 +14,7 @@ use Rattle.fm_rule_calls.specs.Told.{view_of_pass}
 use Rattle.fm_rule_facts.specs.Views.{View}
 use Rattle.fm_segment.specs.Access.{IsKnown}
 use Rattle.fm_segment.specs.Region.{Region}
-use Rattle.fm_workers.specs.Query.{CanQueryWith, EndsQuery, IsAnswer, IsOpenToAll, NobodyElseWrites, OnlyReads}
+use Rattle.fm_workers.specs.Query.{CanQueryWith, EndsQuery, IsAnswer, IsOpenToAll, NobodyElseWrites, OnlyReads, QueriedWith}
 use Rattle.fm_workers_crew.specs.Beside.{GatheredBeside}
 use Rattle.fm_workers_crew.specs.Crew.{callers}
 use Rattle.fm_workers_shares.specs.Shares.{each_of}
@@ -35,3 +35,8 @@ pub record AskedBeside (Acts : List Entry → Type 0) (threads : ℕ) (old new :
   pub answer : IfOk result (IsAnswerOf p)
   pub few : IfOk result (AreFew s.size p)
   pub known : IsKnown (view_of_pass new) s
+
+-- or no share was begun, and nothing was done beside them
+abbrev pub AsksBeside : (Acts : List Entry → Type 0) → (threads : ℕ) → (old new : View) → Plan → Region → Result (Result (List Found) Refusal) Refusal → Type 0
+AsksBeside Acts threads old new p s (Ok answer) = AskedBeside Acts threads old new p s answer
+AsksBeside Acts threads old new p s (Err r) = QueriedWith threads old new p s (Err r)

@@ -1,8 +1,7 @@
-ghost use Rattle.std.specs.Prelude.{◌≡◌, IfErr, IfOk, Err};
+ghost use Rattle.std.specs.Prelude.{◌≡◌, IfErr};
 ghost use Rattle.fm_arena.specs.Shares.{CanShare};
 ghost use Rattle.fm_gate.specs.Needs.{IsOutside};
-ghost use Rattle.fm_workers.specs.Beside.{AskedBeside, CanQueryBeside};
-ghost use Rattle.fm_workers.specs.Query.{QueriedWith};
+ghost use Rattle.fm_workers.specs.Beside.{AsksBeside, CanQueryBeside};
 ghost use Rattle.fm_workers.specs.Taking.{CanTakeBatch, takers_in};
 
 use crate::query::Asking;
@@ -37,8 +36,8 @@ pub fn query_beside<R: Threads + Wait + Sync, G: Gate, S, B: Beside<S>>(
 ) -> (Pass, Result<Result<Answer, Refusal>, Refusal>)
     requires can { CanQueryBeside pool.now pass q.now s.now threads }
     requires beside { B.can beside.old pass with.old }
-    ensures asked { IfOk result.1 (AskedBeside (B.does beside.old beside.new with.old with.new pass.caller) threads pass result.0 q.now s.now) }
-    ensures unasked { IfErr result.1 (λ refusal. QueriedWith threads pass result.0 q.now s.now (Err refusal)) }
+    ensures asks { AsksBeside (B.does beside.old beside.new with.old with.new pass.caller) threads pass
+        result.0 q.now s.now result.1 }
     ensures untouched { IfErr result.1 (λ _. (beside.new ≡ beside.old) × (with.new ≡ with.old)) }
     ensures outside { IsOutside pool.now result.0 }
 {
@@ -69,16 +68,15 @@ fn take_batch_beside<R: Threads + Wait + Sync, G: Gate, S, B: Beside<S>>(
     requires can { CanTakeBatch pool.now pass q.now s.now (takers_in batch) each batch }
     requires shares { CanShare pool.now pass }
     requires beside { B.can beside.old pass with.old }
-    ensures asked { IfOk result.1
-        (AskedBeside (B.does beside.old beside.new with.old with.new pass.caller) (takers_in batch) pass result.0 q.now s.now) }
-    ensures unasked { IfErr result.1 (λ refusal. QueriedWith (takers_in batch) pass result.0 q.now s.now (Err refusal)) }
+    ensures asks { AsksBeside (B.does beside.old beside.new with.old with.new pass.caller) (takers_in batch) pass
+        result.0 q.now s.now result.1 }
     ensures untouched { IfErr result.1 (λ _. (beside.new ≡ beside.old) × (with.new ≡ with.old)) }
     ensures outside { IsOutside pool.now result.0 }
 {
     let Batch {
         jobs,
         giver,
-        mut takers,
+        takers: mut crew,
         slots,
     } = batch;
     let work = Asking {
@@ -90,21 +88,11 @@ fn take_batch_beside<R: Threads + Wait + Sync, G: Gate, S, B: Beside<S>>(
         each,
     };
     let (pass, worked) = work_crew_beside(
-        rt,
-        alloc,
-        pool,
-        pass,
-        &work,
-        &mut takers,
-        &FreeGate,
-        beside,
-        with,
+        rt, alloc, pool, pass, &work, &mut crew, &FreeGate, beside, with,
     );
-    match worked {
-        Ok(()) => {
-            let answer = finish(alloc, q, s, each, &jobs, giver, takers, slots);
-            (pass, Ok(answer))
-        }
-        Err(refusal) => (pass, Err(refusal)),
-    }
+    let answer = match worked {
+        Ok(()) => finish(alloc, q, s, each, &jobs, giver, crew, slots),
+        Err(refusal) => return (pass, Err(refusal)),
+    };
+    (pass, Ok(answer))
 }

@@ -1,5 +1,5 @@
 -- What a crew has done, and its drawer beside it, from the first draw to the last look.
-use Rattle.std.proofs.Common.{inl, inr, ◌≡◌, List, [], ◌∷◌, ◌++◌, ap, sym, ◌∙◌, subst, append_assoc, ⊎_elim, All, get_or, Bool, true, false, reverse, Ok}
+use Rattle.std.proofs.Common.{inl, inr, ◌≡◌, List, [], ◌∷◌, ◌++◌, ap, sym, ◌∙◌, subst, append_assoc, ⊎_elim, All, get_or, Bool, true, false}
 use Rattle.std.specs.List.{AllByRecursion, AllZip}
 use Rattle.std.proofs.lemmas.List.{append-nil}
 use Rattle.std.proofs.lemmas.List.Elements.{filter-append, recursion_from_All}
@@ -23,11 +23,11 @@ use Rattle.fm_arena.proofs.Lasting.{keeps}
 use Rattle.fm_workers_crew.specs.declared.worker.Worker.{Worker}
 use Rattle.fm_workers_crew.specs.Beside.{GatheredBeside, WorkedBeside}
 use Rattle.fm_workers_crew.specs.Crew.{AreDone, DrewEach, IsFresh, IsIn, IsWhole, callers}
-use Rattle.fm_workers_crew.specs.Rounds.{CalledUp, GatheredCrew, IsWorked, Went, crew_of, passes_of, tasks_of}
+use Rattle.fm_workers_crew.specs.Rounds.{CalledAll, GatheredCrew, IsWorked, Went, crew_of, passes_of, tasks_of}
 use Rattle.fm_workers_crew.proofs.Drawing.{caller_still, gathered_still, made_behind}
 use Rattle.fm_workers_crew.proofs.Gathering.{Made, all_in_still, apart_before, apart_since, gathered_is, gatherer_still}
 use Rattle.fm_workers_crew.proofs.Orders.{drew_among}
-use Rattle.fm_workers_crew.proofs.Turning.{moved_back}
+use Rattle.fm_workers_crew.proofs.Turning.{tasks_called}
 use Rattle.fm_workers_crew.proofs.Wholes.{NoDraws, crew_apart, has_all_drawn, only_own_or_crew}
 use Rattle.fm_workers_crew.proofs.Workers.{callers_after, crew_are, done_all, each_caller, each_pass, fresh_after, undrawn_after}
 
@@ -156,15 +156,13 @@ outside_acted {pool = pool} {memory = memory} {acted = acted} is of k after =
 
 module _ {T : Type 0} (Does : View → T → T → List Entry → Type 0) {P : List Entry → Type 0} {old drew acted got new : View} {b : Bool} where
   -- All tasks were done.
-  pub worked_beside : {todo tasks left done : List T} {u : Unit {0}} (ws vs : List (Worker T)) → old.number ≡ no_number → CalledUp old drew todo left ws (Ok u)
-      → AllZip (IsWorked Does) ws vs → Did (view_of_pass drew) (view_of_pass acted) P → GatheredCrew acted got vs → Looked got new b
-      → todo ≡ reverse tasks → done ≡ tasks_of vs → WorkedBeside Does P old new tasks done
+  pub worked_beside : {tasks done : List T} (ws vs : List (Worker T)) → old.number ≡ no_number → CalledAll old drew tasks ws → AllZip (IsWorked Does) ws vs
+      → Did (view_of_pass drew) (view_of_pass acted) P → GatheredCrew acted got vs → Looked got new b → done ≡ tasks_of vs
+      → WorkedBeside Does P old new tasks done
   unfolding round_beside
-  worked_beside {tasks = tasks} {left = left} {done = done} ws vs none d z k g l turned last =
+  worked_beside ws vs none d z k g l last =
       let m = d.went in
-      let none_left : left ≡ [] = d.ends in
-      let first : tasks ≡ tasks_of ws =
-      moved_back tasks left ws turned d.parts ∙ (ap (λ (ts : List T). tasks_of ws ++ reverse ts) none_left ∙ append-nil (tasks_of ws)) in
+      let first = tasks_called d in
       let after : callers (crew_of ws) ≡ callers (crew_of vs) = sym (callers_after Does ws vs z) in
       let round = round_beside none m k g l (fresh_after Does old ws vs d.workers z) (subst (λ (cs : List Caller). DrewEach m.draws cs) after d.drew)
       (undrawn_after Does old ws vs d.workers z) in

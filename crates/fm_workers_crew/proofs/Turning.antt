@@ -1,7 +1,7 @@
 -- A crew that was drawn one by one, the last drawn first.
-use Rattle.std.proofs.Common.{◌≡◌, List, [], ◌∷◌, ◌++◌, Result, refl, reverse, ap, sym, ◌∙◌, subst}
+use Rattle.std.proofs.Common.{◌≡◌, List, [], ◌∷◌, ◌++◌, Result, Ok, refl, reverse, ap, sym, ◌∙◌, subst}
 use Rattle.std.specs.List.{AllByRecursion}
-use Rattle.std.proofs.lemmas.List.{reverse-append, reverse-reverse}
+use Rattle.std.proofs.lemmas.List.{append-nil, reverse-append, reverse-reverse}
 use Rattle.fm_base_lists.proofs.Each.{all_both}
 use Rattle.fm_base.specs.declared.caller.Caller.{Caller}
 use Rattle.fm_base.specs.declared.refusal.Refusal.{Refusal}
@@ -10,7 +10,7 @@ use Rattle.fm_rule_facts.specs.Views.{View}
 use Rattle.fm_rule_facts.specs.Splits.{as_gathered}
 use Rattle.fm_workers_crew.specs.declared.worker.Worker.{Worker}
 use Rattle.fm_workers_crew.specs.Crew.{DrewEach, callers}
-use Rattle.fm_workers_crew.specs.Rounds.{AfterDraws, CalledUp, IsDrawn, crew_of, order_of, tasks_of}
+use Rattle.fm_workers_crew.specs.Rounds.{AfterDraws, CalledAll, CalledUp, IsDrawn, crew_of, order_of, tasks_of}
 use Rattle.fm_workers_crew.proofs.Drawing.{tasks_push}
 
 -- The first stands last then.
@@ -62,3 +62,17 @@ module _ {T : Type 0} where
   moved_back tasks left ws e d =
       sym (reverse-reverse tasks) ∙ (ap (λ (ts : List T). reverse ts) (sym e ∙ d) ∙ (reverse-append left (reverse (tasks_of ws))
       ∙ ap (λ (ts : List T). ts ++ reverse left) (reverse-reverse (tasks_of ws))))
+
+  -- All tasks have a worker where none is left.
+  pub called_all : (tasks : List T) {todo left : List T} {old now : View} {ws : List (Worker T)} {u : Unit {0}} → todo ≡ reverse tasks
+      → CalledUp old now todo left ws (Ok u) → CalledAll old now tasks ws
+  called_all tasks {ws = ws} turned d = record {
+    went = d.went;
+    drew = d.drew;
+    workers = d.workers;
+    parts = sym turned ∙ d.parts ∙ ap (λ (ts : List T). ts ++ reverse (tasks_of ws)) d.ends;
+    ends = refl;
+  }
+
+  pub tasks_called : {old now : View} {tasks : List T} {ws : List (Worker T)} → CalledAll old now tasks ws → tasks ≡ tasks_of ws
+  tasks_called {tasks = tasks} {ws = ws} d = moved_back tasks [] ws refl d.parts ∙ append-nil (tasks_of ws)

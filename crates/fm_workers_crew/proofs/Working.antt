@@ -19,13 +19,13 @@ use Rattle.fm_rule_steps.proofs.Reading.{eqb_true}
 use Rattle.fm_rule_calls.specs.Kept.{Lasts}
 use Rattle.fm_rule_calls.proofs.Going.{reached_by, lasts_by}
 use Rattle.fm_workers_crew.specs.declared.worker.Worker.{Worker}
-use Rattle.fm_workers_crew.specs.Crew.{DrewEach, IsFresh, IsIn, IsWhole, FoundNoNumber, CrewGathered, CrewWorked, AreDone, callers}
-use Rattle.fm_workers_crew.specs.Rounds.{Went, CalledUp, IsWorked, GatheredCrew, tasks_of, crew_of, passes_of}
+use Rattle.fm_workers_crew.specs.Crew.{DrewEach, IsFresh, IsIn, IsWhole, FoundNoNumber, CrewGathered, CrewWorked, AreDone, EndsCrew, callers}
+use Rattle.fm_workers_crew.specs.Rounds.{Went, CalledAll, CalledUp, IsWorked, GatheredCrew, tasks_of, crew_of, passes_of}
 use Rattle.fm_workers_crew.proofs.Drawing.{made_behind, caller_still, gathered_still}
 use Rattle.fm_workers_crew.proofs.Wholes.{NoDraws, all_drawn_again, crew_apart, finds_again, gathered_again, only_crew}
 use Rattle.fm_workers_crew.proofs.Gathering.{Made, gatherer_still, apart_before, apart_since, all_in_still}
 use Rattle.fm_workers_crew.proofs.Orders.{drew_among, drew_each_more}
-use Rattle.fm_workers_crew.proofs.Turning.{moved_back}
+use Rattle.fm_workers_crew.proofs.Turning.{moved_back, tasks_called}
 use Rattle.fm_workers_crew.proofs.Wanting.{IsAgain, too_many}
 use Rattle.fm_workers_crew.proofs.Workers.{zip_all, fresh_all, idle_all, crew_are, each_caller, each_pass, fresh_after, done_all, undrawn_all, undrawn_after, callers_after}
 
@@ -190,15 +190,12 @@ module _ {T : Type 0} where
 
 module _ {T : Type 0} (Does : View → T → T → List Entry → Type 0) {old drew got new : View} {b : Bool} where
   -- All tasks were done.
-  pub crew_worked : {todo tasks left done : List T} {u : Unit {0}} (ws vs : List (Worker T)) → old.number ≡ no_number → CalledUp old drew todo left ws (Ok u)
-      → AllZip (IsWorked Does) ws vs → GatheredCrew drew got vs → Looked got new b → todo ≡ reverse tasks → done ≡ tasks_of vs
-      → CrewWorked Does old new tasks done (Ok tt)
+  pub crew_worked : {tasks done : List T} (ws vs : List (Worker T)) → old.number ≡ no_number → CalledAll old drew tasks ws
+      → AllZip (IsWorked Does) ws vs → GatheredCrew drew got vs → Looked got new b → done ≡ tasks_of vs → CrewWorked Does old new tasks done (Ok tt)
   unfolding round
-  crew_worked {tasks = tasks} {left = left} {done = done} ws vs none d z g l turned last =
+  crew_worked ws vs none d z g l last =
       let m = d.went in
-      let none_left : left ≡ [] = d.ends in
-      let first : tasks ≡ tasks_of ws =
-      moved_back tasks left ws turned d.parts ∙ (ap (λ (ts : List T). tasks_of ws ++ reverse ts) none_left ∙ append-nil (tasks_of ws)) in
+      let first = tasks_called d in
       let made = done_all Does old new (m.more ++ (g.more ++ l.asked.more)) ws vs d.workers z (within none m g l) (round_seen none m g l) in
       let after : callers (crew_of ws) ≡ callers (crew_of vs) = sym (callers_after Does ws vs z) in
       record {
@@ -243,3 +240,21 @@ module _ {T : Type 0} (Does : View → T → T → List Entry → Type 0) {old d
         still_sound = λ h. l.sound;
       }
   crew_refused ws r none d g l turned back = absurd d.ends
+
+-- A refusal says nothing of what a task comes to.
+pub refused_by : {T : Type 0} {Does Other : View → T → T → List Entry → Type 0} {old new : View} {tasks done : List T} (r : Refusal)
+    → CrewWorked Does old new tasks done (Err r) → CrewWorked Other old new tasks done (Err r)
+refused_by {T} {Does} {Other} {old} {tasks = tasks} {done = done} r w = record {
+  crew = w.crew;
+  ends = ends r w.ends;
+  wanting = w.wanting;
+  lasts = w.lasts;
+  sound = w.sound;
+  still_sound = w.still_sound;
+}
+  where
+    ends : (q : Refusal) → EndsCrew Does old.shape tasks done w.crew.more w.crew.passes w.crew.crew w.crew.draws (Err q)
+        → EndsCrew Other old.shape tasks done w.crew.more w.crew.passes w.crew.crew w.crew.draws (Err q)
+    ends NoPass h = h
+    ends Memory h = h
+    ends q h = absurd h

@@ -1,6 +1,7 @@
 -- What a crew did, and beside it the pass that drew it.
-use Rattle.std.specs.Prelude.{◌≡◌, ◌⊎◌, true, List, [], ◌++◌, map, All}
+use Rattle.std.specs.Prelude.{◌≡◌, ◌⊎◌, true, List, [], ◌++◌, map, All, Result, Ok, Err}
 use Rattle.std.specs.List.{AllByRecursion}
+use Rattle.fm_base.specs.declared.refusal.Refusal.{Refusal}
 use Rattle.fm_base.specs.Calls.{Entry}
 use Rattle.fm_base.specs.Finds.{Gathered}
 use Rattle.fm_base.specs.Histories.{made_by}
@@ -8,7 +9,7 @@ use Rattle.fm_base_lists.specs.Among.{IsAmong, AreApart}
 use Rattle.fm_rule_calls.specs.Kept.{Lasts}
 use Rattle.fm_rule_facts.specs.Splits.{as_gathered}
 use Rattle.fm_rule_facts.specs.Views.{View, IsSound}
-use Rattle.fm_workers_crew.specs.Crew.{AreDone, IsFresh, IsIn, IsWhole, callers}
+use Rattle.fm_workers_crew.specs.Crew.{AreDone, CrewWorked, IsFresh, IsIn, IsWhole, callers}
 
 -- Passes were drawn, made entries while the pass made its own, and were gathered again: these, in their order
 pub record GatheredBeside (Acts : List Entry → Type 0) (old new : View) : Type 0 where
@@ -42,3 +43,9 @@ pub record GatheredBeside (Acts : List Entry → Type 0) (old new : View) : Type
 pub record WorkedBeside {T : Type 0} (Does : View → T → T → List Entry → Type 0) (Acts : List Entry → Type 0) (old new : View) (tasks done : List T) : Type 0 where
   pub crew : GatheredBeside Acts old new
   pub each : AreDone Does crew.more crew.passes tasks done
+
+-- or no task was begun, and nothing was done beside them
+abbrev pub WorksBeside : {T : Type 0} → (View → T → T → List Entry → Type 0) → (Acts : List Entry → Type 0) → (old new : View) → (tasks done : List T)
+    → Result (Unit {0}) Refusal → Type 0
+WorksBeside Does Acts old new tasks done (Ok u) = WorkedBeside Does Acts old new tasks done
+WorksBeside Does Acts old new tasks done (Err r) = CrewWorked Does old new tasks done (Err r)

@@ -121,3 +121,7 @@ pub record CrewWorked {T : Type 0} (Does : View → T → T → List Entry → T
   pub lasts : Lasts old new
   pub sound : result ≢ Err Memory → IsSound new
   pub still_sound : IsSound old → IsSound new
+
+-- no task was begun, so what a task would have come to doesn't count
+abbrev pub CrewRefused : {T : Type 0} → (old new : View) → (tasks done : List T) → Refusal → Type 0
+CrewRefused old new tasks done r = CrewWorked (λ p t u own. ⊥) old new tasks done (Err r)

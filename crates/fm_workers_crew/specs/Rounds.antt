@@ -94,6 +94,10 @@ module _ {T : Type 0} where
     pub parts : tasks ≡ left ++ reverse (tasks_of ws)
     pub ends : EndsDraws old.shape left went.draws result
 
+  -- of `call_all`, where each task has a worker
+  abbrev pub CalledAll : (old now : View) → (tasks : List T) → List (Worker T) → Type 0
+  CalledAll old now tasks ws = CalledUp old now (reverse tasks) [] ws (Ok tt)
+
   -- a worker before and after its work
   pub record IsWorked (Does : View → T → T → List Entry → Type 0) (old new : Worker T) : Type 0 where
     pub outside : new.memory.inside ≡ None

@@ -1,13 +1,12 @@
-ghost use Rattle.std.specs.Prelude.{◌≡◌, ◌<◌, ℕ, None, All, IfErr, IfOk, Err, length, slice_index_or};
+ghost use Rattle.std.specs.Prelude.{◌≡◌, ◌<◌, ℕ, None, All, IfErr, length, slice_index_or};
 ghost use Rattle.fm_base.specs.View.{Did};
 ghost use Rattle.fm_rule_calls.specs.Told.{view_of_pass};
 ghost use Rattle.fm_arena.specs.Shares.{CanShare};
 ghost use Rattle.fm_gate.specs.Needs.{IsOutside};
-ghost use Rattle.fm_workers_crew.specs.Beside.{WorkedBeside};
-ghost use Rattle.fm_workers_crew.specs.Crew.{CrewWorked};
+ghost use Rattle.fm_workers_crew.specs.Beside.{WorksBeside};
 ghost use Rattle.fm_workers_crew.specs.Rounds.{IsWorked};
 
-use crate::crew::{call_up, gather_crew, turn, work_all};
+use crate::crew::{call_all, gather_crew, work_all};
 use crate::work::Work;
 use crate::worker::Worker;
 use fm_arena::Shared;
@@ -94,29 +93,15 @@ pub fn work_crew_beside<R: Threads + Wait + Sync, T: Send, W: Work<T>, G: Gate, 
     requires shares { CanShare pool.now pass }
     requires can { All (W.can work.now pass) tasks.old.items }
     requires beside { B.can beside.old pass with.old }
-    ensures worked { IfOk result.1 (λ _. WorkedBeside (W.does work.now)
-        (B.does beside.old beside.new with.old with.new pass.caller) pass result.0 tasks.old.items tasks.new.items) }
-    ensures refused { IfErr result.1 (λ refusal.
-        CrewWorked (W.does work.now) pass result.0 tasks.old.items tasks.new.items (Err refusal)) }
+    ensures works { WorksBeside (W.does work.now) (B.does beside.old beside.new with.old with.new pass.caller)
+        pass result.0 tasks.old.items tasks.new.items result.1 }
     ensures untouched { IfErr result.1 (λ _. (beside.new ≡ beside.old) × (with.new ≡ with.old)) }
     ensures outside { IsOutside pool.now result.0 }
 {
-    let Ok(mut left) = Vec::with_capacity(alloc, tasks.len()) else {
-        return (pass, Err(Refusal::Memory));
+    let mut crew = match call_all(rt, alloc, pool, &mut pass, tasks) {
+        Ok(crew) => crew,
+        Err(refusal) => return (pass, Err(refusal)),
     };
-    let Ok(mut crew) = Vec::with_capacity(alloc, tasks.len()) else {
-        left.destroy_empty();
-        return (pass, Err(Refusal::Memory));
-    };
-    turn(tasks, &mut left);
-    if let Err(refusal) = call_up(rt, pool, &mut pass, &mut left, &mut crew) {
-        gather_crew(pool, &mut pass, crew, tasks);
-        turn(&mut left, tasks);
-        left.destroy_empty();
-        pool.whole(&mut pass);
-        return (pass, Err(refusal));
-    }
-    left.destroy_empty();
     // Any pass is sound, which its calls alone tell.
     let _caller = pass.caller();
     let mut memory = Shared::new(pool, pass);

@@ -1,8 +1,8 @@
-ghost use Rattle.std.specs.Prelude.{◌≡◌, ◌+◌, ◌<◌, ◌≤◌, ◌++◌, ℕ, [], None, All, length, reverse, slice_index_or, vec_len, vec_capacity};
+ghost use Rattle.std.specs.Prelude.{◌≡◌, ◌+◌, ◌<◌, ◌≤◌, ◌++◌, ℕ, [], None, All, IfErr, IfOk, length, reverse, slice_index_or, vec_len, vec_capacity};
 ghost use Rattle.std.specs.List.{AllByRecursion};
 ghost use Rattle.fm_gate.specs.Needs.{IsOutside};
-ghost use Rattle.fm_workers_crew.specs.Crew.{CrewWorked};
-ghost use Rattle.fm_workers_crew.specs.Rounds.{AfterDraws, CalledUp, GatheredCrew, IsSpare, IsWorked, tasks_of};
+ghost use Rattle.fm_workers_crew.specs.Crew.{CrewRefused, CrewWorked};
+ghost use Rattle.fm_workers_crew.specs.Rounds.{AfterDraws, CalledAll, CalledUp, GatheredCrew, IsSpare, IsWorked, tasks_of};
 
 use crate::work::Work;
 use crate::worker::Worker;
@@ -109,6 +109,41 @@ pub(crate) fn gather_crew<T>(
     crew.destroy_empty();
 }
 
+/// A pass for each task, for the first task first, which takes its task along. All memory is taken before the first draw.
+/// After a refusal all are gathered again, and the tasks stand as before. Refused, in this order: `Memory`, `NoPass`.
+pub(crate) fn call_all<'a, R: Wait, T>(
+    rt: &R,
+    alloc: Global,
+    pool: &'a Pool,
+    pass: &mut Pass,
+    tasks: &mut Vec<T>,
+) -> Result<Vec<Worker<'a, T>>, Refusal>
+    requires { IsOutside pool.now pass.old }
+    ensures called { IfOk result (λ crew. CalledAll pass.old pass.new tasks.old.items crew.items) }
+    ensures refused { IfErr result (CrewRefused pass.old pass.new tasks.old.items tasks.new.items) }
+    ensures outside { IsOutside pool.now pass.new }
+    ensures none { IfOk result (λ _. tasks.new.items ≡ []) }
+    ensures room { IfOk result (λ crew. vec_len tasks.new + vec_len crew ≤ vec_capacity tasks.new) }
+{
+    let Ok(mut left) = Vec::with_capacity(alloc, tasks.len()) else {
+        return Err(Refusal::Memory);
+    };
+    let Ok(mut crew) = Vec::with_capacity(alloc, tasks.len()) else {
+        left.destroy_empty();
+        return Err(Refusal::Memory);
+    };
+    turn(tasks, &mut left);
+    if let Err(refusal) = call_up(rt, pool, pass, &mut left, &mut crew) {
+        gather_crew(pool, pass, crew, tasks);
+        turn(&mut left, tasks);
+        left.destroy_empty();
+        pool.whole(pass);
+        return Err(refusal);
+    }
+    left.destroy_empty();
+    Ok(crew)
+}
+
 /// The work of one, between the gate's calls. Workers are numbered in the order of their tasks.
 fn work_one<R: Wait, T, W: Work<T>, G: Gate>(
     rt: &R,
@@ -156,9 +191,9 @@ pub(crate) fn work_all<R: Threads + Wait + Sync, T: Send, W: Work<T>, G: Gate>(
     );
 }
 
-/// Draws a pass for each task, for the first task first, lets all of them work side by side, each at its task between the gate's calls, and gathers
-/// them all again, after a refusal too. All memory is taken before the first draw. Workers are numbered from 1, in the
-/// order of their tasks; each has one call.
+/// Draws a pass for each task, for the first task first, lets all of them work side by side, each at its task between the
+/// gate's calls, and gathers them all again, after a refusal too. All memory is taken before the first draw. Workers are
+/// numbered from 1, in the order of their tasks; each has one call.
 ///
 /// Refused, in this order: `Memory`, `NoPass`. Then no task was begun. Where no thread can be started, a worker's work is
 /// done by the caller's own.
@@ -176,22 +211,10 @@ pub fn work_crew<R: Threads + Wait + Sync, T: Send, W: Work<T>, G: Gate>(
     ensures worked { CrewWorked (W.does work.now) pass.old pass.new tasks.old.items tasks.new.items result }
     ensures outside { IsOutside pool.now pass.new }
 {
-    let Ok(mut left) = Vec::with_capacity(alloc, tasks.len()) else {
-        return Err(Refusal::Memory);
+    let mut crew = match call_all(rt, alloc, pool, pass, tasks) {
+        Ok(crew) => crew,
+        Err(refusal) => return Err(refusal),
     };
-    let Ok(mut crew) = Vec::with_capacity(alloc, tasks.len()) else {
-        left.destroy_empty();
-        return Err(Refusal::Memory);
-    };
-    turn(tasks, &mut left);
-    if let Err(refusal) = call_up(rt, pool, pass, &mut left, &mut crew) {
-        gather_crew(pool, pass, crew, tasks);
-        turn(&mut left, tasks);
-        left.destroy_empty();
-        pool.whole(pass);
-        return Err(refusal);
-    }
-    left.destroy_empty();
     work_all(rt, alloc, gate, work, crew.as_mut_slice());
     gather_crew(pool, pass, crew, tasks);
     pool.whole(pass);

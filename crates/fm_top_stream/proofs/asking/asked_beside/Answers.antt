@@ -1,10 +1,9 @@
-use Rattle.std.proofs.Common.{◌≡◌, ◌∙◌, List, Result, Err, subst}
-use Rattle.std.specs.Prelude.{IfErr, IfOk}
+use Rattle.std.proofs.Common.{◌≡◌, ◌∙◌, List, Result, subst}
+use Rattle.std.specs.Prelude.{IfErr}
 use Rattle.fm_base.specs.declared.refusal.Refusal.{Refusal}
 use Rattle.fm_io.specs.View.{FilesView}
 use Rattle.fm_records.specs.declared.found.Found.{Found}
-use Rattle.fm_workers.specs.Beside.{AskedBeside}
-use Rattle.fm_workers.specs.Query.{QueriedWith}
+use Rattle.fm_workers.specs.Beside.{AskedBeside, AsksBeside}
 use Rattle.fm_top_stream.specs.declared.putting.Putting.{Putting}
 use Rattle.fm_top_stream.specs.Ahead.{PutsAhead}
 use Rattle.fm_top_stream.proofs.Beside.{asks_ahead, follows_ahead, was_let_in}
@@ -16,9 +15,8 @@ returns-in-Ok-clause-asks g c =
     let view = g.F.Files.view in
     let crew = c.args.crew.now in
     let i = c.loop.invariant in
-    let asked = subst (λ (r : Result (Result (List Found) Refusal) Refusal). IfOk r (AskedBeside (PutsAhead (view c.loop.files) (view c.query_beside-back.new.with)
-    c.loop.putting c.query_beside-back.new.beside c.loop.pass.caller) crew.threads c.loop.pass c.query_beside-back.result.0 crew.q.now c.args.s.now)) c.in-Ok.is
-    c.query_beside-back.ensures.asked in
+    let asked = subst (AsksBeside (PutsAhead (view c.loop.files) (view c.query_beside-back.new.with) c.loop.putting c.query_beside-back.new.beside c.loop.pass.caller)
+    crew.threads c.loop.pass c.query_beside-back.result.0 crew.q.now c.args.s.now) c.in-Ok.is c.query_beside-back.ensures.asks in
     asks_ahead (subst (λ (y : FilesView × Putting). AskedBeside (PutsAhead y.0 (view c.query_beside-back.new.with) y.1 c.query_beside-back.new.beside c.loop.pass.caller)
     crew.threads c.loop.pass c.query_beside-back.result.0 crew.q.now c.args.s.now c.in-Ok.answer) (λ j. (view (i.files j), i.putting j)) asked)
     i.awaits c.requires.other c.requires.room c.query_beside-back.ensures.outside c.both.result c.both.ensures.both
@@ -28,9 +26,8 @@ returns-in-Ok-clause-reads g c =
     let view = g.F.Files.view in
     let crew = c.args.crew.now in
     let i = c.loop.invariant in
-    let asked = subst (λ (r : Result (Result (List Found) Refusal) Refusal). IfOk r (AskedBeside (PutsAhead (view c.loop.files) (view c.query_beside-back.new.with)
-    c.loop.putting c.query_beside-back.new.beside c.loop.pass.caller) crew.threads c.loop.pass c.query_beside-back.result.0 crew.q.now c.args.s.now)) c.in-Ok.is
-    c.query_beside-back.ensures.asked in
+    let asked = subst (AsksBeside (PutsAhead (view c.loop.files) (view c.query_beside-back.new.with) c.loop.putting c.query_beside-back.new.beside c.loop.pass.caller)
+    crew.threads c.loop.pass c.query_beside-back.result.0 crew.q.now c.args.s.now) c.in-Ok.is c.query_beside-back.ensures.asks in
     follows_ahead (subst (λ (y : FilesView × Putting). AskedBeside (PutsAhead y.0 (view c.query_beside-back.new.with) y.1 c.query_beside-back.new.beside c.loop.pass.caller)
     crew.threads c.loop.pass c.query_beside-back.result.0 crew.q.now c.args.s.now c.in-Ok.answer) (λ j. (view (i.files j), i.putting j)) asked)
     c.both.result c.both.ensures.both
@@ -40,18 +37,18 @@ both-requires g c =
     let view = g.F.Files.view in
     let crew = c.args.crew.now in
     let i = c.loop.invariant in
-    let asked = subst (λ (r : Result (Result (List Found) Refusal) Refusal). IfOk r (AskedBeside (PutsAhead (view c.loop.files) (view c.query_beside-back.new.with)
-    c.loop.putting c.query_beside-back.new.beside c.loop.pass.caller) crew.threads c.loop.pass c.query_beside-back.result.0 crew.q.now c.args.s.now)) c.in-Ok.is
-    c.query_beside-back.ensures.asked in
+    let asked = subst (AsksBeside (PutsAhead (view c.loop.files) (view c.query_beside-back.new.with) c.loop.putting c.query_beside-back.new.beside c.loop.pass.caller)
+    crew.threads c.loop.pass c.query_beside-back.result.0 crew.q.now c.args.s.now) c.in-Ok.is c.query_beside-back.ensures.asks in
     was_let_in (subst (λ (y : FilesView × Putting). AskedBeside (PutsAhead y.0 (view c.query_beside-back.new.with) y.1 c.query_beside-back.new.beside c.loop.pass.caller)
     crew.threads c.loop.pass c.query_beside-back.result.0 crew.q.now c.args.s.now c.in-Ok.answer) (λ j. (view (i.files j), i.putting j)) asked) i.awaits
 
 pub loop-preserved : goal.loop-preserved
 loop-preserved g c =
+    let view = g.F.Files.view in
     let crew = c.args.crew.now in
     let i = c.loop.invariant in
-    let queried = subst (λ (r : Result (Result (List Found) Refusal) Refusal). IfErr r (λ refusal. QueriedWith crew.threads c.loop.pass c.query_beside-back.result.0 crew.q.now
-    c.args.s.now (Err refusal))) c.in-Err-NoPass.is c.query_beside-back.ensures.unasked in
+    let queried = subst (AsksBeside (PutsAhead (view c.loop.files) (view c.query_beside-back.new.with) c.loop.putting c.query_beside-back.new.beside c.loop.pass.caller)
+    crew.threads c.loop.pass c.query_beside-back.result.0 crew.q.now c.args.s.now) c.in-Err-NoPass.is c.query_beside-back.ensures.asks in
     let same = subst (λ (r : Result (Result (List Found) Refusal) Refusal). IfErr r (λ refusal. (c.query_beside-back.new.beside ≡ c.loop.putting)
     × (c.query_beside-back.new.with ≡ c.loop.files))) c.in-Err-NoPass.is c.query_beside-back.ensures.untouched in
     record {

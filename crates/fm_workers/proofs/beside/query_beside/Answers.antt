@@ -1,10 +1,8 @@
-use Rattle.std.proofs.Common.{◌≡◌, ◌/◌, ap, arith, subst, sym, ◌∙◌, inr, Err}
-use Rattle.std.specs.Prelude.{IfErr, IfOk}
+use Rattle.std.proofs.Common.{◌≡◌, ◌/◌, ap, arith, subst, sym, ◌∙◌, inr}
 use Rattle.fm_base.specs.declared.refusal.Refusal.TheVariants.{Memory}
 use Rattle.fm_workers_shares.specs.Batches.{IsBegun}
 use Rattle.fm_workers_shares.specs.Shares.{each_of, many_of}
-use Rattle.fm_workers.specs.Beside.{AskedBeside}
-use Rattle.fm_workers.specs.Query.{QueriedWith}
+use Rattle.fm_workers.specs.Beside.{AsksBeside}
 use Rattle.fm_workers.specs.Taking.{CanTakeBatch}
 use Rattle.fm_workers.proofs.Queried.{queried_none}
 use Rattle.fm_workers.proofs.beside.query_beside.Goals as goal
@@ -25,16 +23,11 @@ take_batch_beside-requires-clause-can g c κs within =
       begun = subst (λ n. IsBegun n c.args.threads c.in-Ok.batch) many c.in-Ok.ensures;
     })
 
-pub returns-in-Err-clause-unasked : goal.returns-in-Err-clause-unasked
-returns-in-Err-clause-unasked g c =
+pub returns-in-Err-clause-asks : goal.returns-in-Err-clause-asks
+returns-in-Err-clause-asks g c =
     queried_none c.args.pass c.args.q.now c.args.s.now c.args.threads Memory tt c.requires.can.query.known (c.requires.can.open_to_all, inr tt)
 
-pub returns-in-Ok-clause-asked : goal.returns-in-Ok-clause-asked
-returns-in-Ok-clause-asked g c =
-    subst (λ n. IfOk c.take_batch_beside.result.1 (AskedBeside (g.B.Beside.does c.args.beside.now c.take_batch_beside.new.beside c.args.with.now c.take_batch_beside.new.with c.args.pass.caller) n c.args.pass
-    c.take_batch_beside.result.0 c.args.q.now c.args.s.now)) c.in-Ok.ensures.count c.take_batch_beside.ensures.asked
-
-pub returns-in-Ok-clause-unasked : goal.returns-in-Ok-clause-unasked
-returns-in-Ok-clause-unasked g c =
-    subst (λ n. IfErr c.take_batch_beside.result.1 (λ refusal. QueriedWith n c.args.pass c.take_batch_beside.result.0 c.args.q.now c.args.s.now (Err refusal)))
-    c.in-Ok.ensures.count c.take_batch_beside.ensures.unasked
+pub returns-in-Ok-clause-asks : goal.returns-in-Ok-clause-asks
+returns-in-Ok-clause-asks g c =
+    subst (λ n. AsksBeside (g.B.Beside.does c.args.beside.now c.take_batch_beside.new.beside c.args.with.now c.take_batch_beside.new.with c.args.pass.caller) n c.args.pass
+    c.take_batch_beside.result.0 c.args.q.now c.args.s.now c.take_batch_beside.result.1) c.in-Ok.ensures.count c.take_batch_beside.ensures.asks

@@ -1,6 +1,6 @@
-use Rattle.std.proofs.Common.{◌≡◌, ◌++◌, List, length, reverse, take, drop, sym, ap, ◌∙◌, subst, None}
+use Rattle.std.proofs.Common.{◌≡◌, ◌++◌, List, length, take, drop, sym, ap, ◌∙◌, subst, None}
 use Rattle.std.specs.List.{AllByRecursion}
-use Rattle.std.proofs.lemmas.List.{append-nil, take_at}
+use Rattle.std.proofs.lemmas.List.{take_at}
 use Rattle.std.proofs.lemmas.List.Elements.{All-same, All-from_recursion, recursion_from_All}
 use Rattle.fm_rule_calls.specs.Kept.{Lasts}
 use Rattle.fm_rule_calls.proofs.Going.{lasts_by, reached_by}
@@ -8,35 +8,18 @@ use Rattle.fm_rule_facts.specs.Views.{View}
 use Rattle.fm_workers_crew.specs.declared.worker.Worker.{Worker}
 use Rattle.fm_workers_crew.specs.Rounds.{IsSpare, GatheredCrew, tasks_of}
 use Rattle.fm_workers_crew.proofs.Besides.{acted_as, outside_acted, worked_beside}
-use Rattle.fm_workers_crew.proofs.Turning.{moved_back}
+use Rattle.fm_workers_crew.proofs.Turning.{tasks_called}
 use Rattle.fm_workers_crew.proofs.Workers.{ready_all, spare_all, spare_after}
-use Rattle.fm_workers_crew.proofs.Working.{crew_none, crew_refused, zip_worked}
+use Rattle.fm_workers_crew.proofs.Working.{refused_by, zip_worked}
 use Rattle.fm_workers_crew.proofs.beside.work_crew_beside.Goals as goal
 
-pub returns-in_default-clause-refused : goal.returns-in_default-clause-refused
-returns-in_default-clause-refused g c = crew_none (g.W.Work.does c.args.work.now) c.args.pass c.args.tasks.now.items
-
-pub returns-in_default-with_capacity-clause-refused : goal.returns-in_default-with_capacity-clause-refused
-returns-in_default-with_capacity-clause-refused g c = crew_none (g.W.Work.does c.args.work.now) c.args.pass c.args.tasks.now.items
-
-pub gather_crew-requires-clause-spare : goal.gather_crew-requires-clause-spare
-gather_crew-requires-clause-spare g c =
-    spare_all c.args.pool.now c.args.pass c.call_up.new.crew.items c.requires.shares.outside.of c.call_up.ensures.called.workers
-
-pub returns-in-Err-clause-refused : goal.returns-in-Err-clause-refused
-returns-in-Err-clause-refused g c =
-    let T = g.row.T.Denot in
-    let us : List (Worker T) = c.call_up.new.crew.items in
-    let left : List T = c.call_up.new.tasks.items in
-    let turned = c.turn.ensures.moved ∙ ap (λ (ts : List T). ts ++ reverse c.args.tasks.now.items) c.in-Ok.ensures.items in
-    let gathered = c.gather_crew.ensures.tasks ∙ ap (λ (ts : List T). ts ++ tasks_of us) c.turn.ensures.none in
-    crew_refused (g.W.Work.does c.args.work.now) c.call_up.new.crew.items c.in-Err.refusal c.requires.shares.outside.no_number c.in-Err.ensures.called
-    c.gather_crew.ensures.gathered c.whole.ensures turned (c.turn-in-Err.ensures.moved ∙ ap (λ (ts : List T). ts ++ reverse left) gathered)
+pub returns-in-Err-clause-works : goal.returns-in-Err-clause-works
+returns-in-Err-clause-works g c = refused_by c.in-Err.refusal c.in-Err.ensures.refused
 
 pub new-memory-requires : goal.new-memory-requires
 new-memory-requires g c = record {
-  outside = c.in_default-call_up.ensures.outside;
-  no_page = ap (λ (v : View). v.pages) c.in_default-call_up.ensures.called.went.is ∙ c.requires.shares.no_page;
+  outside = c.call_all.ensures.outside;
+  no_page = ap (λ (v : View). v.pages) c.in-Ok.ensures.called.went.is ∙ c.requires.shares.no_page;
 }
 
 pub work_beside-requires-clause-ready : goal.work_beside-requires-clause-ready
@@ -47,57 +30,54 @@ work_beside-requires-clause-ready g c κs within =
     let p = c.args.pass in
     let can : View → T → Type 0 = g.W.Work.can c.args.work.now in
     let ready : W → Type 0 = λ w. (w.memory.inside ≡ None) × g.W.Work.can c.args.work.now w.memory w.task in
-    let ws : List W = c.call_up.new.crew.items in
-    let a = c.in_default-call_up.ensures.called in
-    let turned = c.turn.ensures.moved ∙ ap (λ (ts : List T). ts ++ reverse c.args.tasks.now.items) c.in-Ok.ensures.items in
-    let first : c.args.tasks.now.items ≡ tasks_of ws =
-    moved_back c.args.tasks.now.items c.call_up.new.tasks.items ws turned a.parts
-    ∙ (ap (λ (ts : List T). tasks_of ws ++ reverse ts) a.ends ∙ append-nil (tasks_of ws)) in
-    let all = recursion_from_All (can p) (tasks_of ws) (All-same (can p) (tasks_of ws) c.args.tasks.now.items (sym first) c.requires.can) in
+    let ws : List W = c.in-Ok.crew.items in
+    let a = c.in-Ok.ensures.called in
+    let all = recursion_from_All (can p) (tasks_of ws) (All-same (can p) (tasks_of ws) c.args.tasks.now.items (sym (tasks_called a)) c.requires.can) in
     All-same ready c.as_mut_slice.result.now ws c.as_mut_slice.ensures.value
     (All-from_recursion ready ws (ready_all (g.W.Work.can c.args.work.now) (laws.stays c.args.work.now) p ws a.workers all))
 
 pub work_beside-requires-clause-can : goal.work_beside-requires-clause-can
 work_beside-requires-clause-can g c κs within =
     let laws = g.met.B.Beside in
-    let m = c.in_default-call_up.ensures.called.went in
-    let drew = c.call_up.new.pass in
+    let m = c.in-Ok.ensures.called.went in
+    let drew = c.call_all.new.pass in
     let lasts : Lasts c.args.pass drew = lasts_by (reached_by {p = c.args.pass} {q = drew} m.more m.seen (ap (λ (v : View). v.shape) m.is) c.caller-caller.ensures.sound) in
     subst (λ (v : View). g.B.Beside.can c.args.beside.now v c.args.with.now) (sym c.new-memory.ensures)
     (laws.stays c.args.beside.now c.args.pass drew c.args.with.now lasts c.requires.beside)
 
-pub gather_crew-requires-2-clause-outside : goal.gather_crew-requires-2-clause-outside
-gather_crew-requires-2-clause-outside g c =
-    outside_acted c.new-memory.ensures c.in_default-call_up.ensures.outside.of c.work_beside.ensures.did c.into_pass-pass.ensures
+pub gather_crew-requires-clause-outside : goal.gather_crew-requires-clause-outside
+gather_crew-requires-clause-outside g c =
+    outside_acted c.new-memory.ensures c.call_all.ensures.outside.of c.work_beside.ensures.did c.into_pass-pass.ensures
 
-pub gather_crew-requires-2-clause-spare : goal.gather_crew-requires-2-clause-spare
-gather_crew-requires-2-clause-spare g c =
+pub gather_crew-requires-clause-spare : goal.gather_crew-requires-clause-spare
+gather_crew-requires-clause-spare g c =
     let W = Worker g.row.T.Denot in
     let does = g.W.Work.does c.args.work.now in
-    let ws : List W = c.call_up.new.crew.items in
+    let ws : List W = c.in-Ok.crew.items in
     let vs : List W = c.work_beside.new.crew in
-    let a = c.in_default-call_up.ensures.called in
-    let back : take c.call_up.new.crew.len (vs ++ drop (length vs) ws) ≡ vs =
-    take_at vs (drop (length vs) ws) c.call_up.new.crew.len (c.work_beside.ensures.len ∙ c.as_mut_slice.ensures.len) in
+    let back : take c.in-Ok.crew.len (vs ++ drop (length vs) ws) ≡ vs =
+    take_at vs (drop (length vs) ws) c.in-Ok.crew.len (c.work_beside.ensures.len ∙ c.as_mut_slice.ensures.len) in
     let z = zip_worked does ws c.as_mut_slice.result.now vs c.as_mut_slice.ensures.value c.work_beside.ensures.len c.work_beside.ensures.worked in
     subst (λ (us : List W). AllByRecursion (λ (w : W). IsSpare c.args.pool.now w.memory) us) (sym back)
-    (spare_after does c.args.pool.now ws vs (spare_all c.args.pool.now c.args.pass ws c.requires.shares.outside.of a.workers) z)
+    (spare_after does c.args.pool.now ws vs (spare_all c.args.pool.now c.args.pass ws c.requires.shares.outside.of c.in-Ok.ensures.called.workers) z)
 
-pub returns-clause-worked : goal.returns-clause-worked
-returns-clause-worked g c =
+pub returns-clause-works : goal.returns-clause-works
+returns-clause-works g c =
     let T = g.row.T.Denot in
     let W = Worker T in
     let does = g.W.Work.does c.args.work.now in
-    let ws : List W = c.call_up.new.crew.items in
+    let ws : List W = c.in-Ok.crew.items in
     let vs : List W = c.work_beside.new.crew in
-    let a = c.in_default-call_up.ensures.called in
-    let back : take c.call_up.new.crew.len (vs ++ drop (length vs) ws) ≡ vs =
-    take_at vs (drop (length vs) ws) c.call_up.new.crew.len (c.work_beside.ensures.len ∙ c.as_mut_slice.ensures.len) in
+    let a = c.in-Ok.ensures.called in
+    let back : take c.in-Ok.crew.len (vs ++ drop (length vs) ws) ≡ vs =
+    take_at vs (drop (length vs) ws) c.in-Ok.crew.len (c.work_beside.ensures.len ∙ c.as_mut_slice.ensures.len) in
     let z = zip_worked does ws c.as_mut_slice.result.now vs c.as_mut_slice.ensures.value c.work_beside.ensures.len c.work_beside.ensures.worked in
-    worked_beside does ws vs c.requires.shares.outside.no_number a z (acted_as (g.B.Beside.does c.args.beside.now c.work_beside.new.beside c.args.with.now c.work_beside.new.with) c.work_beside.new.memory c.new-memory.ensures a.went c.work_beside.ensures.did)
-    (subst (λ (us : List W). GatheredCrew c.work_beside.new.memory c.gather_crew-2.new.pass us) back
-    (subst (λ (v : View). GatheredCrew v c.gather_crew-2.new.pass (take c.call_up.new.crew.len (vs ++ drop (length vs) ws))) c.into_pass-pass.ensures.same
-    c.gather_crew-2.ensures.gathered))
-    c.whole-2.ensures (c.turn.ensures.moved ∙ ap (λ (ts : List T). ts ++ reverse c.args.tasks.now.items) c.in-Ok.ensures.items)
-    (c.gather_crew-2.ensures.tasks ∙ (ap (λ (ts : List T). ts ++ tasks_of (take c.call_up.new.crew.len (vs ++ drop (length vs) ws))) c.turn.ensures.none
+    let acted = acted_as (g.B.Beside.does c.args.beside.now c.work_beside.new.beside c.args.with.now c.work_beside.new.with) c.work_beside.new.memory
+    c.new-memory.ensures a.went c.work_beside.ensures.did in
+    worked_beside does ws vs c.requires.shares.outside.no_number a z acted
+    (subst (λ (us : List W). GatheredCrew c.work_beside.new.memory c.gather_crew.new.pass us) back
+    (subst (λ (v : View). GatheredCrew v c.gather_crew.new.pass (take c.in-Ok.crew.len (vs ++ drop (length vs) ws))) c.into_pass-pass.ensures.same
+    c.gather_crew.ensures.gathered))
+    c.whole.ensures
+    (c.gather_crew.ensures.tasks ∙ (ap (λ (ts : List T). ts ++ tasks_of (take c.in-Ok.crew.len (vs ++ drop (length vs) ws))) c.in-Ok.ensures.none
     ∙ ap (λ (us : List W). tasks_of us) back))
