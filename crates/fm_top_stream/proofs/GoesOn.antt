@@ -31,7 +31,6 @@ use Rattle.fm_records.proofs.AnsweringBytes.{places_have}
 use Rattle.fm_records.proofs.Few.{few_join}
 use Rattle.fm_records.proofs.Joining.{answer-append}
 use Rattle.fm_words.specs.declared.shape.Shape.{Shape}
-use Rattle.fm_top_load.specs.declared.chunk.Chunk.{Chunk}
 use Rattle.fm_top_load.specs.declared.chunk.Part.{Part}
 use Rattle.fm_top_load.specs.Held.{IsHeld, OnlyIn, names_in}
 use Rattle.fm_top_load.specs.Reading.{piece_limit}
@@ -42,13 +41,12 @@ use Rattle.fm_top_pooled.specs.Stocked.{IsAlone, IsStockedOf, bytes_in_pool}
 use Rattle.fm_top_pooled.proofs.Filling.{held_room}
 use Rattle.fm_top_pooled.proofs.Shows.{pooled_is, read_in}
 use Rattle.fm_top_stream.specs.Chunks.{all_bytes}
-use Rattle.fm_top_stream.specs.Gone.{CanAsk, CanBegin, CanTakeChunk, GoesByChunk, GoesThrough, GoneSoFar, GoneThrough, HasGone, HasNext}
+use Rattle.fm_top_stream.specs.Gone.{CanAsk, CanTakeChunk, GoesByChunk, GoesThrough, GoneSoFar, GoneThrough, HasGone, HasNext}
 use Rattle.fm_top_stream.specs.declared.under_way.UnderWay.{UnderWay}
 use Rattle.fm_top_stream.specs.declared.gone.Gone.{Gone}
 use Rattle.fm_top_stream.specs.declared.placed.Placed.{Placed}
 use Rattle.fm_top_stream.specs.Shown.{ShowsChunk}
-use Rattle.fm_top_stream.specs.Steps.{AnswersOn, CanClose, Closes, Fills, Gives, GoesOn, Opens, StandsIn, arenas_of}
-use Rattle.fm_top_stream.proofs.Going.{goes_then}
+use Rattle.fm_top_stream.specs.Steps.{AnswersOn, CanClose, Closes, GoesOn, StandsIn, arenas_of}
 use Rattle.fm_top_stream.proofs.Runs.{all_more, count_more, cut_more, cut_whole, even_all, even_sum, first_more, is_ragged, whole_file, whole_more}
 use Rattle.fm_top_stream.proofs.Standing.{all_shown, all_zip_more, named_known}
 
@@ -372,7 +370,7 @@ ends_within has asks =
     omega (arith, count, short)
 
 -- The chunk leaves a rest, so it is the file's last.
-pub through_ragged : {limit most at : ℕ} {told : Option Contents} {name : List ℕ} {p : Plan} {pool : Pool} {g : UnderWay} {x : Placed} {threads : ℕ}
+pub through_ragged : {limit most at threads : ℕ} {told : Option Contents} {name : List ℕ} {p : Plan} {pool : Pool} {g : UnderWay} {x : Placed}
     (has : HasNext limit most told name at p pool g x) → CanAsk most threads p pool → (r : Gone) → r.rest ≡ x.chunk.count % p.size → ¬ (r.rest ≡ 0)
     → GoesThrough limit told name most p pool r
 through_ragged {p = p} {g = g} {x = x} has asks r is other =
@@ -381,32 +379,4 @@ through_ragged {p = p} {g = g} {x = x} has asks r is other =
       whole = λ none. absurd (other none);
       ragged = λ any. is_ragged (chunk_bytes has.gone.gone.alone asks.room has.stands) has.stands.cut (all_bytes has.gone.runs) has.gone.count has.gone.first p r.rest
           (even_so_far has.gone asks.sized asks.even) asks.even (is ∙ ap (λ n. n % p.size) (sym count)) any;
-    }
-
--- ---- the first chunk
-
-pub begins : {part : Part} {told : Option Contents} {threads : ℕ} {p : Plan} {pool : Pool} {g h : UnderWay} {first : Chunk} {u w q : View} {a : ArenaId} {chunk : Chunk}
-    → CanBegin part told threads p pool g first → Opens pool g.pass u a → Gives pool u w a part.most → Fills part told pool w q a chunk
-    → h.pass ≡ q → h.answer ≡ g.answer → length h.buffer.items ≡ piece_limit
-    → HasNext part.limit part.most told part.name.now part.at p pool h (record { arena = a; chunk = chunk })
-begins {part} {told} {p = p} {pool = pool} {g = g} {h = h} {u = u} {w = w} {q = q} {a = a} {chunk = chunk} can opens gives fills here same buffer =
-    let given = fills.given ∙ gives.held.given_is in
-    let other : (b : ArenaId) → IsKnown g.pass b → b ≢ a = λ b k e. opens.opened.unknown (subst (λ (i : ArenaId). IsKnown g.pass i) e k) in
-    let still : (b : ArenaId) → IsKnown g.pass b → arena_of (state_in q) b ≡ arena_of (state_in g.pass) b =
-    λ b k. fills.elsewhere.others b (other b k) ∙ gives.elsewhere.others b (other b k) ∙ opens.opened.keeps.same b k in
-    let gone : HasGone pool q p (a ∷ []) can.gone.runs g.answer =
-    gone_behind (a ∷ []) can.gone.gone (goes_then opens.goes (goes_then gives.goes fills.goes)) (λ b k. ap (λ o. o.life) (still b k)) (λ b k. ap (λ o. o.words) (still b k))
-    (fills.elsewhere.names ∙ gives.elsewhere.names ∙ opens.opened.names) (opens.opened.unknown, tt) in
-    record {
-      buffer = buffer;
-      gone = subst (GoneSoFar told part.name.now part.most part.at pool h.pass p (a ∷ [])) (sym same)
-          (gone_later can.gone (subst (λ (v : View). HasGone pool v p (a ∷ []) can.gone.runs g.answer) (sym here) gone));
-      stands = subst (λ (v : View). StandsIn part.limit part.most told part.name.now part.at v (record { arena = a; chunk = chunk })) (sym here) (record {
-        held = fills.held;
-        given = omega (arith, given);
-        shared = opens.opened.shared;
-        cut = fills.has.cut;
-        some = fills.has.some;
-        within = fills.has.within;
-      });
     }

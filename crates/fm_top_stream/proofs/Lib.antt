@@ -12,5 +12,6 @@ pub mod Standing
 pub mod Runs
 pub mod GoesOn
 pub mod Asks
+pub mod Beginning
 pub mod Beside
 pub mod Ends

@@ -10,6 +10,7 @@ use Rattle.fm_records_query.specs.Plan.{Plan}
 use Rattle.fm_records.specs.declared.found.Found.{Found}
 use Rattle.fm_records.specs.Answers.{answer}
 use Rattle.fm_records.specs.Few.{AreFew}
+use Rattle.fm_records.specs.Joined.{joined}
 use Rattle.fm_top_load.specs.Held.{names_in}
 use Rattle.fm_top_load.specs.declared.chunk.Chunk.{Chunk}
 use Rattle.fm_top_load.specs.declared.chunk.Part.{Part}
@@ -119,6 +120,12 @@ pub record CanTakeChunk (part : Part) (told : Option Contents) (threads : ℕ) (
   pub even : x.chunk.count % p.size ≡ 0
   pub has : HasNext part.limit part.most told part.name.now from p pool g x
 
+-- the answer was joined to those before
+pub record HasJoined (v : View) (was found : List Found) (bytes : List ℕ) (g : UnderWay) : Type 0 where
+  pub pass : g.pass ≡ v
+  pub answer : g.answer ≡ joined was found
+  pub buffer : g.buffer.items ≡ bytes
+
 -- this chunk has gone through: the next one stands, or the file was gone through
 pub record GoesByChunk (part : Part) (told : Option Contents) (p : Plan) (pool : Pool) (g : UnderWay) (next : Option Placed) : Type 0 where
   pub on : IfSome next (HasNext part.limit part.most told part.name.now part.at p pool g)
@@ -126,5 +133,5 @@ pub record GoesByChunk (part : Part) (told : Option Contents) (p : Plan) (pool :
 
 -- the whole file, which may have so many bytes, was gone through, or its end is no whole record
 pub record GoesThrough (limit : ℕ) (told : Option Contents) (name : List ℕ) (most : ℕ) (p : Plan) (pool : Pool) (g : Gone) : Type 0 where
-  pub whole : g.rest ≡ 0 → GoneThrough limit told name most pool g.pass p g.answer
+  pub whole : g.rest ≡ 0 → GoneThrough limit told name most pool g.going.pass p g.going.answer
   pub ragged : 0 < g.rest → IsRagged limit told name p g.rest

@@ -35,7 +35,8 @@ pub(crate) fn next_piece<F: Files>(
         (IsNextPiece part.now.limit part.now.most (F.view files.old).holds part.now.name.now part.now.at buffer.new) }
     ensures none { ended ≡ true → IfOk result (λ piece. piece.count ≡ 0) }
     ensures reads { ReadsFurther (F.view files.old).reads (F.view files.new).reads part.now.name.now part.now.limit
-        (GoesBy ended part.now.at) (λ next. IfOk result (λ piece. GoesBy piece.ended (part.now.at + piece.count) next)) }
+        (GoesBy ended part.now.at)
+        (λ next. IfOk result (λ piece. GoesBy piece.ended (part.now.at + piece.count) next)) }
     ensures tells { TellsLoad ⊥ part.now.limit (F.view files.old) (F.view files.new) part.now.name.now
         (result_err result) }
 {
@@ -66,7 +67,8 @@ pub(crate) fn answered<R: Threads + Wait + Sync, F: Files, G: Gate>(
     ensures answers { IfOk result
         (AnswersAhead part.now (F.view files.old).holds crew.now.q.now crew.now.pool.now pass s.now first) }
     ensures reads { ReadsFurther (F.view files.old).reads (F.view files.new).reads part.now.name.now part.now.limit
-        (GoesBy first.ended (part.now.at + first.count)) (λ next. IfOk result (λ r. IsFollowed part.now.at r.next next)) }
+        (GoesBy first.ended (part.now.at + first.count))
+        (λ next. IfOk result (λ r. IsFollowed part.now.at r.next next)) }
     ensures tells { TellsLoad ⊥ part.now.limit (F.view files.old) (F.view files.new) part.now.name.now
         (result_err result) }
 {

@@ -68,8 +68,10 @@ pub(crate) fn asked_beside<R: Threads + Wait + Sync, F: Files, G: Gate>(
     s: &Segment,
     mut putting: Putting<'_>,
 ) -> Result<Ahead, LoadFault>
-    requires { CanAskBeside (F.view files.old).holds crew.now.threads crew.now.q.now crew.now.pool.now pass s.now putting }
-    ensures asks { IfOk result (AsksAhead (F.view files.old).holds crew.now.pool.now crew.now.q.now pass s.now putting.entry) }
+    requires { CanAskBeside (F.view files.old).holds crew.now.threads crew.now.q.now crew.now.pool.now
+        pass s.now putting }
+    ensures asks { IfOk result
+        (AsksAhead (F.view files.old).holds crew.now.pool.now crew.now.q.now pass s.now putting.entry) }
     ensures reads { ReadsFurther (F.view files.old).reads (F.view files.new).reads putting.entry.part.name.now
         putting.entry.part.limit (GoesBy putting.entry.first.ended (putting.entry.part.at + putting.entry.first.count))
         (λ next. IfOk result (λ r. IsFollowed putting.entry.part.at r.next next)) }

@@ -1,12 +1,10 @@
-use fm_records::Answer;
-use fm_rule::Pass;
+use crate::under_way::UnderWay;
 
 /// What comes of going through a file.
 #[derive(Drop)]
 pub(crate) struct Gone {
-    pub(crate) pass: Pass,
-    /// The answer over all whole chunks.
-    pub(crate) answer: Answer,
+    /// All whole chunks have gone through.
+    pub(crate) going: UnderWay,
     /// So many bytes stand behind the file's last whole record.
     pub(crate) rest: u64,
 }

@@ -1,9 +1,10 @@
-ghost use Rattle.std.specs.Prelude.{◌+◌, IfOk};
+ghost use Rattle.std.specs.Prelude.{◌≡◌, ◌+◌, IfErr, IfOk};
 ghost use Rattle.std.specs.Result.{result_err};
+ghost use Rattle.fm_records.specs.Joined.{CanJoin};
 ghost use Rattle.fm_top_load.specs.Reading.{GoesBy, ReadsFurther};
 ghost use Rattle.fm_top_load.specs.Whole.{TellsLoad};
 ghost use Rattle.fm_top_stream.specs.Ahead.{IsFollowed};
-ghost use Rattle.fm_top_stream.specs.Gone.{CanTakeChunk, GoesByChunk};
+ghost use Rattle.fm_top_stream.specs.Gone.{CanTakeChunk, GoesByChunk, HasJoined};
 
 use crate::ahead::Ahead;
 use crate::answering::{answered, next_piece};
@@ -12,6 +13,8 @@ use crate::crew::Crew;
 use crate::placed::Placed;
 use crate::under_way::UnderWay;
 use fm_io::{Files, Gate};
+use fm_records::Answer;
+use fm_rule::Pass;
 use fm_segment::Segment;
 use fm_top_load::{LoadFault, Part};
 use std::alloc::Global;
@@ -29,7 +32,8 @@ pub(crate) fn round<R: Threads + Wait + Sync, F: Files, G: Gate>(
     going: UnderWay,
     standing: Placed,
 ) -> Result<(UnderWay, Option<Placed>), LoadFault>
-    requires { CanTakeChunk part.now (F.view files.old).holds crew.now.threads crew.now.q.now crew.now.pool.now going standing }
+    requires { CanTakeChunk part.now (F.view files.old).holds crew.now.threads crew.now.q.now crew.now.pool.now
+        going standing }
     ensures goes { IfOk result
         (λ r. GoesByChunk part.now (F.view files.old).holds crew.now.q.now crew.now.pool.now r.0 r.1) }
     ensures reads { ReadsFurther (F.view files.old).reads (F.view files.new).reads part.now.name.now part.now.limit
@@ -39,7 +43,7 @@ pub(crate) fn round<R: Threads + Wait + Sync, F: Files, G: Gate>(
 {
     let UnderWay {
         pass,
-        mut answer,
+        answer,
         mut buffer,
     } = going;
     let first = match next_piece(files, part, &mut buffer, standing.chunk.ended) {
@@ -58,15 +62,29 @@ pub(crate) fn round<R: Threads + Wait + Sync, F: Files, G: Gate>(
         next,
     } = ahead;
     closed(rt, crew.pool, &mut pass, standing.arena);
+    match joined(pass, answer, found, buffer) {
+        Ok(going) => Ok((going, next)),
+        Err(fault) => Err(fault),
+    }
+}
+
+/// The answer over one chunk more. Refused: `Memory`.
+fn joined(
+    pass: Pass,
+    mut answer: Answer,
+    found: Answer,
+    buffer: Vec<u8>,
+) -> Result<UnderWay, LoadFault>
+    requires { CanJoin answer found }
+    ensures joined { IfOk result (HasJoined pass answer found buffer.items) }
+    ensures memory { IfErr result (λ fault. fault ≡ LoadFault.Memory) }
+{
     match answer.join(found) {
-        Ok(()) => Ok((
-            UnderWay {
-                pass,
-                answer,
-                buffer,
-            },
-            next,
-        )),
+        Ok(()) => Ok(UnderWay {
+            pass,
+            answer,
+            buffer,
+        }),
         Err(_) => Err(LoadFault::Memory),
     }
 }

@@ -6,6 +6,7 @@ ghost use Rattle.fm_top_stream.specs.Shapes.{CanStream};
 ghost use Rattle.fm_top_stream.specs.Shown.{Streams};
 
 use crate::crew::Crew;
+use crate::gone::Gone;
 use crate::shape::{chunk_bytes, shape_of};
 use crate::stream_fault::StreamFault;
 use crate::streaming::go_through;
@@ -63,11 +64,12 @@ pub fn stream_with<R: Threads + Wait + Sync, F: Files, G: Gate>(
         Ok(gone) => gone,
         Err(fault) => return Err(fault_of(fault)),
     };
-    if gone.rest != 0 {
-        return Err(StreamFault::Ragged(gone.rest));
+    let Gone { going, rest } = gone;
+    if rest != 0 {
+        return Err(StreamFault::Ragged(rest));
     }
-    match pool.finish(alloc, gone.pass) {
-        Ok(finished) => Ok((gone.answer, finished)),
+    match pool.finish(alloc, going.pass) {
+        Ok(finished) => Ok((going.answer, finished)),
         Err(_) => Err(StreamFault::Memory),
     }
 }

@@ -31,7 +31,8 @@ fn begun<R: Wait, F: Files, G: Gate>(
     going: UnderWay,
     first: Chunk,
 ) -> Result<(UnderWay, Placed), LoadFault>
-    requires { CanBegin part.now (F.view files.old).holds crew.now.threads crew.now.q.now crew.now.pool.now going first }
+    requires { CanBegin part.now (F.view files.old).holds crew.now.threads crew.now.q.now crew.now.pool.now
+        going first }
     ensures has { IfOk result (λ r. HasNext part.now.limit part.now.most (F.view files.old).holds part.now.name.now
         part.now.at crew.now.q.now crew.now.pool.now r.0 r.1) }
     ensures reads { ReadsFurther (F.view files.old).reads (F.view files.new).reads part.now.name.now part.now.limit
@@ -73,7 +74,8 @@ fn take_chunks<R: Threads + Wait + Sync, F: Files, G: Gate>(
     mut standing: Placed,
 ) -> Result<Gone, LoadFault>
     requires asks { CanAsk most crew.now.threads crew.now.q.now crew.now.pool.now }
-    requires has { HasNext stream_file_limit most (F.view files.old).holds name.now 0 crew.now.q.now crew.now.pool.now going standing }
+    requires has { HasNext stream_file_limit most (F.view files.old).holds name.now 0
+        crew.now.q.now crew.now.pool.now going standing }
     ensures goes { IfOk result
         (GoesThrough stream_file_limit (F.view files.old).holds name.now most crew.now.q.now crew.now.pool.now) }
     ensures reads { ReadsFurther (F.view files.old).reads (F.view files.new).reads name.now stream_file_limit
@@ -86,11 +88,7 @@ fn take_chunks<R: Threads + Wait + Sync, F: Files, G: Gate>(
         let count = standing.chunk.count as u64;
         let rest = count % crew.q.record_size();
         if rest != 0 {
-            return Ok(Gone {
-                pass: going.pass,
-                answer: going.answer,
-                rest,
-            });
+            return Ok(Gone { going, rest });
         }
         at += count;
         let part = Part {
@@ -103,17 +101,11 @@ fn take_chunks<R: Threads + Wait + Sync, F: Files, G: Gate>(
             Ok(gone) => gone,
             Err(fault) => return Err(fault),
         };
+        going = then;
         match next {
             Some(chunk) => standing = chunk,
-            None => {
-                return Ok(Gone {
-                    pass: then.pass,
-                    answer: then.answer,
-                    rest: 0,
-                });
-            }
+            None => return Ok(Gone { going, rest }),
         }
-        going = then;
     }
 }
 
@@ -150,18 +142,14 @@ pub(crate) fn go_through<R: Threads + Wait + Sync, F: Files, G: Gate>(
         Ok(piece) => piece,
         Err(fault) => return Err(fault),
     };
-    if first.count == 0 {
-        return Ok(Gone {
-            pass,
-            answer,
-            rest: 0,
-        });
-    }
     let going = UnderWay {
         pass,
         answer,
         buffer,
     };
+    if first.count == 0 {
+        return Ok(Gone { going, rest: 0 });
+    }
     match begun(rt, files, &part, crew, going, first) {
         Ok((going, standing)) => take_chunks(rt, alloc, files, name, most, crew, going, standing),
         Err(fault) => Err(fault),

@@ -1,6 +1,8 @@
-use Rattle.std.proofs.Common.{Option, refl, subst}
+use Rattle.std.proofs.Common.{Option, Some, length, ap, sym, ◌∙◌, subst}
 use Rattle.fm_io.specs.Files.{Contents}
 use Rattle.fm_io.proofs.Left.{leaves_then}
+use Rattle.fm_top_load.specs.declared.load_fault.LoadFault.{LoadFault}
+use Rattle.fm_top_load.specs.Whole.{TellsLoad}
 use Rattle.fm_top_load.proofs.Telling.{read_quietly, tells_memory}
 use Rattle.fm_top_stream.specs.Steps.{AnswersOn}
 use Rattle.fm_top_stream.proofs.Chunking.{further_some, further_then}
@@ -11,31 +13,34 @@ pub returns-in-Err-answered-clause-reads : goal.returns-in-Err-answered-clause-r
 returns-in-Err-answered-clause-reads g c =
     further_some c.args.part.now.limit (further_then c.args.part.now.limit c.in-Ok.ensures.reads c.in-Err-answered.ensures.reads)
 
-pub join-requires : goal.join-requires
-join-requires g c =
+pub joined-requires : goal.joined-requires
+joined-requires g c =
     let crew = c.args.crew.now in
     let ahead = c.in-Ok-answered.ahead in
     let answers = subst (λ (told : Option Contents). AnswersOn c.args.going.pass.shape.passes c.args.part.now told crew.pool.now c.args.going.pass ahead.pass c.of-s.result
     crew.q.now ahead.answer ahead.next) (read_quietly c.in-Ok.ensures.tells).held c.in-Ok-answered.ensures.answers.answers in
     next_joins c.requires c.of-s.ensures answers c.closed.ensures
 
-pub returns-in-Ok-join-clause-goes : goal.returns-in-Ok-join-clause-goes
-returns-in-Ok-join-clause-goes g c =
+pub returns-in-Ok-joined-clause-goes : goal.returns-in-Ok-joined-clause-goes
+returns-in-Ok-joined-clause-goes g c =
     let crew = c.args.crew.now in
     let ahead = c.in-Ok-answered.ahead in
     let after = c.in-Ok-answered.ensures.answers in
     let answers = subst (λ (told : Option Contents). AnswersOn c.args.going.pass.shape.passes c.args.part.now told crew.pool.now c.args.going.pass ahead.pass c.of-s.result
     crew.q.now ahead.answer ahead.next) (read_quietly c.in-Ok.ensures.tells).held after.answers in
-    goes_by c.requires c.of-s.ensures answers c.closed.ensures _ refl c.in-Ok-join.ensures.joined after.buffer
+    let on = c.in-Ok-joined.ensures.joined in
+    goes_by c.requires c.of-s.ensures answers c.closed.ensures c.in-Ok-joined.going on.pass on.answer (ap length on.buffer ∙ after.buffer)
     (goes_on c.args.standing.chunk.ended c.in-Ok.piece.count ahead.next after.some c.in-Ok.ensures.none)
 
-pub returns-in-Ok-join-clause-reads : goal.returns-in-Ok-join-clause-reads
-returns-in-Ok-join-clause-reads g c = further_then c.args.part.now.limit c.in-Ok.ensures.reads c.in-Ok-answered.ensures.reads
+pub returns-in-Ok-joined-clause-reads : goal.returns-in-Ok-joined-clause-reads
+returns-in-Ok-joined-clause-reads g c = further_then c.args.part.now.limit c.in-Ok.ensures.reads c.in-Ok-answered.ensures.reads
 
-pub returns-in-Err-join-clause-reads : goal.returns-in-Err-join-clause-reads
-returns-in-Err-join-clause-reads g c =
+pub returns-in-Err-joined-clause-reads : goal.returns-in-Err-joined-clause-reads
+returns-in-Err-joined-clause-reads g c =
     further_some c.args.part.now.limit (further_then c.args.part.now.limit c.in-Ok.ensures.reads c.in-Ok-answered.ensures.reads)
 
-pub returns-in-Err-join-clause-tells : goal.returns-in-Err-join-clause-tells
-returns-in-Err-join-clause-tells g c =
-    tells_memory (leaves_then (read_quietly c.in-Ok.ensures.tells) (read_quietly c.in-Ok-answered.ensures.tells))
+pub returns-in-Err-joined-clause-tells : goal.returns-in-Err-joined-clause-tells
+returns-in-Err-joined-clause-tells g c =
+    let part = c.args.part.now in
+    subst (λ (fault : LoadFault). TellsLoad ⊥ part.limit (g.F.Files.view c.args.files.now) (g.F.Files.view c.answered.new.files) part.name.now (Some fault))
+    (sym c.in-Err-joined.ensures.memory) (tells_memory (leaves_then (read_quietly c.in-Ok.ensures.tells) (read_quietly c.in-Ok-answered.ensures.tells)))

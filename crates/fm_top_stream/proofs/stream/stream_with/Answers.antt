@@ -13,4 +13,4 @@ pub returns-in-Ok-finish-clause-streams : goal.returns-in-Ok-finish-clause-strea
 returns-in-Ok-finish-clause-streams g c =
     let most = c.chunk_bytes-most.ensures in
     streamed c.chunk_bytes-most.result most.is (subst (λ n. 0 < n) (sym most.is) (some_in_chunk c.args.q.now.size most.sized c.requires.small))
-    (c.in-Ok.ensures.pool ∙ c.shape_of.ensures.is) (c.in-Ok-go_through.ensures.goes.whole c.if-gone-ne0.false) c.in-Ok-finish.ensures.finishes
+    (c.in-Ok.ensures.pool ∙ c.shape_of.ensures.is) (c.in-Ok-go_through.ensures.goes.whole c.if-rest-ne0.false) c.in-Ok-finish.ensures.finishes

@@ -1,6 +1,6 @@
 use Rattle.std.proofs.Common.{◌≡◌, ◌++◌, length, take, drop, refl, ap, sym, ◌∙◌}
 use Rattle.std.proofs.lemmas.List.{take_at}
-use Rattle.fm_top_stream.proofs.GoesOn.{begins}
+use Rattle.fm_top_stream.proofs.Beginning.{begins}
 use Rattle.fm_top_stream.proofs.streaming.begun.Goals as goal
 
 pub returns-clause-has : goal.returns-clause-has
