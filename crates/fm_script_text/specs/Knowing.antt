@@ -5,8 +5,9 @@ use Rattle.std.specs.BTreeSet.{contains_text}
 use Rattle.fm_script_text.specs.declared.line.Line.{Line}
 use Rattle.fm_script_text.specs.declared.maker.Maker.{Maker}
 use Rattle.fm_script_text.specs.declared.names.Names.{Names}
+use Rattle.fm_script_text.specs.declared.thing.Role.{Role}
 use Rattle.fm_script_text.specs.declared.who.Who.{Who}
-use Rattle.fm_script_text.specs.Rules.{Made, maker_of, is_given_back, passes_of, reached}
+use Rattle.fm_script_text.specs.Rules.{Made, is_given_back, maker_of, may_use, passes_of, reached}
 
 -- who is kept as the maker of a name
 abbrev pub maker_at : Names → List ℕ → Option Maker
@@ -15,6 +16,10 @@ maker_at names name = get_by_text names.makers name
 -- whether a name is kept as given back
 abbrev pub is_spent_at : Names → List ℕ → Bool
 is_spent_at names name = contains_text names.given_back name
+
+-- whether this one may use a name so
+abbrev pub may_use_at : Names → Who → List ℕ → Role → Bool
+may_use_at names who name role = may_use (maker_at names name) (is_spent_at names name) who role
 
 -- the maker of a name behind a line that makes this, where it was the last one before
 abbrev pub newer : Who → Option Made → List ℕ → Option Maker → Option Maker

@@ -1,7 +1,7 @@
 ghost use Rattle.std.specs.Prelude.{◌≡◌, ◌++◌, ◌∷◌, [], OnOk, MatchBool, List, ℕ};
 ghost use Rattle.fm_layout.specs.Name.{IsName};
-ghost use Rattle.fm_script_text.specs.Knowing.{Knows, maker_at, is_spent_at, newer, spent_more};
-ghost use Rattle.fm_script_text.specs.Rules.{may_use, uses, is_new, made, given_back, is_settled, is_owed, IsAdmitted};
+ghost use Rattle.fm_script_text.specs.Knowing.{Knows, maker_at, is_spent_at, may_use_at, newer, spent_more};
+ghost use Rattle.fm_script_text.specs.Rules.{uses, is_new, made, given_back, is_settled, is_owed, IsAdmitted};
 ghost use Rattle.fm_script_text.specs.Syntax.{IsWho};
 ghost use Rattle.fm_script_text.specs.declared.line.Line.{Line};
 
@@ -99,7 +99,7 @@ impl Names {
     }
 
     fn uses_known(&self, who: Who, command: &Command) -> bool
-        ensures { result ≡ uses (λ name r. may_use (maker_at self.now name) (is_spent_at self.now name) who r) command.now }
+        ensures { result ≡ uses (may_use_at self.now who) command.now }
     {
         match command {
             Command::Open { .. } => true,
@@ -137,7 +137,7 @@ impl Names {
     }
 
     fn may_use(&self, who: Who, name: &NameText, role: Role) -> bool
-        ensures { result ≡ may_use (maker_at self.now name.now) (is_spent_at self.now name.now) who role }
+        ensures { result ≡ may_use_at self.now who name.now role }
     {
         match self.maker(name) {
             None => false,
