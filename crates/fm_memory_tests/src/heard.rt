@@ -1,7 +1,7 @@
 use fm_base::{ArenaId, Caller, Refusal};
 
 /// What a call made of entries, as the code keeps it.
-#[derive(Clone, Copy, Debug)]
+#[derive(Clone, Copy)]
 pub enum Heard {
     Enter(ArenaId, Result<(), Refusal>),
     Load(ArenaId, u64, u64),

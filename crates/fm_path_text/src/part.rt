@@ -9,7 +9,7 @@ use crate::step::PathStep;
 use std::alloc::AllocError;
 
 /// What has been read of a piece of a path's text.
-#[derive(Debug, Drop)]
+#[derive(Drop)]
 pub enum Part {
     /// Nothing: the last piece has ended, or none has begun.
     Between,
@@ -36,7 +36,7 @@ pub enum Part {
 }
 
 /// What a byte does to the part that has been read.
-#[derive(Debug, Drop)]
+#[derive(Drop)]
 pub enum Move {
     /// No path's text goes on so.
     Dead,

@@ -2,7 +2,7 @@ ghost use Rattle.std.specs.Prelude.{◌≡◌, ◌<◌};
 ghost use Rattle.fm_records_query.specs.Reader.{value_of, longer, IsNumber};
 
 /// A number of 64 bits with a sign, as far as it has been read.
-#[derive(Clone, Copy, Debug)]
+#[derive(Clone, Copy)]
 pub enum Number {
     /// From 0 up.
     Up(u64),

@@ -8,7 +8,7 @@ use std::alloc::{AllocError, Global};
 use std::marker::Model;
 
 /// What has been read of a query's text: its whole items and conditions, and how far the next one.
-#[derive(Debug, Drop)]
+#[derive(Drop)]
 pub struct Spot {
     items: Vec<ItemSyntax>,
     conditions: Vec<ConditionSyntax>,

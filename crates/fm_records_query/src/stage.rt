@@ -14,14 +14,14 @@ use fm_path_text::{Move, Part, Sign};
 use std::alloc::{AllocError, Global};
 
 /// Whose path is read.
-#[derive(Clone, Copy, Debug)]
+#[derive(Clone, Copy)]
 pub enum Role {
     OfItem(Fold),
     OfCondition,
 }
 
 /// How far an item or a condition has been read.
-#[derive(Debug, Drop)]
+#[derive(Drop)]
 pub enum Stage {
     /// An item begins.
     Start,
@@ -42,7 +42,7 @@ pub enum Stage {
 }
 
 /// What a byte does to the stage.
-#[derive(Debug, Drop)]
+#[derive(Drop)]
 pub enum Turn {
     /// No query's text goes on so.
     Dead,

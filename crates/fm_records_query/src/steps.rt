@@ -5,7 +5,7 @@ use std::alloc::{AllocError, Global};
 use std::marker::Model;
 
 /// The steps of a path, seen as their list.
-#[derive(Debug, Drop)]
+#[derive(Drop)]
 pub struct Steps {
     steps: Vec<PathStep>,
 }

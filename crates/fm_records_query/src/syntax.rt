@@ -4,7 +4,7 @@ use crate::steps::Steps;
 use std::marker::Model;
 
 /// An item as a query's text writes it.
-#[derive(Debug, Drop)]
+#[derive(Drop)]
 pub enum ItemSyntax {
     /// `count`
     Count,
@@ -13,7 +13,7 @@ pub enum ItemSyntax {
 }
 
 /// A condition as a query's text writes it.
-#[derive(Debug, Drop)]
+#[derive(Drop)]
 pub struct ConditionSyntax {
     pub path: Steps,
     pub operator: Operator,
@@ -21,7 +21,7 @@ pub struct ConditionSyntax {
 }
 
 /// A query as its text writes it.
-#[derive(Debug, Drop)]
+#[derive(Drop)]
 pub struct QuerySyntax {
     pub items: Vec<ItemSyntax>,
     pub conditions: Vec<ConditionSyntax>,

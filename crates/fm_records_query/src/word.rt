@@ -4,7 +4,7 @@ ghost use Rattle.fm_records_query.specs.Reader.{word_text};
 use crate::fold::Fold;
 
 /// The word that begins an item.
-#[derive(Clone, Copy, Debug)]
+#[derive(Clone, Copy)]
 pub enum Word {
     Counting,
     Folding(Fold),

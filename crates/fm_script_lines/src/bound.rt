@@ -6,7 +6,7 @@ use fm_base::ArenaId;
 use fm_segment::Segment;
 
 /// What a name is bound to, as lines of all passes may use it. A hold or a handle is its own pass's alone.
-#[derive(Clone, Copy, Debug)]
+#[derive(Clone, Copy)]
 pub enum Bound {
     Nothing,
     Arena(ArenaId),

@@ -10,7 +10,7 @@ use std::collections::BTreeMap;
 use std::str;
 
 /// The number of the line that makes each name.
-#[derive(Debug, Drop)]
+#[derive(Drop)]
 pub struct Numbers {
     pub(crate) makers: BTreeMap<String, usize>,
 }

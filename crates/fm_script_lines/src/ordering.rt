@@ -6,7 +6,7 @@ use fm_script_text::{Line, Who};
 use std::alloc::{AllocError, Global};
 
 /// The lines of a script in the order of printing.
-#[derive(Debug, Drop)]
+#[derive(Drop)]
 pub struct LinesInOrder<'a> {
     /// The first lines, those of worker 1 and so on, the last ones.
     pub lines: Vec<&'a Line>,

@@ -3,7 +3,7 @@ use fm_base::Kind;
 use fm_path_text::NameText;
 
 /// What a line of a script asks for. Sizes, alignments and offsets are in bytes.
-#[derive(Debug, Drop)]
+#[derive(Drop)]
 pub enum Command {
     /// `open NAME KIND`
     Open {

@@ -3,7 +3,7 @@ use crate::who::Who;
 use fm_base_text::Text;
 
 /// A line of a script, with its number in the script's file, from 1.
-#[derive(Debug, Drop)]
+#[derive(Drop)]
 pub struct Line {
     pub number: u64,
     pub text: Text,

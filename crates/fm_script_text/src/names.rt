@@ -4,7 +4,7 @@ use crate::maker::Maker;
 use std::collections::{BTreeMap, BTreeSet};
 
 /// The names that lines have made and given back, the phase that they have come to, and how many passes they need.
-#[derive(Debug, Drop)]
+#[derive(Drop)]
 pub struct Names {
     pub makers: BTreeMap<String, Maker>,
     pub given_back: BTreeSet<String>,

@@ -51,7 +51,7 @@ pub fn parse_script(alloc: Global, bytes: &[u8]) -> Result<Script, Refusal>
 }
 
 /// The lines of a script behind the pool's, and what they did to names.
-#[derive(Debug, Drop)]
+#[derive(Drop)]
 struct Read {
     lines: Vec<Line>,
     names: Names,

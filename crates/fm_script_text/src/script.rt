@@ -6,7 +6,7 @@ use fm_words::Shape;
 use std::marker::Model;
 
 /// A script: the shape of its pool, and its lines behind the pool's, in their order in the file.
-#[derive(Debug, Drop)]
+#[derive(Drop)]
 pub struct Script {
     shape: Shape,
     lines: Vec<Line>,

@@ -3,7 +3,7 @@ ghost use Rattle.std.specs.List.{list_all};
 ghost use Rattle.fm_script_text.specs.Scripts.{lines_of, is_skipped, numbered, source};
 
 /// The lines of a text that are still to be read.
-#[derive(Debug, Drop)]
+#[derive(Drop)]
 pub struct Sources<'a> {
     pub rest: &'a [u8],
     /// The number of the next line.
@@ -12,7 +12,7 @@ pub struct Sources<'a> {
 }
 
 /// A line that isn't skipped, and its number in the text, from 1.
-#[derive(Clone, Copy, Debug)]
+#[derive(Clone, Copy)]
 pub struct Source<'a> {
     pub number: u64,
     pub text: &'a [u8],

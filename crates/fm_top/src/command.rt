@@ -32,7 +32,7 @@ use std::alloc::{AllocError, Global};
 pub use sum::SumCommand;
 
 /// What the words ask for.
-#[derive(Clone, Copy, Debug)]
+#[derive(Clone, Copy)]
 pub enum Subcommand<'a> {
     Sum(SumCommand<'a>),
     Layout(LayoutCommand<'a>),

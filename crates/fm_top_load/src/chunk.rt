@@ -12,7 +12,7 @@ use fm_io::{Files, ReadFault, fill};
 pub const CHUNK: usize = 65_536;
 
 /// What is read next of a file: of one that may have `limit` bytes, from the place `at` on, at most `most` bytes.
-#[derive(Clone, Copy, Debug)]
+#[derive(Clone, Copy)]
 pub struct Part<'a> {
     pub name: &'a str,
     pub limit: u64,
@@ -21,7 +21,7 @@ pub struct Part<'a> {
 }
 
 /// What was read into a buffer: so many bytes, and whether the file ends with them.
-#[derive(Clone, Copy, Debug)]
+#[derive(Clone, Copy)]
 pub struct Chunk {
     pub count: usize,
     pub ended: bool,

@@ -13,7 +13,7 @@ use fm_io::Files;
 use std::sync::Wait;
 
 /// How far a file was read into an arena.
-#[derive(Clone, Copy, Debug)]
+#[derive(Clone, Copy)]
 pub enum Reached {
     /// The file has so many bytes, and they stand there.
     End(u64),

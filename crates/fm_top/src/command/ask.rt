@@ -8,7 +8,7 @@ use std::alloc::{AllocError, Global};
 
 /// `query [--threads N] LAYOUT QUERY FILE`, `stream` with the same words, or `tally [--threads N] LAYOUT PATH FILE`: what
 /// this text asks of the records of the file, by the layout that its file has.
-#[derive(Clone, Copy, Debug)]
+#[derive(Clone, Copy)]
 pub struct AskCommand<'a> {
     pub question: Question,
     pub threads: u64,

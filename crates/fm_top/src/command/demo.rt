@@ -9,7 +9,7 @@ use fm_top_demo::MOST_RECORDS;
 use std::alloc::{AllocError, Global};
 
 /// `demo [--threads N] COUNT`: what two queries answer over so many records that are made.
-#[derive(Clone, Copy, Debug)]
+#[derive(Clone, Copy)]
 pub struct DemoCommand {
     pub threads: u64,
     pub count: u64,

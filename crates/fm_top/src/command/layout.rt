@@ -6,7 +6,7 @@ use crate::command::file_words::file_words;
 use crate::command::layout_text::LayoutText;
 
 /// `layout FILE` or `migrate FILE`: what stands where in the layout that the file has, or its JSON.
-#[derive(Clone, Copy, Debug)]
+#[derive(Clone, Copy)]
 pub struct LayoutCommand<'a> {
     pub text: LayoutText,
     pub file: &'a str,

@@ -1,5 +1,5 @@
 /// What is printed of the layout that a file has.
-#[derive(Clone, Copy, Debug, PartialEq, Eq)]
+#[derive(Clone, Copy, PartialEq, Eq)]
 pub enum LayoutText {
     /// What stands where in it.
     Places,

@@ -1,5 +1,5 @@
 /// What is asked of the records of a file.
-#[derive(Clone, Copy, Debug, PartialEq, Eq)]
+#[derive(Clone, Copy, PartialEq, Eq)]
 pub enum Question {
     /// What a query answers over them.
     Query,

@@ -5,7 +5,7 @@ ghost use Rattle.fm_top.specs.Words.{IsRun};
 use crate::command::file_words::file_words;
 
 /// `run FILE`: what the script of the file does.
-#[derive(Clone, Copy, Debug)]
+#[derive(Clone, Copy)]
 pub struct RunCommand<'a> {
     pub file: &'a str,
 }

@@ -11,7 +11,7 @@ use fm_lanes::ValueKind;
 const LARGEST_RECORD: u64 = 1_048_576;
 
 /// `sum SIZE AT TYPE FILE`: the sum of the value of this kind at byte `at` of each record of `size` bytes.
-#[derive(Clone, Copy, Debug)]
+#[derive(Clone, Copy)]
 pub struct SumCommand<'a> {
     pub size: u64,
     pub at: u64,

@@ -7,7 +7,7 @@ use fm_top_options::{Options, options_of};
 use std::alloc::{AllocError, Global};
 
 /// What the words of a command with threads say: how many, and the words besides, which stand in their order.
-#[derive(Debug, Drop)]
+#[derive(Drop)]
 pub struct Threaded<'a> {
     pub threads: u64,
     pub words: Vec<&'a str>,
