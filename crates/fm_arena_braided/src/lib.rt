@@ -7,12 +7,13 @@
 //!
 //! ```
 //! let (mut braided, source, target) = scene(rt, &pool, first, at);
-//! let answer = target.copy_from(rt, &mut braided, &source);
-//! let (mut ours, walk) = ended(rt, braided, &target);
+//! access.make(rt, &mut braided, &cut);
+//! let mut ours = ended(rt, braided, &target, walk);
 //! ```
 //!
-//! Here `scene` makes a `Braided` of a pass and a turn that closes the source's arena, and `ended` takes it apart by
-//! `into_parts`. Whoever has the turn holds a pass of its own, and makes calls that wait for nobody.
+//! Here `scene` makes a `Braided` of a pass and a turn that closes the source's arena at the call `at`, `cut` has the
+//! two segments, and `ended` takes the `Braided` apart by `into_parts`. Whoever has the turn holds a pass of its own,
+//! and makes calls that wait for nobody.
 #![tactic(auto)]
 
 mod braided;

@@ -1,5 +1,5 @@
 -- How far a closer is.
-use Rattle.std.specs.Prelude.{◌≡◌, Bool, true, false, Option, Some, None}
+use Rattle.std.specs.Prelude.{Bool, true, false, Option, Some, None}
 use Rattle.fm_base.specs.declared.arena_id.ArenaId.{ArenaId}
 use Rattle.fm_rule_facts.specs.Views.{View}
 use Rattle.fm_rule.specs.declared.pool.Pool.{Pool}

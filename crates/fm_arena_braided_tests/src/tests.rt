@@ -1,5 +1,7 @@
 mod closer;
+mod compared;
 mod copies;
+mod cut_off;
 mod fills;
 mod mismatches;
 mod reads;

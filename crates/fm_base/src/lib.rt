@@ -37,6 +37,3 @@ pub use laws::{
 };
 pub use memory::Memory;
 pub use refusal::{OrRefused, Refusal};
-
-#[cfg(test)]
-mod tests;

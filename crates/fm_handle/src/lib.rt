@@ -7,30 +7,24 @@
 //! layout stands: a call takes a segment, a base, which is the layout's offset in it in bytes, and the indices. Offsets
 //! are a sum over the indices; no call walks the layout or takes memory.
 //!
-//! In Java, adding 100 to an amount in a table of accounts behind their count:
+//! In Java, adding to the price of a sale:
 //!
 //! ```java
-//! MemoryLayout account = structLayout(JAVA_INT.withName("id"), JAVA_INT.withName("amount"));
-//! MemoryLayout accounts =
-//!     structLayout(JAVA_LONG.withName("count"), sequenceLayout(3, account).withName("rows"));
-//! VarHandle amount =
-//!     accounts.varHandle(groupElement("rows"), sequenceElement(), groupElement("amount"));
-//! int before = (int) amount.getAndAdd(segment, 0L, 2L, 100);
+//! MemoryLayout sale = structLayout(JAVA_LONG.withName("id"), JAVA_LONG.withName("price"));
+//! VarHandle price = sale.varHandle(groupElement("price"));
+//! long before = (long) price.getAndAdd(segment, 0L, more);
 //! ```
 //!
-//! and here, as the test `accounts_are_added_to` of `fm_memory_tests` has it:
+//! and here, as `fm_example` has it:
 //!
 //! ```
-//! let path = parse_path(rt.alloc(), ".rows[].amount")?;
-//! let amount = VarHandle::of(resolve(rt.alloc(), &accounts(&rt, rt.alloc()), &path)?);
-//! let v = Value::Int(100);
-//! takes(&rt, &amount, &[2]);
-//! holds(&rt, &amount, v);
-//! let before = amount.get_and_add(&rt, &mut memory, &segment, 0, &[2], v)?;
+//! let path = parse_path(alloc, ".price")?;
+//! let price = VarHandle::of(resolve(alloc, &layout, &path)?);
+//! price.get_and_add(rt, theirs, sale, 0, &[], more)
 //! ```
 //!
-//! A call asks for as many indices as the path leaves open, and for a value of the layout's kind: `takes` and `holds`
-//! stop where `resolved().dims().len()` and `resolved().value().kind` are others.
+//! A call asks for as many indices as the path leaves open, and for a value of the layout's kind. A handle tells both,
+//! by `resolved().dims().len()` and `resolved().value().kind`; the example looks once, when it makes the handle.
 //!
 //! **Why it is safe.** The bytes touched are those of the place that following the path finds in the layout
 //! (`stands_at_its_path`), within the segment. An update changes the value in one step of one visit.

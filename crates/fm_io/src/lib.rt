@@ -36,8 +36,6 @@ mod sink;
 mod sure_files;
 mod sure_sink;
 mod system;
-#[cfg(test)]
-mod tests;
 mod writing;
 
 pub use fault::Fault;

@@ -5,8 +5,6 @@
 mod coding;
 mod lane;
 mod order;
-#[cfg(test)]
-mod tests;
 mod value;
 mod value_kind;
 mod words;

@@ -7,26 +7,20 @@
 //! struct of members one after the other, or a union of members that all stand at the start. It has a size and an
 //! alignment in bytes, and perhaps a name.
 //!
-//! A record of 24 bytes, an id, a kind, a price and four tags:
+//! A record of 16 bytes, an id, a kind, two bytes of padding and an amount:
 //!
 //! ```
-//! pub fn sale(alloc: Global) -> Result<Layout, Refusal> {
-//!     let members = vec![in alloc;
-//!         Layout::value(ValueKind::Int).with_name(alloc, "id")?,
-//!         Layout::value(ValueKind::Short).with_name(alloc, "kind")?,
-//!         Layout::padding(2)?,
-//!         Layout::value(ValueKind::Long).with_name(alloc, "price")?,
-//!         Layout::sequence(alloc, 4, Layout::value(ValueKind::Byte))?.with_name(alloc, "tags")?,
-//!         Layout::padding(4)?,
-//!     ];
-//!     match members {
-//!         Ok(members) => Layout::structure(members),
-//!         Err(_) => Err(Refusal::Memory),
-//!     }
+//! let id = Layout::value(ValueKind::Int).with_name(alloc, "id")?;
+//! let kind = Layout::value(ValueKind::Short).with_name(alloc, "kind")?;
+//! let gap = Layout::padding(2)?;
+//! let amount = Layout::value(ValueKind::Long).with_name(alloc, "amount")?;
+//! match vec![in alloc; id, kind, gap, amount] {
+//!     Ok(members) => Layout::structure(members),
+//!     Err(_) => Err(Refusal::Memory),
 //! }
 //! ```
 //!
-//! (`record.rt` of `fm_layout_tests` has these lines; what a `vec!` hands back in its error is no `Refusal`.)
+//! (`demo_layout.rt` of `fm_top` has these lines; what a `vec!` hands back in its error is no `Refusal`.)
 //!
 //! **Why it is safe.** Every layout is well formed: a constructor refuses what isn't, by the first rule that is broken.
 //! So who has a layout asks nothing of it any more.

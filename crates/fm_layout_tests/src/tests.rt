@@ -1,4 +1,7 @@
+mod base;
+mod compared;
 mod demos;
+mod lanes;
 mod layouts;
 mod layouts_named;
 mod layouts_read;
@@ -7,3 +10,5 @@ mod path_texts;
 mod paths;
 mod queries;
 mod record;
+mod rows;
+mod told;

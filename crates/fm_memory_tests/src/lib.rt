@@ -1,5 +1,5 @@
-//! A double of `Memory`, for tests alone, test bodies over every implementation, and the tests of accesses, copies,
-//! segments and handles over `Mono` alone.
+//! A double of `Memory`, for tests alone, test bodies over every implementation, and the tests of `Mono`, and of
+//! accesses, copies, segments and handles over it alone.
 #![tactic(auto)]
 
 mod double;

@@ -1,10 +1,13 @@
 mod accesses;
 mod body;
+mod compared;
 mod copies;
 mod exact;
 mod handles;
 mod memories;
+mod mono_arenas;
 mod mono_handles;
 mod mono_segments;
 mod pools;
+mod segment_calls;
 mod segments;

@@ -21,6 +21,3 @@ mod arena;
 mod mono;
 
 pub use mono::Mono;
-
-#[cfg(test)]
-mod tests;

@@ -32,6 +32,3 @@ pub use giving::try_at;
 pub use mapping::map;
 pub use page::Page;
 pub use placing::place_of;
-
-#[cfg(test)]
-mod tests;

@@ -58,6 +58,3 @@ pub use sweeping::{
 pub use taking::{step_generation, step_take_slot};
 pub use updates::{guess_given, step_add, step_allocate, step_swap_if};
 pub use words::{MOST_HOLDS, alive_holds, mark_of};
-
-#[cfg(test)]
-mod tests;

@@ -1,4 +1,6 @@
+mod compared;
 mod lines;
+mod parsed;
 mod parsing;
 mod plays;
 mod reports;

@@ -4,7 +4,5 @@
 mod command;
 mod matched;
 mod options;
-#[cfg(test)]
-mod tests;
 
 pub use options::{Options, options_of};

@@ -1,3 +1,4 @@
+mod compared;
 mod demos;
 mod endings;
 mod faults;
@@ -8,7 +9,9 @@ mod keeping;
 mod kinds;
 mod layouts;
 mod migrations;
+mod options;
 mod queries;
+mod sales;
 mod scripts;
 mod sizes;
 mod streams;

@@ -27,8 +27,6 @@ mod mark;
 mod places;
 mod session;
 mod shape;
-#[cfg(test)]
-mod tests;
 
 pub use bits::{lowest_bit, ones, without_bit};
 pub use laws::every_word_has_one_place;

@@ -26,6 +26,3 @@ mod turning;
 pub use account::{Account, Role};
 pub use item::Item;
 pub use jobs::{Jobs, Turn};
-
-#[cfg(test)]
-mod tests;

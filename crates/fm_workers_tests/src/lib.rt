@@ -2,9 +2,15 @@
 #![tactic(auto)]
 
 #[cfg(test)]
+mod compared;
+#[cfg(test)]
 mod crews;
 #[cfg(test)]
+mod jobs;
+#[cfg(test)]
 mod joining;
+#[cfg(test)]
+mod layouts;
 #[cfg(test)]
 mod packed;
 #[cfg(test)]

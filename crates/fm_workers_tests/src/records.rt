@@ -1,34 +1,34 @@
 ghost use Rattle.std.specs.Prelude.{◌≡◌, ◌≤◌, ◌*◌, length, None};
 ghost use Rattle.fm_segment.specs.Access.{IsKnown};
 
+use crate::compared::same;
+use crate::layouts::{push, push_named, push_padding, query_over, sequence, structure};
 use crate::printed::printed;
 use fm_base::{Kind, Memory, Refusal};
 use fm_lanes::{Value, ValueKind};
 use fm_layout::Layout;
 use fm_mono::Mono;
-use fm_records::{check_record, parse_query, query_segment};
+use fm_records::query_segment;
 use fm_segment::Segment;
-use std::alloc::Global;
+use std::alloc::AllocGlobal;
 use std::process::Abort;
 use std::sync::Wait;
-use std::test::Fail;
 
 /// A struct of int `id`, short `kind`, padding, long `price`, four bytes `tags` and padding: 24 bytes.
-pub(crate) fn order(alloc: Global) -> Result<Layout, Fail> {
-    let mut members = Vec::new(alloc);
-    members.push(Layout::value(ValueKind::Int).with_name(alloc, "id")?)?;
-    members.push(Layout::value(ValueKind::Short).with_name(alloc, "kind")?)?;
-    members.push(Layout::padding(2)?)?;
-    members.push(Layout::value(ValueKind::Long).with_name(alloc, "price")?)?;
-    let tags = Layout::sequence(alloc, 4, Layout::value(ValueKind::Byte))?;
-    members.push(tags.with_name(alloc, "tags")?)?;
-    members.push(Layout::padding(4)?)?;
-    Ok(Layout::structure(members)?)
+pub(crate) fn order<R: Abort + AllocGlobal>(rt: &R) -> Layout {
+    let mut members = Vec::new(rt.alloc());
+    push_named(rt, &mut members, "id", Layout::value(ValueKind::Int));
+    push_named(rt, &mut members, "kind", Layout::value(ValueKind::Short));
+    push_padding(rt, &mut members, 2);
+    push_named(rt, &mut members, "price", Layout::value(ValueKind::Long));
+    let tags = sequence(rt, 4, Layout::value(ValueKind::Byte));
+    push_named(rt, &mut members, "tags", tags);
+    push_padding(rt, &mut members, 4);
+    structure(rt, members)
 }
 
 /// What the query of this text answers over the segment's records.
-pub(crate) fn asked<R: Abort, M: Memory>(
-    alloc: Global,
+fn asked<R: Abort + AllocGlobal, M: Memory>(
     rt: &R,
     m: &mut M,
     layout: &Layout,
@@ -40,11 +40,81 @@ pub(crate) fn asked<R: Abort, M: Memory>(
     ensures outside { (M.view m.new).inside ≡ None }
     ensures known { IsKnown (M.view m.new) s.now }
 {
-    check_record(layout)?;
-    let query = parse_query(alloc, text, layout)?;
-    assert_eq!(rt; s.first() % query.record_alignment(), 0);
-    let answer = query_segment(alloc, m, &query, s)?;
-    printed(alloc, &query, &answer)
+    let query = query_over(rt, text, layout);
+    same(rt, s.first() % query.record_alignment(), 0);
+    match query_segment(rt.alloc(), m, &query, s) {
+        Ok(answer) => printed(rt.alloc(), &query, &answer),
+        Err(refusal) => Err(refusal),
+    }
+}
+
+fn answers<R: Abort + AllocGlobal, M: Memory>(
+    rt: &R,
+    m: &mut M,
+    layout: &Layout,
+    s: &Segment,
+    text: &str,
+    wanted: &str,
+)
+    requires outside { (M.view m.old).inside ≡ None }
+    requires known { IsKnown (M.view m.old) s.now }
+    ensures outside { (M.view m.new).inside ≡ None }
+    ensures known { IsKnown (M.view m.new) s.now }
+{
+    let found = asked(rt, m, layout, s, text);
+    same(rt, (found.as_deref(), text), (Ok(wanted.as_bytes()), text));
+}
+
+fn refuses<R: Abort + AllocGlobal, M: Memory>(
+    rt: &R,
+    m: &mut M,
+    layout: &Layout,
+    s: &Segment,
+    text: &str,
+    wanted: Refusal,
+)
+    requires outside { (M.view m.old).inside ≡ None }
+    requires known { IsKnown (M.view m.old) s.now }
+    ensures outside { (M.view m.new).inside ≡ None }
+    ensures known { IsKnown (M.view m.new) s.now }
+{
+    let found = asked(rt, m, layout, s, text);
+    same(rt, (found.err(), text), (Some(wanted), text));
+}
+
+fn answers_row<R: Abort + AllocGlobal, M: Memory>(
+    rt: &R,
+    m: &mut M,
+    layout: &Layout,
+    s: &Segment,
+    row: &str,
+)
+    requires outside { (M.view m.old).inside ≡ None }
+    requires known { IsKnown (M.view m.old) s.now }
+    ensures outside { (M.view m.new).inside ≡ None }
+    ensures known { IsKnown (M.view m.new) s.now }
+{
+    let (text, lines) = row.split_once('|').unwrap_or((row, ""));
+    let wanted = lines.replace(rt.alloc(), "|", "\n").expect(rt, "lines");
+    answers(rt, m, layout, s, text, wanted.as_str());
+}
+
+/// Asks the query at the front of each row. Behind it stand the lines of its answer, each ended by a bar.
+pub(crate) fn answers_rows<R: Abort + AllocGlobal, M: Memory>(
+    rt: &R,
+    m: &mut M,
+    layout: &Layout,
+    s: &Segment,
+    rows: &str,
+)
+    requires outside { (M.view m.old).inside ≡ None }
+    requires known { IsKnown (M.view m.old) s.now }
+    ensures outside { (M.view m.new).inside ≡ None }
+    ensures known { IsKnown (M.view m.new) s.now }
+{
+    for row in rows.lines() {
+        answers_row(rt, m, layout, s, row);
+    }
 }
 
 /// A segment of a fresh shared arena with these longs.
@@ -61,9 +131,10 @@ pub(crate) fn longs<R: Abort + Wait, M: Memory>(rt: &R, m: &mut M, numbers: &[i6
     let s = Segment::of(arena, first, size);
     let long = Layout::value(ValueKind::Long);
     for k in 0..numbers.len() {
-        assert_eq!(rt;
+        same(
+            rt,
             s.set(rt, m, &long, 8 * k as u64, Value::Long(numbers[k])),
-            Ok(())
+            Ok(()),
         );
     }
     s
@@ -91,132 +162,97 @@ pub(crate) fn two_orders<R: Abort + Wait, M: Memory>(rt: &R, m: &mut M) -> Segme
 }
 
 /// Queries over those two orders, and what they answer.
-const ANSWERS: [(&str, &str); 18] = [
-    (
-        "count,sum(.price),list(.tags[]) where .kind>=2",
-        "count 2\nsum(.price) 210\nlist(.tags[]) 1 2 3 4 5 0 0 -1\n",
-    ),
-    (
-        "min(.price),max(.tags[])",
-        "min(.price) -40\nmax(.tags[]) 5\n",
-    ),
-    ("min(.price) where .kind=9", "min(.price) none\n"),
-    ("sum(.id) where .kind>2 and .price<0", "sum(.id) 2\n"),
-    ("list(.id) where .kind=2", "list(.id) 1\n"),
-    ("list(.id) where .kind=1", "list(.id)\n"),
-    ("list(.id) where .kind!=2", "list(.id) 2\n"),
-    ("list(.id) where .kind!=4", "list(.id) 1 2\n"),
-    ("list(.id) where .kind<2", "list(.id)\n"),
-    ("list(.id) where .kind<3", "list(.id) 1\n"),
-    ("list(.id) where .kind<=2", "list(.id) 1\n"),
-    ("list(.id) where .kind<=1", "list(.id)\n"),
-    ("list(.id) where .kind>2", "list(.id) 2\n"),
-    ("list(.id) where .kind>3", "list(.id)\n"),
-    ("list(.id) where .kind>=3", "list(.id) 2\n"),
-    ("list(.id) where .kind>=4", "list(.id)\n"),
-    ("list(.id) where .price>=-40", "list(.id) 1 2\n"),
-    ("list(.id) where .price>-40", "list(.id) 1\n"),
-];
+const ANSWERS: &str = "\
+count,sum(.price),list(.tags[]) where .kind>=2|count 2|sum(.price) 210|list(.tags[]) 1 2 3 4 5 0 0 -1|
+min(.price),max(.tags[])|min(.price) -40|max(.tags[]) 5|
+min(.price) where .kind=9|min(.price) none|
+sum(.id) where .kind>2 and .price<0|sum(.id) 2|
+list(.id) where .kind=2|list(.id) 1|
+list(.id) where .kind=1|list(.id)|
+list(.id) where .kind!=2|list(.id) 2|
+list(.id) where .kind!=4|list(.id) 1 2|
+list(.id) where .kind<2|list(.id)|
+list(.id) where .kind<3|list(.id) 1|
+list(.id) where .kind<=2|list(.id) 1|
+list(.id) where .kind<=1|list(.id)|
+list(.id) where .kind>2|list(.id) 2|
+list(.id) where .kind>3|list(.id)|
+list(.id) where .kind>=3|list(.id) 2|
+list(.id) where .kind>=4|list(.id)|
+list(.id) where .price>=-40|list(.id) 1 2|
+list(.id) where .price>-40|list(.id) 1|";
 
 #[test]
-fn answers_over_two_records(rt: HostRuntime) -> Result<(), Fail> {
-    let alloc = rt.alloc();
-    let mut m = Mono::make(alloc, 1024);
+fn answers_over_two_records(rt: HostRuntime) {
+    let mut m = Mono::make(rt.alloc(), 1024);
     let s = two_orders(&rt, &mut m);
-    let layout = order(alloc)?;
-    for (text, answer) in ANSWERS.iter() {
-        let found = asked(alloc, &rt, &mut m, &layout, &s, text)?;
-        assert_eq!(rt; found.as_slice(), answer.as_bytes());
-    }
-    Ok(())
+    answers_rows(&rt, &mut m, &order(&rt), &s, ANSWERS);
+}
+
+/// A byte, and a bound of 2^40 around a bound of 0.
+fn empty_bounds<R: Abort + AllocGlobal>(rt: &R) -> Layout {
+    let empty = sequence(rt, 0, Layout::value(ValueKind::Byte));
+    let many = sequence(rt, 1_099_511_627_776, empty);
+    let mut members = Vec::new(rt.alloc());
+    push(rt, &mut members, Layout::value(ValueKind::Byte));
+    push(rt, &mut members, many);
+    structure(rt, members)
 }
 
 #[test]
-fn bounds_of_0_have_no_values(rt: HostRuntime) -> Result<(), Fail> {
-    let alloc = rt.alloc();
-    let mut m = Mono::make(alloc, 1024);
-    let arena = m.open_arena(&rt, Kind::Shared)?;
-    let first = m.allocate(&rt, arena, 2, 1)?;
+fn bounds_of_0_have_no_values(rt: HostRuntime) {
+    let mut m = Mono::make(rt.alloc(), 1024);
+    let arena = m.open_arena(&rt, Kind::Shared).expect(&rt, "an arena");
+    let first = m.allocate(&rt, arena, 2, 1).expect(&rt, "two bytes");
     let s = Segment::of(arena, first, 2);
-    let empty = Layout::sequence(alloc, 0, Layout::value(ValueKind::Byte))?;
-    let many = Layout::sequence(alloc, 1_099_511_627_776, empty)?;
-    let mut members = Vec::new(alloc);
-    members.push(Layout::value(ValueKind::Byte))?;
-    members.push(many)?;
-    let layout = Layout::structure(members)?;
-    let found = asked(
-        alloc,
+    let text = "count,sum(.#1[][]),min(.#1[][]),list(.#1[][])";
+    let wanted = "count 2\nsum(.#1[][]) 0\nmin(.#1[][]) none\nlist(.#1[][])\n";
+    answers(&rt, &mut m, &empty_bounds(&rt), &s, text, wanted);
+}
+
+#[test]
+fn refuses_bytes_behind_the_last_record(rt: HostRuntime) {
+    let mut m = Mono::make(rt.alloc(), 1024);
+    let s = two_orders(&rt, &mut m);
+    let layout = order(&rt);
+    let more = Segment::of(s.arena(), s.first(), 40);
+    let fewer = Segment::of(s.arena(), s.first(), 23);
+    m.close(&rt, s.arena()).expect(&rt, "open");
+    refuses(
+        &rt,
+        &mut m,
+        &layout,
+        &more,
+        "sum(.price)",
+        Refusal::Ragged(16),
+    );
+    refuses(&rt, &mut m, &layout, &fewer, "count", Refusal::Ragged(23));
+}
+
+#[test]
+fn a_closed_arena_is_found_at_the_first_value(rt: HostRuntime) {
+    let mut m = Mono::make(rt.alloc(), 1024);
+    let s = two_orders(&rt, &mut m);
+    let layout = order(&rt);
+    m.close(&rt, s.arena()).expect(&rt, "open");
+    refuses(&rt, &mut m, &layout, &s, "sum(.price)", Refusal::Closed);
+    refuses(
         &rt,
         &mut m,
         &layout,
         &s,
-        "count,sum(.#1[][]),min(.#1[][]),list(.#1[][])",
-    )?;
-    assert_eq!(rt;
-        found.as_slice(),
-        b"count 2\nsum(.#1[][]) 0\nmin(.#1[][]) none\nlist(.#1[][])\n".as_slice()
+        "count where .kind=2",
+        Refusal::Closed,
     );
-    Ok(())
+    answers(&rt, &mut m, &layout, &s, "count", "count 2\n");
 }
 
 #[test]
-fn refuses_bytes_behind_the_last_record(rt: HostRuntime) -> Result<(), Fail> {
-    let alloc = rt.alloc();
-    let mut m = Mono::make(alloc, 1024);
+fn an_empty_segment_has_no_records(rt: HostRuntime) {
+    let mut m = Mono::make(rt.alloc(), 1024);
     let s = two_orders(&rt, &mut m);
-    let layout = order(alloc)?;
-    let more = Segment::of(s.arena(), s.first(), 40);
-    let fewer = Segment::of(s.arena(), s.first(), 23);
-    m.close(&rt, s.arena())?;
-    assert_eq!(rt;
-        asked(alloc, &rt, &mut m, &layout, &more, "sum(.price)").err(),
-        Some(Refusal::Ragged(16))
-    );
-    assert_eq!(rt;
-        asked(alloc, &rt, &mut m, &layout, &fewer, "count").err(),
-        Some(Refusal::Ragged(23))
-    );
-    Ok(())
-}
-
-#[test]
-fn a_closed_arena_is_found_at_the_first_value(rt: HostRuntime) -> Result<(), Fail> {
-    let alloc = rt.alloc();
-    let mut m = Mono::make(alloc, 1024);
-    let s = two_orders(&rt, &mut m);
-    let layout = order(alloc)?;
-    m.close(&rt, s.arena())?;
-    assert_eq!(rt;
-        asked(alloc, &rt, &mut m, &layout, &s, "sum(.price)").err(),
-        Some(Refusal::Closed)
-    );
-    assert_eq!(rt;
-        asked(alloc, &rt, &mut m, &layout, &s, "count where .kind=2").err(),
-        Some(Refusal::Closed)
-    );
-    let count = asked(alloc, &rt, &mut m, &layout, &s, "count")?;
-    assert_eq!(rt; count.as_slice(), b"count 2\n".as_slice());
-    Ok(())
-}
-
-#[test]
-fn an_empty_segment_has_no_records(rt: HostRuntime) -> Result<(), Fail> {
-    let alloc = rt.alloc();
-    let mut m = Mono::make(alloc, 1024);
-    let s = two_orders(&rt, &mut m);
-    let layout = order(alloc)?;
     let empty = Segment::of(s.arena(), s.first(), 0);
-    let found = asked(
-        alloc,
-        &rt,
-        &mut m,
-        &layout,
-        &empty,
-        "count,sum(.price),max(.price),list(.tags[]) where .kind>=2",
-    )?;
-    assert_eq!(rt;
-        found.as_slice(),
-        b"count 0\nsum(.price) 0\nmax(.price) none\nlist(.tags[])\n".as_slice()
-    );
-    Ok(())
+    let text = "count,sum(.price),max(.price),list(.tags[]) where .kind>=2";
+    let wanted = "count 0\nsum(.price) 0\nmax(.price) none\nlist(.tags[])\n";
+    answers(&rt, &mut m, &order(&rt), &empty, text, wanted);
 }

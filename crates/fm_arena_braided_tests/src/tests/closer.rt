@@ -5,6 +5,7 @@ ghost use Rattle.fm_gate.specs.Needs.{CanVisit, IsOutside};
 ghost use Rattle.fm_close.specs.Learnt.{CanWalk};
 ghost use Rattle.fm_arena_braided_tests.specs.Closers.{IsOnItsWay, StandsAt};
 
+use crate::tests::compared::same;
 use fm_arena_braided::Turn;
 use fm_base::{ArenaId, Refusal};
 use fm_close::{Shutting, Visit, shut, sweep, visit};
@@ -18,9 +19,20 @@ use std::sync::Wait;
 /// What a closer found at its turn: the arena's first three words, and what the visits answered.
 #[derive(Clone, Copy, Debug, PartialEq, Eq)]
 pub(crate) struct Walk {
-    pub(crate) words: [u64; 3],
-    pub(crate) nexts: u32,
-    pub(crate) last: Option<Visit>,
+    words: [u64; 3],
+    nexts: u32,
+    last: Option<Visit>,
+}
+
+impl Walk {
+    /// Past the mark of one pass, and then this.
+    pub(crate) fn to(last: Visit, words: [u64; 3]) -> Walk {
+        Walk {
+            words,
+            nexts: 1,
+            last: Some(last),
+        }
+    }
 }
 
 /// Shuts an arena at the turn of one number, by a pass of its own, and visits marks until one names the arena or it has
@@ -78,22 +90,22 @@ impl<'a> Closer<'a> {
         }
     }
 
-    /// What it found, once the arena is closed. A walk that stood at a mark ends at the next visit.
-    pub(crate) fn finish<R: Abort>(self, rt: &R) -> Walk {
+    /// Closes the arena. What it found at its turn is wanted so; a walk that stood at a mark ends at the next visit.
+    pub(crate) fn finish<R: Abort>(self, rt: &R, wanted: Walk) {
         let Closer {
             pool,
             mut pass,
             arena: _,
-            at: _,
+            at,
             shutting,
             walk,
         } = self;
         let mut s = shutting.expect(rt, "a turn");
         if !s.is_ended() {
-            assert_eq!(rt; visit(pool, &mut pass, &mut s), Visit::Ended);
+            same(rt, visit(pool, &mut pass, &mut s), Visit::Ended);
         }
         sweep(pool, &mut pass, s);
-        walk
+        same(rt, (walk, at), (wanted, at));
     }
 }
 

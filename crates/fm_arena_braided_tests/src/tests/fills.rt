@@ -1,17 +1,18 @@
 use crate::tests::closer::Walk;
-use crate::tests::scene::{ended, made, scene};
-use fm_base::Refusal;
+use crate::tests::cut_off::{Access, Cut, answered, cut_off};
+use fm_base::Memory;
 use fm_close::Visit;
 use std::alloc::AllocGlobal;
 use std::process::Abort;
 use std::sync::Wait;
 
-fn fill_beside<R: Abort + AllocGlobal + Wait>(rt: &R, at: u64) -> (Walk, Result<(), Refusal>) {
-    let (pool, first) = made(rt);
-    let (mut braided, source, target) = scene(rt, &pool, first, at);
-    let answer = source.fill(rt, &mut braided, 255);
-    let (_, walk) = ended(rt, braided, &target);
-    (walk, answer)
+/// The source is filled.
+struct Filling;
+
+impl Access for Filling {
+    fn make<R: Abort + AllocGlobal + Wait, M: Memory>(&self, rt: &R, m: &mut M, cut: &Cut) {
+        answered(rt, cut.source.fill(rt, m, 255), cut, ());
+    }
 }
 
 /// A piece of a fill is three calls, and what it wrote before the close stands while the closer waits.
@@ -19,20 +20,24 @@ fn fill_beside<R: Abort + AllocGlobal + Wait>(rt: &R, at: u64) -> (Walk, Result<
 fn a_fill_is_cut_off_at_each_call(rt: HostRuntime) {
     let full = u64::MAX;
     let rows = [
-        (0, Visit::Ended, Err(Refusal::Closed), [1, 2, 3]),
-        (1, Visit::Inside(1), Err(Refusal::Closed), [1, 2, 3]),
-        (2, Visit::Inside(1), Err(Refusal::Closed), [full, 2, 3]),
-        (3, Visit::Ended, Err(Refusal::Closed), [full, 2, 3]),
-        (4, Visit::Inside(1), Err(Refusal::Closed), [full, 2, 3]),
-        (5, Visit::Inside(1), Err(Refusal::Closed), [full, full, 3]),
-        (6, Visit::Ended, Err(Refusal::Closed), [full, full, 3]),
-        (7, Visit::Inside(1), Ok(()), [full, full, 3]),
-        (8, Visit::Inside(1), Ok(()), [full, full, full]),
+        (0, Visit::Ended, false, [1, 2, 3]),
+        (1, Visit::Inside(1), false, [1, 2, 3]),
+        (2, Visit::Inside(1), false, [full, 2, 3]),
+        (3, Visit::Ended, false, [full, 2, 3]),
+        (4, Visit::Inside(1), false, [full, 2, 3]),
+        (5, Visit::Inside(1), false, [full, full, 3]),
+        (6, Visit::Ended, false, [full, full, 3]),
+        (7, Visit::Inside(1), true, [full, full, 3]),
+        (8, Visit::Inside(1), true, [full, full, full]),
     ];
-    for (at, last, answer, words) in rows {
-        let (walk, filled) = fill_beside(&rt, at);
-        assert_eq!(rt; (walk.nexts, walk.last), (1, Some(last)));
-        assert_eq!(rt; walk.words, words);
-        assert_eq!(rt; filled, answer);
+    for (at, last, is_whole, words) in rows {
+        cut_off(
+            &rt,
+            &Filling,
+            at,
+            Walk::to(last, words),
+            is_whole,
+            [0, 0, 0],
+        );
     }
 }

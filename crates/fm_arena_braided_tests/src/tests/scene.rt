@@ -9,6 +9,7 @@ ghost use Rattle.fm_arena.specs.Lasting.{SamePool};
 ghost use Rattle.fm_arena.specs.Shares.{CanShare};
 
 use crate::tests::closer::{Closer, Walk};
+use crate::tests::compared::same;
 use fm_arena::{Arena, Shared, keeps_its_pool};
 use fm_arena_braided::Braided;
 use fm_base::Kind;
@@ -75,31 +76,57 @@ fn put<R: Abort + Wait>(rt: &R, m: &mut Shared, s: &Segment, offset: u64, number
     keeps_its_pool();
     let long = Layout::value(ValueKind::Long);
     let put = s.set(rt, m, &long, offset, Value::Long(number));
-    assert_eq!(rt; put, Ok(()));
+    same(rt, put, Ok(()));
 }
 
-/// Whether the segment has this long.
-fn has<R: Abort>(rt: &R, m: &mut Shared, s: &Segment, offset: u64, number: i64)
+/// A shared arena's longs 1, 2 and 3.
+fn one_two_three<R: Abort + Wait>(rt: &R, m: &mut Shared) -> Segment
+    requires { m.old.inside ≡ None }
+    ensures outside { m.new.inside ≡ None }
+    ensures known { IsKnown (view_of_pass m.new) result }
+    ensures size { result.size ≡ 24 }
+    ensures same { SamePool m.old m.new }
+{
+    let s = longs_of(rt, m);
+    put(rt, m, &s, 0, 1);
+    put(rt, m, &s, 8, 2);
+    put(rt, m, &s, 16, 3);
+    s
+}
+
+/// Whether the segment has this long, beside another that is known.
+fn has<R: Abort>(rt: &R, m: &mut Shared, s: &Segment, other: &Segment, offset: u64, number: i64)
     requires outside { m.old.inside ≡ None }
     requires known { IsKnown (view_of_pass m.old) s.now }
+    requires other { IsKnown (view_of_pass m.old) other.now }
     ensures outside { m.new.inside ≡ None }
     ensures known { IsKnown (view_of_pass m.new) s.now }
+    ensures other { IsKnown (view_of_pass m.new) other.now }
 {
     let long = Layout::value(ValueKind::Long);
     let found = s.get(m, &long, offset);
-    assert_eq!(rt; found, Ok(Value::Long(number)));
+    same(rt, found, Ok(Value::Long(number)));
 }
 
 /// Whether it has these longs.
-pub(crate) fn has_numbers<R: Abort>(rt: &R, m: &mut Shared, s: &Segment, numbers: [i64; 3])
+pub(crate) fn has_numbers<R: Abort>(
+    rt: &R,
+    m: &mut Shared,
+    s: &Segment,
+    other: &Segment,
+    numbers: [i64; 3],
+)
     requires outside { m.old.inside ≡ None }
     requires known { IsKnown (view_of_pass m.old) s.now }
+    requires other { IsKnown (view_of_pass m.old) other.now }
     ensures outside { m.new.inside ≡ None }
+    ensures known { IsKnown (view_of_pass m.new) s.now }
+    ensures other { IsKnown (view_of_pass m.new) other.now }
 {
     let [first, second, third] = numbers;
-    has(rt, m, s, 0, first);
-    has(rt, m, s, 8, second);
-    has(rt, m, s, 16, third);
+    has(rt, m, s, other, 0, first);
+    has(rt, m, s, other, 8, second);
+    has(rt, m, s, other, 16, third);
 }
 
 /// The pass learns what the other one has seen.
@@ -134,44 +161,28 @@ pub(crate) fn scene<'a, R: Abort + Wait>(
     let mut first = first;
     let second = pool.draw(rt, &mut first).expect(rt, "a pass");
     let mut ours = Shared::new(pool, second);
-    let source = longs_of(rt, &mut ours);
-    put(rt, &mut ours, &source, 0, 1);
-    put(rt, &mut ours, &source, 8, 2);
-    put(rt, &mut ours, &source, 16, 3);
+    let source = one_two_three(rt, &mut ours);
     let target = longs_beside(rt, &mut ours, &source);
     let theirs = told(pool, first, &mut ours, &source);
     let closer = Closer::new(pool, theirs, source.arena(), at);
     (Braided::new(ours, closer), source, target)
 }
 
-/// The memory again, once the arena is closed, and what was found of it; the next arena in its slot begins with zeros.
+/// The memory again, once the arena is closed, of which this was found; the next arena in its slot begins with zeros.
 pub(crate) fn ended<'a, R: Abort + Wait>(
     rt: &R,
     braided: Braided<Shared<'a>, Closer<'a>>,
     target: &Segment,
-) -> (Shared<'a>, Walk)
+    wanted: Walk,
+) -> Shared<'a>
     requires outside { braided.memory.inside ≡ None }
     requires target { IsKnown (view_of_pass braided.memory) target.now }
-    ensures outside { result.0.inside ≡ None }
-    ensures target { IsKnown (view_of_pass result.0) target.now }
+    ensures outside { result.inside ≡ None }
+    ensures target { IsKnown (view_of_pass result) target.now }
 {
     let (mut ours, closer) = braided.into_parts();
-    let walk = closer.finish(rt);
+    closer.finish(rt, wanted);
     let next = longs_beside(rt, &mut ours, target);
-    zeros_beside(rt, &mut ours, &next, target);
-    (ours, walk)
-}
-
-/// Whether it has zeros, beside a segment that is known.
-fn zeros_beside<R: Abort>(rt: &R, m: &mut Shared, s: &Segment, other: &Segment)
-    requires outside { m.old.inside ≡ None }
-    requires known { IsKnown (view_of_pass m.old) s.now }
-    requires other { IsKnown (view_of_pass m.old) other.now }
-    ensures outside { m.new.inside ≡ None }
-    ensures other { IsKnown (view_of_pass m.new) other.now }
-{
-    let long = Layout::value(ValueKind::Long);
-    assert_eq!(rt; s.get(m, &long, 0), Ok(Value::Long(0)));
-    assert_eq!(rt; s.get(m, &long, 8), Ok(Value::Long(0)));
-    assert_eq!(rt; s.get(m, &long, 16), Ok(Value::Long(0)));
+    has_numbers(rt, &mut ours, &next, target, [0, 0, 0]);
+    ours
 }

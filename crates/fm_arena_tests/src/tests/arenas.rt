@@ -1,4 +1,4 @@
-ghost use Rattle.std.specs.Prelude.{◌≡◌, None};
+ghost use Rattle.std.specs.Prelude.{◌≡◌, ◌≢◌, None};
 ghost use Rattle.fm_base.specs.Learnt.{CanVisit};
 ghost use Rattle.fm_rule_calls.specs.Kept.{Lasts};
 ghost use Rattle.fm_rule_calls.specs.Told.{view_of_pass};
@@ -7,6 +7,7 @@ ghost use Rattle.fm_arena.specs.Handles.{CanGiveBack};
 ghost use Rattle.fm_arena.specs.Lasting.{SamePool};
 ghost use Rattle.fm_arena.specs.Shares.{CanShare};
 
+use crate::tests::compared::same;
 use crate::tests::pools::pool_of;
 use fm_arena::{Arena, AutoHandle, Shared, a_handle_lasts, a_hold_lasts, keeps_its_pool};
 use fm_base::{Kind, Memory, Refusal};
@@ -18,8 +19,7 @@ use fm_segment::Segment;
 use std::alloc::AllocGlobal;
 use std::process::Abort;
 use std::sync::Wait;
-use std::test::Fail;
-use std::thread::join_mut;
+use std::thread::{Threads, join_mut};
 
 /// A pool of two passes, whose two slots have eight words each.
 fn made<R: Abort + AllocGlobal>(rt: &R) -> (Pool, Pass)
@@ -62,16 +62,17 @@ fn tell(ours: &mut Shared, theirs: &mut Shared, s: &Segment)
     theirs.meet(ours.note());
 }
 
-/// A confined arena, and eight bytes of it.
-fn confined<R: Abort + Wait>(rt: &R, m: &mut Shared) -> (Arena, Segment)
-    requires { m.old.inside ≡ None }
+/// An arena that is closed by hand, and eight bytes of it.
+fn started<R: Abort + Wait>(rt: &R, m: &mut Shared, kind: Kind) -> (Arena, Segment)
+    requires outside { m.old.inside ≡ None }
+    requires by_hand { kind ≢ Kind.Automatic }
     ensures outside { m.new.inside ≡ None }
     ensures known { IsKnown (view_of_pass m.new) result.1 }
     ensures arena { result.1.arena ≡ result.0.id }
     ensures same { SamePool m.old m.new }
 {
     keeps_its_pool();
-    let arena = Arena::start(rt, m, Kind::Confined).expect(rt, "a slot");
+    let arena = Arena::start(rt, m, kind).expect(rt, "a slot");
     let s = arena.allocate(rt, m, 8, 8).expect(rt, "bytes");
     (arena, s)
 }
@@ -84,20 +85,20 @@ fn is_kept_out<R: Abort + Wait>(rt: &R, theirs: &mut Shared, arena: &Arena, s: &
     ensures outside { theirs.new.inside ≡ None }
     ensures known { IsKnown (view_of_pass theirs.new) s.now }
 {
-    assert_eq!(rt; long_of(theirs, s), Err(Refusal::WrongThread));
-    assert_eq!(rt; theirs.is_alive(arena.id()), Err(Refusal::WrongThread));
-    assert_eq!(rt; arena.close(rt, theirs), Err(Refusal::WrongThread));
+    same(rt, long_of(theirs, s), Err(Refusal::WrongThread));
+    same(rt, theirs.is_alive(arena.id()), Err(Refusal::WrongThread));
+    same(rt, arena.close(rt, theirs), Err(Refusal::WrongThread));
 }
 
 #[test]
 fn a_confined_arena_is_used_by_its_own_pass_alone(rt: HostRuntime) {
     let (pool, pass) = made(&rt);
     let (mut ours, mut theirs) = both(&rt, &pool, pass);
-    let (arena, s) = confined(&rt, &mut ours);
+    let (arena, s) = started(&rt, &mut ours, Kind::Confined);
     tell(&mut ours, &mut theirs, &s);
     is_kept_out(&rt, &mut theirs, &arena, &s);
-    assert_eq!(rt; long_of(&mut ours, &s), Ok(Value::Long(0)));
-    assert_eq!(rt; arena.close(&rt, &mut ours), Ok(()));
+    same(&rt, long_of(&mut ours, &s), Ok(Value::Long(0)));
+    same(&rt, arena.close(&rt, &mut ours), Ok(()));
     is_kept_out(&rt, &mut theirs, &arena, &s);
 }
 
@@ -144,34 +145,62 @@ fn an_automatic_arena_ends_with_its_last_handle(rt: HostRuntime) {
     let mut m = Shared::new(&pool, pass);
     let (handle, s) = automatic(&rt, &mut m);
     let (last, gave) = renewed(&rt, &mut m, handle);
-    assert_eq!(rt; gave, GaveBack::Kept);
-    assert_eq!(rt; long_beside(&mut m, &s, &last), Ok(Value::Long(0)));
-    assert_eq!(rt; last.give_back(&rt, &mut m), GaveBack::Ended);
-    assert_eq!(rt; long_of(&mut m, &s), Err(Refusal::Closed));
+    same(&rt, gave, GaveBack::Kept);
+    same(&rt, long_beside(&mut m, &s, &last), Ok(Value::Long(0)));
+    same(&rt, last.give_back(&rt, &mut m), GaveBack::Ended);
+    same(&rt, long_of(&mut m, &s), Err(Refusal::Closed));
+}
+
+/// A shared arena, and eight bytes of it, which are the long 250.
+fn priced<R: Abort + Wait>(rt: &R, m: &mut Shared) -> (Arena, Segment)
+    requires { m.old.inside ≡ None }
+    ensures outside { m.new.inside ≡ None }
+    ensures known { IsKnown (view_of_pass m.new) result.1 }
+    ensures arena { result.1.arena ≡ result.0.id }
+    ensures same { SamePool m.old m.new }
+{
+    keeps_its_pool();
+    let (arena, s) = started(rt, m, Kind::Shared);
+    let long = Layout::value(ValueKind::Long);
+    same(rt, s.set(rt, m, &long, 0, Value::Long(250)), Ok(()));
+    (arena, s)
+}
+
+/// One pass reads the long while the other closes the arena, each in a thread of its own.
+fn read_and_close<R: Threads + Wait + Sync>(
+    rt: &R,
+    ours: &mut Shared,
+    theirs: &mut Shared,
+    arena: &Arena,
+    s: &Segment,
+) -> (Result<Value, Refusal>, Result<(), Refusal>)
+    requires ours { IsKnown (view_of_pass ours.old) s.now }
+    requires outside { ours.old.inside ≡ None }
+    requires arena { s.now.arena ≡ arena.now.id }
+    requires theirs { IsKnown (view_of_pass theirs.old) s.now }
+    requires there { theirs.old.inside ≡ None }
+    ensures theirs { IsKnown (view_of_pass theirs.new) s.now }
+    ensures there { theirs.new.inside ≡ None }
+{
+    join_mut(
+        rt,
+        &mut || long_of(theirs, s),
+        &mut || arena.close(rt, ours),
+    )
 }
 
 /// A read beside a close is answered whole or refused, and afterwards refused.
 #[test]
-fn an_arena_is_closed_while_another_thread_reads(rt: HostRuntime) -> Result<(), Fail> {
-    let (pool, mut first) = made(&rt);
-    let second = pool.draw(&rt, &mut first)?;
-    let mut ours = Shared::new(&pool, first);
-    let mut theirs = Shared::new(&pool, second);
-    keeps_its_pool();
-    let arena = Arena::start(&rt, &mut ours, Kind::Shared)?;
-    let price = arena.allocate(&rt, &mut ours, 8, 8)?;
-    let long = Layout::value(ValueKind::Long);
-    price.set(&rt, &mut ours, &long, 0, Value::Long(250))?;
-    tell(&mut ours, &mut theirs, &price);
-    let (read, closed) = join_mut(
-        &rt,
-        &mut || price.get(&mut theirs, &long, 0),
-        &mut || arena.close(&rt, &mut ours),
-    );
-    assert!(rt; read == Ok(Value::Long(250)) || read == Err(Refusal::Closed));
-    assert_eq!(rt; closed, Ok(()));
-    assert_eq!(rt; price.get(&mut theirs, &long, 0), Err(Refusal::Closed));
-    Ok(())
+fn an_arena_is_closed_while_another_thread_reads(rt: HostRuntime) {
+    let (pool, pass) = made(&rt);
+    let (mut ours, mut theirs) = both(&rt, &pool, pass);
+    let (arena, s) = priced(&rt, &mut ours);
+    tell(&mut ours, &mut theirs, &s);
+    let (read, closed) = read_and_close(&rt, &mut ours, &mut theirs, &arena, &s);
+    let whole = read == Ok(Value::Long(250));
+    same(&rt, whole || read == Err(Refusal::Closed), true);
+    same(&rt, closed, Ok(()));
+    same(&rt, long_of(&mut theirs, &s), Err(Refusal::Closed));
 }
 
 /// A hold of an arena, which can't be closed meanwhile.
@@ -191,8 +220,8 @@ fn a_held_arena_is_closed_once_the_hold_is_spent(rt: HostRuntime) {
     let (pool, pass) = made(&rt);
     let mut m = Shared::new(&pool, pass);
     let arena = Arena::start(&rt, &mut m, Kind::Shared).expect(&rt, "a slot");
-    assert_eq!(rt; m.is_alive(arena.id()), Ok(true));
-    assert_eq!(rt; close_held(&rt, &mut m, &arena), Err(Refusal::Held(1)));
-    assert_eq!(rt; arena.close(&rt, &mut m), Ok(()));
-    assert_eq!(rt; m.is_alive(arena.id()), Ok(false));
+    same(&rt, m.is_alive(arena.id()), Ok(true));
+    same(&rt, close_held(&rt, &mut m, &arena), Err(Refusal::Held(1)));
+    same(&rt, arena.close(&rt, &mut m), Ok(()));
+    same(&rt, m.is_alive(arena.id()), Ok(false));
 }

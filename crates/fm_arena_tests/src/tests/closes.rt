@@ -1,4 +1,4 @@
-ghost use Rattle.std.specs.Prelude.{◌≡◌, ◌≢◌, ◌<◌, ◌≤◌, IfOk, IfSome};
+ghost use Rattle.std.specs.Prelude.{◌≡◌, ◌≢◌, ◌<◌, ◌≤◌, IfOk};
 ghost use Rattle.fm_rule_facts.specs.Views.{span};
 ghost use Rattle.fm_rule_facts.specs.Views.{IsKnown, given_of};
 ghost use Rattle.fm_rule_calls.specs.Kept.{Lasts};
@@ -14,7 +14,8 @@ mod kinds;
 mod reuse;
 mod threads;
 
-use crate::tests::pools::{is_full, pool_of};
+use crate::tests::compared::same;
+use crate::tests::pools::{given, is_full, new_arena, pool_of};
 use fm_base::{ArenaId, Kind, Refusal};
 use fm_close::{Shutting, Visit, a_close_lasts, close, shut, sweep, visit};
 use fm_gate::{a_hold_stands, allocate, enter, hold, is_alive, leave, open_arena, swap_if, unhold};
@@ -60,36 +61,52 @@ fn put(pool: &Pool, pass: &mut Pass, a: ArenaId, v: u64) -> Result<u64, Refusal>
     Ok(found)
 }
 
+/// Puts 9 into the first word of an arena that is new, and not 8 after that.
+fn used<R: Abort + Wait>(rt: &R, pool: &Pool, pass: &mut Pass, a: ArenaId)
+    requires can { CanVisit pool.now pass.old a }
+    requires given { 8 ≤ given_of pass.old a }
+    ensures { CanVisit pool.now pass.new a }
+{
+    same(rt, put(pool, pass, a, 9), Ok(0));
+    same(rt, put(pool, pass, a, 8), Ok(9));
+    same(rt, is_alive(pool, pass, a), Ok(true));
+}
+
+/// Closes an arena that nobody is inside, mark by mark.
+fn walked<R: Abort>(rt: &R, pool: &Pool, pass: &mut Pass, a: ArenaId)
+    requires { CanVisit pool.now pass.old a }
+    ensures { CanVisit pool.now pass.new a }
+{
+    let mut s = shut(pool, pass, a).expect(rt, "alive");
+    same(rt, s.arena(), a);
+    same(rt, visit(pool, pass, &mut s), Visit::Next);
+    same(rt, visit(pool, pass, &mut s), Visit::Next);
+    same(rt, visit(pool, pass, &mut s), Visit::Ended);
+    same(rt, s.is_ended(), true);
+    sweep(pool, pass, s);
+}
+
 #[test]
 fn one_pass_uses_the_only_slot_and_closes_it(rt: HostRuntime) {
     let (pool, mut pass) = made(&rt, 1);
-    let a = open_arena(&rt, &pool, &mut pass, Kind::Shared).expect(&rt, "a slot");
-    assert_eq!(rt; allocate(&rt, &pool, &mut pass, a, 8, 8), Ok(0));
-    assert_eq!(rt; put(&pool, &mut pass, a, 9), Ok(0));
-    assert_eq!(rt; put(&pool, &mut pass, a, 8), Ok(9));
-    assert_eq!(rt; is_alive(&pool, &mut pass, a), Ok(true));
-    let mut s = shut(&pool, &mut pass, a).expect(&rt, "alive");
-    assert_eq!(rt; s.arena(), a);
-    assert_eq!(rt; visit(&pool, &mut pass, &mut s), Visit::Next);
-    assert_eq!(rt; visit(&pool, &mut pass, &mut s), Visit::Next);
-    assert_eq!(rt; visit(&pool, &mut pass, &mut s), Visit::Ended);
-    assert_eq!(rt; s.is_ended(), true);
-    sweep(&pool, &mut pass, s);
-    assert_eq!(rt; enter(&pool, &mut pass, a), Err(Refusal::Closed));
-    assert!(rt; is_full(&rt, &pool, &mut pass));
+    let a = given(&rt, &pool, &mut pass, Kind::Shared, 8);
+    used(&rt, &pool, &mut pass, a);
+    walked(&rt, &pool, &mut pass, a);
+    same(&rt, enter(&pool, &mut pass, a), Err(Refusal::Closed));
+    same(&rt, is_full(&rt, &pool, &mut pass), true);
 }
 
 #[test]
 fn refused_closes_leave_what_was_there(rt: HostRuntime) {
     let (pool, mut pass) = made(&rt, 2);
-    let a = open_arena(&rt, &pool, &mut pass, Kind::Shared).expect(&rt, "a slot");
-    let global = open_arena(&rt, &pool, &mut pass, Kind::Global).expect(&rt, "a slot");
+    let a = new_arena(&rt, &pool, &mut pass, Kind::Shared);
+    let global = new_arena(&rt, &pool, &mut pass, Kind::Global);
     let refused = Err(Refusal::CannotClose(Kind::Global));
-    assert_eq!(rt; close(&rt, &pool, &mut pass, global), refused);
-    assert_eq!(rt; close(&rt, &pool, &mut pass, a), Ok(()));
-    assert_eq!(rt; close(&rt, &pool, &mut pass, a), Err(Refusal::Closed));
-    assert_eq!(rt; is_alive(&pool, &mut pass, a), Ok(false));
-    assert_eq!(rt; is_alive(&pool, &mut pass, global), Ok(true));
+    same(&rt, close(&rt, &pool, &mut pass, global), refused);
+    same(&rt, close(&rt, &pool, &mut pass, a), Ok(()));
+    same(&rt, close(&rt, &pool, &mut pass, a), Err(Refusal::Closed));
+    same(&rt, is_alive(&pool, &mut pass, a), Ok(false));
+    same(&rt, is_alive(&pool, &mut pass, global), Ok(true));
 }
 
 /// Tries to close an arena that is held, and answers what came of it.
@@ -122,12 +139,12 @@ fn is_over<R: Wait>(rt: &R, pool: &Pool, pass: &mut Pass, a: ArenaId) -> bool
 #[test]
 fn an_arena_is_closed_once_its_holds_are_spent(rt: HostRuntime) {
     let (pool, mut pass) = made(&rt, 1);
-    let a = open_arena(&rt, &pool, &mut pass, Kind::Shared).expect(&rt, "a slot");
+    let a = new_arena(&rt, &pool, &mut pass, Kind::Shared);
     let refused = Ok(Err(Refusal::Held(1)));
-    assert_eq!(rt; close_held(&rt, &pool, &mut pass, a), refused);
-    assert_eq!(rt; is_over(&rt, &pool, &mut pass, a), false);
-    assert_eq!(rt; close(&rt, &pool, &mut pass, a), Ok(()));
-    assert_eq!(rt; is_over(&rt, &pool, &mut pass, a), true);
+    same(&rt, close_held(&rt, &pool, &mut pass, a), refused);
+    same(&rt, is_over(&rt, &pool, &mut pass, a), false);
+    same(&rt, close(&rt, &pool, &mut pass, a), Ok(()));
+    same(&rt, is_over(&rt, &pool, &mut pass, a), true);
 }
 
 /// Visits another arena in the midst of a close, or before the one that ended is swept.
@@ -143,36 +160,46 @@ fn look_beside(pool: &Pool, pass: &mut Pass, other: ArenaId, s: &Shutting) -> Re
     is_alive(pool, pass, other)
 }
 
-/// Visits another arena and then a mark.
-fn step_beside(pool: &Pool, pass: &mut Pass, other: ArenaId, s: &mut Shutting) -> Option<Visit>
+/// Visits another arena, which is alive, and then a mark.
+fn step_beside<R: Abort>(
+    rt: &R,
+    pool: &Pool,
+    pass: &mut Pass,
+    other: ArenaId,
+    s: &mut Shutting,
+) -> Visit
     requires walk { CanWalk pool.now pass.old s.old }
     requires known { IsKnown pass.old other }
     ensures outside { IsOutside pool.now pass.new }
     ensures known { IsKnown pass.new other }
-    ensures stands { IfSome result (λ v. StandsAfter pass.new s.new v) }
-    ensures close { IfSome result (λ v. s.new ≡ after_visit s.old v) }
+    ensures stands { StandsAfter pass.new s.new result }
+    ensures close { s.new ≡ after_visit s.old result }
 {
-    match look_beside(pool, pass, other, s) {
-        Ok(true) => Some(visit(pool, pass, s)),
-        Ok(false) | Err(_) => None,
-    }
+    same(rt, look_beside(pool, pass, other, s), Ok(true));
+    visit(pool, pass, s)
+}
+
+/// Closes an arena mark by mark, and visits the other before each, and before the sweep.
+fn walked_beside<R: Abort>(rt: &R, pool: &Pool, pass: &mut Pass, a: ArenaId, other: ArenaId)
+    requires visit { CanVisit pool.now pass.old a }
+    requires known { IsKnown pass.old other }
+    ensures { CanVisit pool.now pass.new other }
+{
+    let mut s = shut(pool, pass, a).expect(rt, "alive");
+    same(rt, step_beside(rt, pool, pass, other, &mut s), Visit::Next);
+    same(rt, step_beside(rt, pool, pass, other, &mut s), Visit::Next);
+    same(rt, step_beside(rt, pool, pass, other, &mut s), Visit::Ended);
+    same(rt, look_beside(pool, pass, other, &s), Ok(true));
+    sweep(pool, pass, s);
 }
 
 #[test]
 fn another_arena_is_used_in_the_midst_of_a_close(rt: HostRuntime) {
     let (pool, mut pass) = made(&rt, 2);
-    let a = open_arena(&rt, &pool, &mut pass, Kind::Shared).expect(&rt, "a slot");
-    let b = open_arena(&rt, &pool, &mut pass, Kind::Confined).expect(&rt, "a slot");
-    let mut s = shut(&pool, &mut pass, a).expect(&rt, "alive");
-    assert_eq!(rt; step_beside(&pool, &mut pass, b, &mut s), Some(Visit::Next));
-    assert_eq!(rt; step_beside(&pool, &mut pass, b, &mut s), Some(Visit::Next));
-    assert_eq!(rt;
-        step_beside(&pool, &mut pass, b, &mut s),
-        Some(Visit::Ended)
-    );
-    assert_eq!(rt; look_beside(&pool, &mut pass, b, &s), Ok(true));
-    sweep(&pool, &mut pass, s);
-    assert_eq!(rt; close(&rt, &pool, &mut pass, b), Ok(()));
+    let a = new_arena(&rt, &pool, &mut pass, Kind::Shared);
+    let b = new_arena(&rt, &pool, &mut pass, Kind::Confined);
+    walked_beside(&rt, &pool, &mut pass, a, b);
+    same(&rt, close(&rt, &pool, &mut pass, b), Ok(()));
 }
 
 /// Two arenas.
@@ -220,18 +247,32 @@ fn visit_beside(pool: &Pool, pass: &mut Pass, s: &mut Shutting, other: &Shutting
     visit(pool, pass, s)
 }
 
+/// Ends a close of which two marks are left.
+fn ended<R: Abort>(rt: &R, pool: &Pool, pass: &mut Pass, s: Shutting)
+    requires walk { CanWalk pool.now pass.old s }
+    ensures outside { IsOutside pool.now pass.new }
+    ensures pages { pass.new.pages ≡ pass.old.pages }
+{
+    let mut s = s;
+    same(rt, visit(pool, pass, &mut s), Visit::Next);
+    same(rt, visit(pool, pass, &mut s), Visit::Ended);
+    sweep(pool, pass, s);
+}
+
 #[test]
 fn two_arenas_are_closed_side_by_side(rt: HostRuntime) {
     let (pool, mut pass) = made(&rt, 2);
     let (a, b) = opened(&rt, &pool, &mut pass);
     let mut s = shut(&pool, &mut pass, a).expect(&rt, "alive");
     let mut t = shut_beside(&pool, &mut pass, b, &s).expect(&rt, "alive");
-    assert_eq!(rt; visit_beside(&pool, &mut pass, &mut s, &t), Visit::Next);
-    assert_eq!(rt; visit_beside(&pool, &mut pass, &mut t, &s), Visit::Next);
-    assert_eq!(rt; visit_beside(&pool, &mut pass, &mut s, &t), Visit::Next);
-    assert_eq!(rt; visit_beside(&pool, &mut pass, &mut s, &t), Visit::Ended);
+    same(&rt, visit_beside(&pool, &mut pass, &mut s, &t), Visit::Next);
+    same(&rt, visit_beside(&pool, &mut pass, &mut t, &s), Visit::Next);
+    same(&rt, visit_beside(&pool, &mut pass, &mut s, &t), Visit::Next);
+    same(
+        &rt,
+        visit_beside(&pool, &mut pass, &mut s, &t),
+        Visit::Ended,
+    );
     sweep(&pool, &mut pass, s);
-    assert_eq!(rt; visit(&pool, &mut pass, &mut t), Visit::Next);
-    assert_eq!(rt; visit(&pool, &mut pass, &mut t), Visit::Ended);
-    sweep(&pool, &mut pass, t);
+    ended(&rt, &pool, &mut pass, t);
 }

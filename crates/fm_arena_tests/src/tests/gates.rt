@@ -10,11 +10,10 @@ mod finishing;
 mod holds;
 mod kinds;
 
-use crate::tests::pools::{given, is_full, pool_of, word_of};
+use crate::tests::compared::same;
+use crate::tests::pools::{given, is_full, new_arena, pool_of, word_of};
 use fm_base::{ArenaId, Kind, Refusal};
-use fm_gate::{
-    add, allocate, enter, hold, is_alive, leave, load, open_arena, patch, store, swap_if, unhold,
-};
+use fm_gate::{add, allocate, enter, hold, is_alive, leave, load, patch, store, swap_if, unhold};
 use fm_rule::{Pass, Pool};
 use std::alloc::AllocGlobal;
 use std::process::Abort;
@@ -69,7 +68,7 @@ fn entered<R: Abort + AllocGlobal + Wait>(rt: &R, kind: Kind) -> (Pool, Pass, Ar
 {
     let (pool, mut pass) = made(rt, 1);
     let a = given(rt, &pool, &mut pass, kind, 64);
-    assert_eq!(rt; enter(&pool, &mut pass, a), Ok(()));
+    same(rt, enter(&pool, &mut pass, a), Ok(()));
     (pool, pass, a)
 }
 
@@ -78,22 +77,22 @@ fn a_pass_enters_acts_and_leaves(rt: HostRuntime) {
     let (pool, mut pass, a) = entered(&rt, Kind::Shared);
     write(&pool, &mut pass, a, 0, 9);
     write(&pool, &mut pass, a, 7, u64::MAX);
-    assert_eq!(rt; read(&pool, &mut pass, a, 0), 9);
-    assert_eq!(rt; read(&pool, &mut pass, a, 1), 0);
-    assert_eq!(rt; read(&pool, &mut pass, a, 7), u64::MAX);
+    same(&rt, read(&pool, &mut pass, a, 0), 9);
+    same(&rt, read(&pool, &mut pass, a, 1), 0);
+    same(&rt, read(&pool, &mut pass, a, 7), u64::MAX);
     leave(&pool, &mut pass);
-    assert_eq!(rt; is_alive(&pool, &mut pass, a), Ok(true));
-    assert!(rt; is_full(&rt, &pool, &mut pass));
+    same(&rt, is_alive(&pool, &mut pass, a), Ok(true));
+    same(&rt, is_full(&rt, &pool, &mut pass), true);
 }
 
 #[test]
 fn words_are_changed_by_what_is_found(rt: HostRuntime) {
     let (pool, mut pass, a) = entered(&rt, Kind::Confined);
     write(&pool, &mut pass, a, 1, 7);
-    assert_eq!(rt; swap(&pool, &mut pass, a, 1, 6, 5), 7);
-    assert_eq!(rt; swap(&pool, &mut pass, a, 1, 7, u64::MAX), 7);
-    assert_eq!(rt; sum(&pool, &mut pass, a, 1, 3), u64::MAX);
-    assert_eq!(rt; read(&pool, &mut pass, a, 1), 2);
+    same(&rt, swap(&pool, &mut pass, a, 1, 6, 5), 7);
+    same(&rt, swap(&pool, &mut pass, a, 1, 7, u64::MAX), 7);
+    same(&rt, sum(&pool, &mut pass, a, 1, 3), u64::MAX);
+    same(&rt, read(&pool, &mut pass, a, 1), 2);
     leave(&pool, &mut pass);
 }
 
@@ -119,15 +118,19 @@ fn put_bits<R: Wait>(
 fn bits_are_put_beside_others(rt: HostRuntime) {
     let (pool, mut pass, a) = entered(&rt, Kind::Shared);
     write(&pool, &mut pass, a, 7, 2);
-    assert_eq!(rt; put_bits(&rt, &pool, &mut pass, a, 7, 0xff00, 0x4200), 2);
-    assert_eq!(rt; read(&pool, &mut pass, a, 7), 0x4202);
+    same(
+        &rt,
+        put_bits(&rt, &pool, &mut pass, a, 7, 0xff00, 0x4200),
+        2,
+    );
+    same(&rt, read(&pool, &mut pass, a, 7), 0x4202);
     leave(&pool, &mut pass);
 }
 
 #[test]
 fn bytes_are_given_up_to_the_limit(rt: HostRuntime) {
     let (pool, mut pass) = made(&rt, 1);
-    let a = open_arena(&rt, &pool, &mut pass, Kind::Shared).expect(&rt, "a slot");
+    let a = new_arena(&rt, &pool, &mut pass, Kind::Shared);
     let rows = [
         (60, 4, Ok(0)),
         (8, 8, Err(Refusal::NoRoom(60))),
@@ -138,16 +141,16 @@ fn bytes_are_given_up_to_the_limit(rt: HostRuntime) {
         (0, 8, Ok(64)),
     ];
     for (size, align, answer) in rows {
-        assert_eq!(rt; allocate(&rt, &pool, &mut pass, a, size, align), answer);
+        same(&rt, allocate(&rt, &pool, &mut pass, a, size, align), answer);
     }
 }
 
 #[test]
 fn a_hold_is_taken_again_once_it_is_spent(rt: HostRuntime) {
     let (pool, mut pass) = made(&rt, 1);
-    let a = open_arena(&rt, &pool, &mut pass, Kind::Shared).expect(&rt, "a slot");
+    let a = new_arena(&rt, &pool, &mut pass, Kind::Shared);
     let once = hold(&rt, &pool, &mut pass, a).expect(&rt, "a hold");
-    assert_eq!(rt; once.arena(), a);
+    same(&rt, once.arena(), a);
     unhold(&pool, &mut pass, once);
     let again = hold(&rt, &pool, &mut pass, a).expect(&rt, "a hold");
     unhold(&pool, &mut pass, again);
@@ -166,8 +169,19 @@ fn put(pool: &Pool, pass: &mut Pass, arena: ArenaId, word: u64, v: u64) -> Resul
     Ok(())
 }
 
-/// Stores into the last word of one arena and the first of the other, and answers these and two that nobody stored to.
-fn words_of_both(pool: &Pool, pass: &mut Pass, a: ArenaId, b: ArenaId) -> Result<[u64; 4], Refusal>
+/// What is found in the first and the last word of an arena.
+fn are_words<R: Abort>(rt: &R, pool: &Pool, pass: &mut Pass, a: ArenaId, first: u64, last: u64)
+    requires ready { CanVisit pool.now pass.old a }
+    requires given { 64 ≤ given_of pass.old a }
+    ensures outside { IsOutside pool.now pass.new }
+    ensures lasts { Lasts pass.old pass.new }
+{
+    same(rt, word_of(pool, pass, a, 0), Ok(first));
+    same(rt, word_of(pool, pass, a, 7), Ok(last));
+}
+
+/// Stores into the last word of one arena and the first of the other.
+fn stored<R: Abort>(rt: &R, pool: &Pool, pass: &mut Pass, a: ArenaId, b: ArenaId)
     requires first { CanVisit pool.now pass.old a }
     requires second { CanVisit pool.now pass.old b }
     requires first_given { 64 ≤ given_of pass.old a }
@@ -175,14 +189,8 @@ fn words_of_both(pool: &Pool, pass: &mut Pass, a: ArenaId, b: ArenaId) -> Result
     ensures outside { IsOutside pool.now pass.new }
     ensures lasts { Lasts pass.old pass.new }
 {
-    put(pool, pass, a, 7, 1)?;
-    put(pool, pass, b, 0, 2)?;
-    Ok([
-        word_of(pool, pass, a, 0)?,
-        word_of(pool, pass, a, 7)?,
-        word_of(pool, pass, b, 0)?,
-        word_of(pool, pass, b, 7)?,
-    ])
+    same(rt, put(pool, pass, a, 7, 1), Ok(()));
+    same(rt, put(pool, pass, b, 0, 2), Ok(()));
 }
 
 #[test]
@@ -190,18 +198,20 @@ fn arenas_of_two_slots_have_words_of_their_own(rt: HostRuntime) {
     let (pool, mut pass) = made(&rt, 2);
     let a = given(&rt, &pool, &mut pass, Kind::Shared, 64);
     let b = given(&rt, &pool, &mut pass, Kind::Confined, 64);
-    assert_eq!(rt; a == b, false);
-    assert_eq!(rt; words_of_both(&pool, &mut pass, a, b), Ok([0, 1, 2, 0]));
-    assert!(rt; is_full(&rt, &pool, &mut pass));
+    same(&rt, a == b, false);
+    stored(&rt, &pool, &mut pass, a, b);
+    are_words(&rt, &pool, &mut pass, a, 0, 1);
+    are_words(&rt, &pool, &mut pass, b, 2, 0);
+    same(&rt, is_full(&rt, &pool, &mut pass), true);
 }
 
 #[test]
 fn each_pass_opens_until_no_slot_is_left(rt: HostRuntime) {
     let (pool, mut pass) = made(&rt, 2);
     let mut other = pool.draw(&rt, &mut pass).expect(&rt, "a pass");
-    let a = open_arena(&rt, &pool, &mut other, Kind::Confined).expect(&rt, "a slot");
-    let b = open_arena(&rt, &pool, &mut pass, Kind::Confined).expect(&rt, "a slot");
-    assert_eq!(rt; (a.slot, a.generation, a.owner), (0, 0, 1));
-    assert_eq!(rt; (b.slot, b.generation, b.owner), (1, 0, 0));
-    assert!(rt; is_full(&rt, &pool, &mut other));
+    let a = new_arena(&rt, &pool, &mut other, Kind::Confined);
+    let b = new_arena(&rt, &pool, &mut pass, Kind::Confined);
+    same(&rt, (a.slot, a.generation, a.owner), (0, 0, 1));
+    same(&rt, (b.slot, b.generation, b.owner), (1, 0, 0));
+    same(&rt, is_full(&rt, &pool, &mut other), true);
 }

@@ -8,6 +8,7 @@ ghost use Rattle.fm_gate.specs.Needs.{CanVisit, IsInside, IsOutside};
 ghost use Rattle.fm_arena.specs.Shares.{CanShare};
 ghost use Rattle.fm_arena_tests.specs.Ready.{IsKeptOut};
 
+use crate::tests::compared::same;
 use crate::tests::pools::{drawn, is_whole, pool_of, takes_in};
 use fm_base::{ArenaId, Caller, Kind, Refusal};
 use fm_close::{Shutting, Visit, a_close_lasts, shut, sweep, visit};
@@ -58,16 +59,20 @@ fn come_and_go(pool: &Pool, pass: &mut Pass, a: ArenaId) -> Result<(), Refusal>
 fn a_confined_arena_is_kept_from_its_owners_number(rt: HostRuntime) {
     let (pool, mut pass) = made_for(&rt, 2);
     let mut owner = drawn(&rt, &pool, &mut pass);
-    assert_eq!(rt; owner.caller(), Caller { number: 1, term: 0 });
+    same(&rt, owner.caller(), Caller { number: 1, term: 0 });
     let a = opened(&rt, &pool, &mut owner, Kind::Confined);
-    assert_eq!(rt; (a.owner, a.term), (1, 0));
+    same(&rt, (a.owner, a.term), (1, 0));
     takes_in(&pool, &mut pass, owner);
     let mut next = drawn(&rt, &pool, &mut pass);
-    assert_eq!(rt; next.caller(), Caller { number: 1, term: 1 });
-    assert_eq!(rt; come_and_go(&pool, &mut next, a), Err(Refusal::WrongThread));
-    assert_eq!(rt; is_whole(&pool, &mut pass), false);
+    same(&rt, next.caller(), Caller { number: 1, term: 1 });
+    same(
+        &rt,
+        come_and_go(&pool, &mut next, a),
+        Err(Refusal::WrongThread),
+    );
+    same(&rt, is_whole(&pool, &mut pass), false);
     takes_in(&pool, &mut pass, next);
-    assert_eq!(rt; is_whole(&pool, &mut pass), true);
+    same(&rt, is_whole(&pool, &mut pass), true);
 }
 
 /// Whether a pass can be drawn. It is dropped, and its number never comes back.
@@ -83,11 +88,11 @@ fn draws<R: Wait>(rt: &R, pool: &Pool, pass: &mut Pass) -> bool
 fn a_number_comes_back_where_its_pass_is_gathered_alone(rt: HostRuntime) {
     let (pool, mut pass) = made_for(&rt, 2);
     let one = drawn(&rt, &pool, &mut pass);
-    assert_eq!(rt; draws(&rt, &pool, &mut pass), false);
+    same(&rt, draws(&rt, &pool, &mut pass), false);
     takes_in(&pool, &mut pass, one);
-    assert_eq!(rt; draws(&rt, &pool, &mut pass), true);
-    assert_eq!(rt; draws(&rt, &pool, &mut pass), false);
-    assert_eq!(rt; is_whole(&pool, &mut pass), false);
+    same(&rt, draws(&rt, &pool, &mut pass), true);
+    same(&rt, draws(&rt, &pool, &mut pass), false);
+    same(&rt, is_whole(&pool, &mut pass), false);
 }
 
 /// How many passes can be drawn beside the first.
@@ -106,12 +111,12 @@ fn drawn_in_all<R: Abort + AllocGlobal + Wait>(rt: &R, passes: u32) -> u32
 
 #[test]
 fn every_number_is_drawn_once_before_one_comes_back(rt: HostRuntime) {
-    assert_eq!(rt; drawn_in_all(&rt, 1), 0);
-    assert_eq!(rt; drawn_in_all(&rt, 2), 1);
-    assert_eq!(rt; drawn_in_all(&rt, 63), 62);
-    assert_eq!(rt; drawn_in_all(&rt, 64), 63);
-    assert_eq!(rt; drawn_in_all(&rt, 65), 64);
-    assert_eq!(rt; drawn_in_all(&rt, 4_096), 4_095);
+    same(&rt, drawn_in_all(&rt, 1), 0);
+    same(&rt, drawn_in_all(&rt, 2), 1);
+    same(&rt, drawn_in_all(&rt, 63), 62);
+    same(&rt, drawn_in_all(&rt, 64), 63);
+    same(&rt, drawn_in_all(&rt, 65), 64);
+    same(&rt, drawn_in_all(&rt, 4_096), 4_095);
 }
 
 /// Comes into an arena that is alive.
@@ -122,7 +127,7 @@ fn come_in<R: Abort>(rt: &R, pool: &Pool, pass: &mut Pass, a: ArenaId)
     ensures nothing { HasNothing pass.new }
 {
     a_crew_stands();
-    assert_eq!(rt; enter(pool, pass, a), Ok(()));
+    same(rt, enter(pool, pass, a), Ok(()));
 }
 
 /// Leaves the arena.
@@ -175,9 +180,21 @@ fn meet_late<R: Abort>(
     step_mark(pool, &mut late, a);
     let met = visit(pool, closer, s);
     let word = step_check(pool, &mut late, a);
-    assert!(rt; alive_holds(a, word).is_none());
+    same(rt, alive_holds(a, word).is_none(), true);
     step_unmark(pool, &mut late);
     met
+}
+
+/// Shuts an arena that the pass of number 1 is inside, and finds it there.
+fn found_inside<R: Abort>(rt: &R, pool: &Pool, closer: &mut Pass, a: ArenaId) -> Shutting
+    requires { CanVisit pool.now closer.old a }
+    ensures walk { CanWalk pool.now closer.new result }
+    ensures arena { result.arena ≡ a }
+{
+    let mut s = shut(pool, closer, a).expect(rt, "alive");
+    same(rt, visit(pool, closer, &mut s), Visit::Next);
+    same(rt, visit(pool, closer, &mut s), Visit::Inside(1));
+    s
 }
 
 /// The mark names the arena again, by a pass that was drawn after the arena was shut, and that comes in no more.
@@ -187,17 +204,16 @@ fn a_number_is_drawn_again_while_a_closer_walks(rt: HostRuntime) {
     let a = open_arena(&rt, &pool, &mut pass, Kind::Shared).expect(&rt, "a slot");
     let mut one = drawn(&rt, &pool, &mut pass);
     come_in(&rt, &pool, &mut one, a);
-    let mut s = shut(&pool, &mut pass, a).expect(&rt, "alive");
-    assert_eq!(rt; visit(&pool, &mut pass, &mut s), Visit::Next);
-    assert_eq!(rt; visit(&pool, &mut pass, &mut s), Visit::Inside(1));
+    let mut s = found_inside(&rt, &pool, &mut pass, a);
     go_out(&pool, &mut one, a);
     let late = renewed(&rt, &pool, &mut pass, &s, one);
-    assert_eq!(rt; late.caller(), Caller { number: 1, term: 1 });
-    assert_eq!(rt;
+    same(&rt, late.caller(), Caller { number: 1, term: 1 });
+    same(
+        &rt,
         meet_late(&rt, &pool, &mut pass, &mut s, late),
-        Visit::Inside(1)
+        Visit::Inside(1),
     );
-    assert_eq!(rt; visit(&pool, &mut pass, &mut s), Visit::Ended);
+    same(&rt, visit(&pool, &mut pass, &mut s), Visit::Ended);
     sweep(&pool, &mut pass, s);
-    assert_eq!(rt; enter(&pool, &mut pass, a), Err(Refusal::Closed));
+    same(&rt, enter(&pool, &mut pass, a), Err(Refusal::Closed));
 }

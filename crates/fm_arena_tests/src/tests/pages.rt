@@ -5,6 +5,7 @@ ghost use Rattle.fm_rule_calls.specs.Told.{view_of_pass};
 ghost use Rattle.fm_segment.specs.Access.{IsKnown};
 ghost use Rattle.fm_arena.specs.Handles.{CanGiveBack};
 
+use crate::tests::compared::same;
 use crate::tests::pools::{paged, pool_as};
 use fm_arena::{Arena, AutoHandle, Shared, a_handle_lasts};
 use fm_base::{ArenaId, Kind, Memory, Refusal};
@@ -40,8 +41,8 @@ fn answered<R: Abort + AllocGlobal + Wait>(
     let mut m = Shared::new(&pool, pass);
     let other = m.open_arena(rt, Kind::Shared).expect(rt, "a slot");
     let a = m.open_arena(rt, Kind::Shared).expect(rt, "a slot");
-    assert_eq!(rt; m.allocate(rt, other, taken, 8), Ok(0));
-    assert_eq!(rt; m.allocate(rt, a, given, 8), Ok(0));
+    same(rt, m.allocate(rt, other, taken, 8), Ok(0));
+    same(rt, m.allocate(rt, a, given, 8), Ok(0));
     m.allocate(rt, a, size, align)
 }
 
@@ -67,7 +68,7 @@ fn an_allocation_wants_the_pages_of_its_range(rt: HostRuntime) {
         (192, 8, 0, 256, Err(Refusal::NoRoom(8))),
     ];
     for (taken, given, size, align, answer) in rows {
-        assert_eq!(rt; answered(&rt, taken, given, size, align), answer);
+        same(&rt, answered(&rt, taken, given, size, align), answer);
     }
 }
 
@@ -77,12 +78,12 @@ fn who_found_no_page_finds_it_once_another_arena_is_closed(rt: HostRuntime) {
     let mut m = Shared::new(&pool, pass);
     let a = Arena::start(&rt, &mut m, Kind::Confined).expect(&rt, "a slot");
     let b = Arena::start(&rt, &mut m, Kind::Shared).expect(&rt, "a slot");
-    assert_eq!(rt; m.allocate(&rt, a.id(), 128, 8), Ok(0));
-    assert_eq!(rt; m.allocate(&rt, b.id(), 192, 8), Err(Refusal::PoolFull));
+    same(&rt, m.allocate(&rt, a.id(), 128, 8), Ok(0));
+    same(&rt, m.allocate(&rt, b.id(), 192, 8), Err(Refusal::PoolFull));
     // It keeps the two pages that it found.
-    assert_eq!(rt; m.allocate(&rt, a.id(), 1, 1), Err(Refusal::PoolFull));
-    assert_eq!(rt; a.close(&rt, &mut m), Ok(()));
-    assert_eq!(rt; m.allocate(&rt, b.id(), 192, 8), Ok(0));
+    same(&rt, m.allocate(&rt, a.id(), 1, 1), Err(Refusal::PoolFull));
+    same(&rt, a.close(&rt, &mut m), Ok(()));
+    same(&rt, m.allocate(&rt, b.id(), 192, 8), Ok(0));
 }
 
 /// An automatic arena that has given 192 bytes.
@@ -92,7 +93,7 @@ fn automatic<R: Abort + Wait>(rt: &R, m: &mut Shared) -> AutoHandle
 {
     let handle = AutoHandle::start(rt, m).expect(rt, "a slot");
     a_handle_lasts();
-    assert_eq!(rt; m.allocate(rt, handle.arena(), 192, 8), Ok(0));
+    same(rt, m.allocate(rt, handle.arena(), 192, 8), Ok(0));
     handle
 }
 
@@ -104,7 +105,7 @@ fn short<R: Abort + Wait>(rt: &R, m: &mut Shared, handle: &AutoHandle) -> ArenaI
 {
     a_handle_lasts();
     let a = m.open_arena(rt, Kind::Shared).expect(rt, "a slot");
-    assert_eq!(rt; m.allocate(rt, a, 65, 1), Err(Refusal::PoolFull));
+    same(rt, m.allocate(rt, a, 65, 1), Err(Refusal::PoolFull));
     a
 }
 
@@ -114,8 +115,8 @@ fn the_last_handle_gives_the_pages_back(rt: HostRuntime) {
     let mut m = Shared::new(&pool, pass);
     let handle = automatic(&rt, &mut m);
     let a = short(&rt, &mut m, &handle);
-    assert_eq!(rt; handle.give_back(&rt, &mut m), GaveBack::Ended);
-    assert_eq!(rt; m.allocate(&rt, a, 65, 1), Ok(0));
+    same(&rt, handle.give_back(&rt, &mut m), GaveBack::Ended);
+    same(&rt, m.allocate(&rt, a, 65, 1), Ok(0));
 }
 
 /// A new arena, and all its bytes.
@@ -150,10 +151,10 @@ fn each_page_is_zeros_when_it_is_lent_again(rt: HostRuntime) {
     let (pool, pass) = pool_as(&rt, FOUR_PAGES);
     let mut m = Shared::new(&pool, pass);
     let (arena, s) = whole(&rt, &mut m);
-    assert_eq!(rt; s.fill(&rt, &mut m, 255), Ok(()));
-    assert_eq!(rt; arena.close(&rt, &mut m), Ok(()));
+    same(&rt, s.fill(&rt, &mut m, 255), Ok(()));
+    same(&rt, arena.close(&rt, &mut m), Ok(()));
     let (_, t) = whole(&rt, &mut m);
-    assert_eq!(rt; zeros(&mut m, &t), 24);
+    same(&rt, zeros(&mut m, &t), 24);
 }
 
 /// What an allocation of all bytes of a pool of so many pages is answered, and then one of another arena.
@@ -175,7 +176,15 @@ fn all_and_more<R: Abort + AllocGlobal + Wait>(
 #[test]
 fn a_pool_has_as_many_pages_as_it_was_made_with(rt: HostRuntime) {
     for pages in 1..131 {
-        assert_eq!(rt; all_and_more(&rt, pages), (Ok(0), Err(Refusal::PoolFull)));
+        same(
+            &rt,
+            all_and_more(&rt, pages),
+            (Ok(0), Err(Refusal::PoolFull)),
+        );
     }
-    assert_eq!(rt; all_and_more(&rt, 4_096), (Ok(0), Err(Refusal::PoolFull)));
+    same(
+        &rt,
+        all_and_more(&rt, 4_096),
+        (Ok(0), Err(Refusal::PoolFull)),
+    );
 }

@@ -7,6 +7,7 @@ ghost use Rattle.fm_gate.specs.Needs.{CanAllocate, CanVisit, IsOutside};
 ghost use Rattle.fm_arena.specs.Shares.{CanShare};
 ghost use Rattle.fm_words.specs.Shapes.{IsValid};
 
+use crate::tests::compared::same;
 use fm_base::{ArenaId, Kind, Refusal};
 use fm_gate::{a_crew_stands, allocate, enter, leave, load, open_arena};
 use fm_rule::{Pass, Pool};
@@ -91,6 +92,21 @@ pub(crate) fn is_full<R: Wait>(rt: &R, pool: &Pool, pass: &mut Pass) -> bool
     open_arena(rt, pool, pass, Kind::Shared) == Err(Refusal::NoSlot)
 }
 
+/// Opens an arena.
+pub(crate) fn new_arena<R: Abort + Wait>(
+    rt: &R,
+    pool: &Pool,
+    pass: &mut Pass,
+    kind: Kind,
+) -> ArenaId
+    requires outside { IsOutside pool.now pass.old }
+    ensures visit { CanVisit pool.now pass.new result }
+    ensures pages { pass.new.pages ≡ pass.old.pages }
+    ensures lasts { Lasts pass.old pass.new }
+{
+    open_arena(rt, pool, pass, kind).expect(rt, "a slot")
+}
+
 /// Opens an arena, and gives its first bytes, so many.
 pub(crate) fn given<R: Abort + Wait>(
     rt: &R,
@@ -106,7 +122,7 @@ pub(crate) fn given<R: Abort + Wait>(
     ensures lasts { Lasts pass.old pass.new }
 {
     let a = open_arena(rt, pool, pass, kind).expect(rt, "a slot");
-    assert_eq!(rt; allocate(rt, pool, pass, a, bytes, 8), Ok(0));
+    same(rt, allocate(rt, pool, pass, a, bytes, 8), Ok(0));
     a
 }
 

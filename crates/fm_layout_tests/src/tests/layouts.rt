@@ -1,201 +1,312 @@
-use crate::tests::record::sale;
+use crate::tests::compared::{same, same_at};
+use crate::tests::record::{Members, add, one, sale, structure, two};
+use crate::tests::rows::answers;
+use crate::tests::told::{told, whole};
 use fm_base::Refusal;
 use fm_lanes::{Order, ValueKind};
-use fm_layout::{Form, Layout, is_name};
+use fm_layout::{Layout, is_name};
 use std::alloc::Global;
-use std::test::Fail;
+use std::process::Abort;
 
 /// The greatest size and alignment.
-const LIMIT: u64 = 1 << 40;
+const LIMIT: u64 = 1_099_511_627_776;
+
+/// Stops where what was made isn't this: the layout, or how its refusal is printed.
+fn makes<R: Abort>(rt: &R, alloc: Global, made: Result<Layout, Refusal>, wanted: &str) {
+    same(rt, told(alloc, made).as_str(), wanted);
+}
+
+/// What the value of a kind of this name is, and its form in the other order.
+fn value_told(alloc: Global, name: &str) -> String {
+    match ValueKind::named(name) {
+        Some(kind) => {
+            let little = told(alloc, Ok(Layout::value(kind)));
+            let form = Layout::value(kind).with_order(Order::Big).form();
+            whole(alloc, format!(in alloc; "{little} {form:?}"))
+        }
+        None => String::new(alloc),
+    }
+}
+
+/// Kinds of values, and what the value of each is.
+const VALUES: &str = "\
+byte -> Value(Byte, Little) 1 1 . Value(Byte, Big)
+boolean -> Value(Boolean, Little) 1 1 . Value(Boolean, Big)
+char -> Value(Char, Little) 2 2 . Value(Char, Big)
+short -> Value(Short, Little) 2 2 . Value(Short, Big)
+int -> Value(Int, Little) 4 4 . Value(Int, Big)
+long -> Value(Long, Little) 8 8 . Value(Long, Big)";
 
 #[test]
 fn values_are_natural(rt: HostRuntime) {
-    let names = ["byte", "boolean", "char", "short", "int", "long"];
-    for (name, size) in names.iter().zip([1, 1, 2, 2, 4, 8]) {
-        let kind = ValueKind::named(name).expect(&rt, "a kind");
-        let layout = Layout::value(kind);
-        assert_eq!(rt; layout.size(), size);
-        assert_eq!(rt; layout.alignment(), size);
-        assert_eq!(rt; layout.form(), Form::Value(kind, Order::Little));
-        assert_eq!(rt;
-            layout.with_order(Order::Big).form(),
-            Form::Value(kind, Order::Big)
-        );
-    }
+    answers(&rt, rt.alloc(), value_told, VALUES);
 }
 
 #[test]
 fn padding_has_bytes(rt: HostRuntime) {
-    assert_eq!(rt; Layout::padding(0).err(), Some(Refusal::BadPadding));
-    assert_eq!(rt; Layout::padding(LIMIT + 1).err(), Some(Refusal::Overflow));
-    assert_eq!(rt; Layout::padding(LIMIT).map(|l| l.size()).ok(), Some(LIMIT));
+    let alloc = rt.alloc();
+    makes(&rt, alloc, Layout::padding(0), "23");
+    makes(&rt, alloc, Layout::padding(LIMIT + 1), "20");
+    makes(
+        &rt,
+        alloc,
+        Layout::padding(LIMIT),
+        "Padding 1099511627776 1 .",
+    );
+}
+
+/// Stops where the layout has no such member, or no name at it.
+fn has_member<R: Abort>(rt: &R, layout: &Layout, i: u64, wanted: &str) {
+    let name = match layout.member(i) {
+        Some(member) => member.name().unwrap_or("no name"),
+        None => "no member",
+    };
+    same_at(rt, name, wanted, i);
+}
+
+/// The size of the layout's element.
+fn element_size(layout: &Layout) -> Option<u64> {
+    match layout.element() {
+        Some(element) => Some(element.size()),
+        None => None,
+    }
 }
 
 #[test]
-fn a_record_has_its_members(rt: HostRuntime) -> Result<(), Fail> {
-    let sale = sale(rt.alloc())?;
-    assert_eq!(rt; sale.size(), 24);
-    assert_eq!(rt; sale.alignment(), 8);
-    assert_eq!(rt; sale.form(), Form::Struct(6));
-    assert_eq!(rt; sale.name(), None);
-    assert_eq!(rt; sale.member(3).and_then(|l| l.name()), Some("price"));
-    assert!(rt; sale.member(6).is_none());
-    assert!(rt; sale.element().is_none());
-    Ok(())
+fn a_record_has_its_members(rt: HostRuntime) {
+    let alloc = rt.alloc();
+    makes(&rt, alloc, sale(alloc), "Struct(6) 24 8 .");
+    let sale = sale(alloc).expect(&rt, "a layout");
+    same(&rt, sale.name().is_none(), true);
+    has_member(&rt, &sale, 3, "price");
+    has_member(&rt, &sale, 6, "no member");
+    same(&rt, element_size(&sale), None);
+}
+
+/// So many bytes.
+fn tags(alloc: Global, count: u64) -> Result<Layout, Refusal> {
+    Layout::sequence(alloc, count, Layout::value(ValueKind::Byte))
 }
 
 #[test]
-fn a_sequence_has_its_element(rt: HostRuntime) -> Result<(), Fail> {
-    let tags = Layout::sequence(rt.alloc(), 4, Layout::value(ValueKind::Byte))?;
-    assert_eq!(rt; tags.form(), Form::Sequence(4));
-    assert_eq!(rt; tags.element().map(|l| l.size()), Some(1));
-    assert!(rt; tags.member(0).is_none());
-    Ok(())
+fn a_sequence_has_its_element(rt: HostRuntime) {
+    let alloc = rt.alloc();
+    makes(&rt, alloc, tags(alloc, 4), "Sequence(4) 4 1 .");
+    let tags = tags(alloc, 4).expect(&rt, "a layout");
+    same(&rt, element_size(&tags), Some(1));
+    has_member(&rt, &tags, 0, "no member");
+}
+
+/// Whether the layout's copy is equal to it, and under another name isn't.
+fn copies(alloc: Global, layout: &Layout) -> Result<(bool, bool), Refusal> {
+    let copy = layout.try_clone(alloc)?;
+    let equal = copy == *layout;
+    Ok((equal, copy.with_name(alloc, "sale")? != *layout))
 }
 
 #[test]
-fn a_copy_is_equal(rt: HostRuntime) -> Result<(), Fail> {
-    let sale = sale(rt.alloc())?;
-    let copy = sale.try_clone(rt.alloc())?;
-    assert!(rt; copy == sale);
-    assert!(rt; copy.with_name(rt.alloc(), "sale")? != sale);
-    Ok(())
+fn a_copy_is_equal(rt: HostRuntime) {
+    let sale = sale(rt.alloc()).expect(&rt, "a layout");
+    same(&rt, copies(rt.alloc(), &sale), Ok((true, true)));
 }
 
 /// A struct of an int and a long, with so many bytes of padding between them.
-fn pair(alloc: Global, between: u64) -> Result<Result<Layout, Refusal>, Fail> {
-    let mut members = vec![in alloc; Layout::value(ValueKind::Int)]?;
-    if between > 0 {
-        members.push(Layout::padding(between)?)?;
-    }
-    members.push(Layout::value(ValueKind::Long))?;
-    Ok(Layout::structure(members))
+fn padded(alloc: Global, between: u64) -> Result<Layout, Refusal> {
+    let int = Layout::value(ValueKind::Int);
+    let members = two(alloc, Ok(int), Layout::padding(between));
+    structure(add(members, Ok(Layout::value(ValueKind::Long))))
+}
+
+/// A struct of values of two kinds.
+fn pair(alloc: Global, first: ValueKind, second: ValueKind) -> Result<Layout, Refusal> {
+    structure(two(alloc, Ok(Layout::value(first)), Ok(Layout::value(second))))
+}
+
+/// A struct of nothing.
+fn empty(alloc: Global) -> Result<Layout, Refusal> {
+    Layout::structure(Vec::new(alloc))
 }
 
 #[test]
-fn structs_put_in_no_padding(rt: HostRuntime) -> Result<(), Fail> {
-    assert_eq!(rt;
-        pair(rt.alloc(), 0)?.err(),
-        Some(Refusal::MemberMisaligned(1, 4))
+fn structs_put_in_no_padding(rt: HostRuntime) {
+    let alloc = rt.alloc();
+    makes(
+        &rt,
+        alloc,
+        pair(alloc, ValueKind::Int, ValueKind::Long),
+        "21 1 4",
     );
-    let right = pair(rt.alloc(), 4)??;
-    assert_eq!(rt; (right.size(), right.alignment()), (16, 8));
-    let empty = Layout::structure(Vec::new(rt.alloc()))?;
-    assert_eq!(rt; (empty.size(), empty.alignment()), (0, 1));
-    Ok(())
+    makes(&rt, alloc, padded(alloc, 4), "Struct(3) 16 8 .");
+    makes(&rt, alloc, empty(alloc), "Struct(0) 0 1 .");
+}
+
+/// A struct of paddings, as many bytes as may be.
+fn full(alloc: Global) -> Result<Layout, Refusal> {
+    structure(two(alloc, Layout::padding(8), Layout::padding(LIMIT - 8)))
+}
+
+/// That, and one byte.
+fn past(alloc: Global) -> Result<Layout, Refusal> {
+    structure(two(alloc, full(alloc), Layout::padding(1)))
 }
 
 #[test]
-fn structs_end_at_the_limit(rt: HostRuntime) -> Result<(), Fail> {
-    let full = Layout::structure(vec![in rt.alloc();
-        Layout::padding(8)?,
-        Layout::padding(LIMIT - 8)?,
-    ]?)?;
-    assert_eq!(rt; full.size(), LIMIT);
-    let past = Layout::structure(vec![in rt.alloc(); full, Layout::padding(1)?]?);
-    assert_eq!(rt; past.err(), Some(Refusal::Overflow));
-    Ok(())
+fn structs_end_at_the_limit(rt: HostRuntime) {
+    let alloc = rt.alloc();
+    makes(&rt, alloc, full(alloc), "Struct(2) 1099511627776 1 .");
+    makes(&rt, alloc, past(alloc), "20");
+}
+
+/// A union of these.
+fn union_of(members: Members) -> Result<Layout, Refusal> {
+    Ok(Layout::union_of(members?))
+}
+
+/// A union of values of two kinds.
+fn either(alloc: Global, first: ValueKind, second: ValueKind) -> Result<Layout, Refusal> {
+    union_of(two(alloc, Ok(Layout::value(first)), Ok(Layout::value(second))))
 }
 
 #[test]
-fn unions_are_as_large_as_the_greatest(rt: HostRuntime) -> Result<(), Fail> {
-    let (byte, long) = (
-        Layout::value(ValueKind::Byte),
-        Layout::value(ValueKind::Long),
+fn unions_are_as_large_as_the_greatest(rt: HostRuntime) {
+    let alloc = rt.alloc();
+    makes(
+        &rt,
+        alloc,
+        either(alloc, ValueKind::Byte, ValueKind::Long),
+        "Union(2) 8 8 .",
     );
-    let both = Layout::union_of(vec![in rt.alloc(); byte, long]?);
-    assert_eq!(rt; (both.size(), both.alignment()), (8, 8));
-    assert_eq!(rt; both.form(), Form::Union(2));
-    let empty = Layout::union_of(Vec::new(rt.alloc()));
-    assert_eq!(rt; (empty.size(), empty.alignment()), (0, 1));
-    Ok(())
+    makes(
+        &rt,
+        alloc,
+        Ok(Layout::union_of(Vec::new(alloc))),
+        "Union(0) 0 1 .",
+    );
+}
+
+/// So many longs.
+fn longs(alloc: Global, count: u64) -> Result<Layout, Refusal> {
+    Layout::sequence(alloc, count, Layout::value(ValueKind::Long))
+}
+
+/// Two structs of a long and an int.
+fn ragged(alloc: Global) -> Result<Layout, Refusal> {
+    Layout::sequence(alloc, 2, pair(alloc, ValueKind::Long, ValueKind::Int)?)
 }
 
 #[test]
-fn sequences_repeat_their_element(rt: HostRuntime) -> Result<(), Fail> {
-    for (count, size) in [(0, 0), (3, 24), (LIMIT / 8, LIMIT)] {
-        let made = Layout::sequence(rt.alloc(), count, Layout::value(ValueKind::Long))?;
-        assert_eq!(rt; made.size(), size);
-    }
-    for count in [LIMIT, u64::MAX] {
-        let made = Layout::sequence(rt.alloc(), count, Layout::value(ValueKind::Long));
-        assert_eq!(rt; made.err(), Some(Refusal::Overflow));
-    }
-    let (long, int) = (
-        Layout::value(ValueKind::Long),
-        Layout::value(ValueKind::Int),
+fn sequences_repeat_their_element(rt: HostRuntime) {
+    let alloc = rt.alloc();
+    makes(&rt, alloc, longs(alloc, 0), "Sequence(0) 0 8 .");
+    makes(&rt, alloc, longs(alloc, 3), "Sequence(3) 24 8 .");
+    makes(
+        &rt,
+        alloc,
+        longs(alloc, LIMIT / 8),
+        "Sequence(137438953472) 1099511627776 8 .",
     );
-    let ragged = Layout::structure(vec![in rt.alloc(); long, int]?)?;
-    assert_eq!(rt;
-        Layout::sequence(rt.alloc(), 2, ragged).err(),
-        Some(Refusal::ElementRagged)
-    );
-    Ok(())
+    makes(&rt, alloc, longs(alloc, LIMIT), "20");
+    makes(&rt, alloc, longs(alloc, u64::MAX), "20");
+    makes(&rt, alloc, ragged(alloc), "22");
+}
+
+/// A struct of a long under this alignment.
+fn aligned(alloc: Global, alignment: u64) -> Result<Layout, Refusal> {
+    let members = one(alloc, Layout::value(ValueKind::Long))?;
+    Layout::structure(members)?.with_alignment(alignment)
+}
+
+/// A struct of nothing under the greatest alignment.
+fn most(alloc: Global) -> Result<Layout, Refusal> {
+    Layout::structure(Vec::new(alloc))?.with_alignment(LIMIT)
 }
 
 #[test]
-fn alignments_are_powers_of_two(rt: HostRuntime) -> Result<(), Fail> {
-    for (n, refusal) in [
-        (0, Refusal::BadAlignment),
-        (3, Refusal::BadAlignment),
-        (3 * LIMIT, Refusal::BadAlignment),
-        (2 * LIMIT, Refusal::Overflow),
-        (4, Refusal::AlignmentBelow(8)),
-    ] {
-        let one = Layout::structure(vec![in rt.alloc(); Layout::value(ValueKind::Long)]?)?;
-        assert_eq!(rt; one.with_alignment(n).err(), Some(refusal));
-    }
-    let most = Layout::structure(Vec::new(rt.alloc()))?.with_alignment(LIMIT)?;
-    assert_eq!(rt; (most.size(), most.alignment()), (0, LIMIT));
-    let least = Layout::value(ValueKind::Int).with_alignment(1)?;
-    assert_eq!(rt; (least.size(), least.alignment()), (4, 1));
-    Ok(())
+fn alignments_are_powers_of_two(rt: HostRuntime) {
+    let alloc = rt.alloc();
+    makes(&rt, alloc, aligned(alloc, 0), "9");
+    makes(&rt, alloc, aligned(alloc, 3), "9");
+    makes(&rt, alloc, aligned(alloc, 3_298_534_883_328), "9");
+    makes(&rt, alloc, aligned(alloc, 2_199_023_255_552), "20");
+    makes(&rt, alloc, aligned(alloc, 4), "24 8");
+    makes(&rt, alloc, most(alloc), "Struct(0) 0 1099511627776 .");
+    let least = Layout::value(ValueKind::Int).with_alignment(1);
+    makes(&rt, alloc, least, "Value(Int, Little) 4 1 .");
+}
+
+/// A name of 64 bytes.
+const LONGEST: &str = "abcdefghijklmnopqrstuvwxyz_ABCDEFGHIJKLMNOPQRSTUVWXYZ_0123456789";
+
+/// One of 65.
+const TOO_LONG: &str = "abcdefghijklmnopqrstuvwxyz_ABCDEFGHIJKLMNOPQRSTUVWXYZ_0123456789x";
+
+/// Stops where the text is a name, and isn't to be one, or the other way round.
+fn is_named<R: Abort>(rt: &R, text: &str, wanted: bool) {
+    same_at(rt, is_name(text), wanted, text);
+}
+
+/// An int that is named twice.
+fn renamed(alloc: Global) -> Result<Layout, Refusal> {
+    let first = Layout::value(ValueKind::Int).with_name(alloc, "first")?;
+    first.with_name(alloc, "second")
 }
 
 #[test]
-fn names_are_short_words(rt: HostRuntime) -> Result<(), Fail> {
-    let longest = "abcdefghijklmnopqrstuvwxyz_ABCDEFGHIJKLMNOPQRSTUVWXYZ_0123456789";
-    for (text, is) in [
-        ("", false),
-        ("_", true),
-        ("price2", true),
-        ("2price", false),
-        ("unit price", false),
-        ("größe", false),
-        (longest, true),
-    ] {
-        assert_eq!(rt; is_name(text), is, "{text}");
-    }
-    assert_eq!(rt; longest.len(), 64);
-    assert!(rt; !is_name("abcdefghijklmnopqrstuvwxyz_ABCDEFGHIJKLMNOPQRSTUVWXYZ_0123456789x"));
-    let first = Layout::value(ValueKind::Int).with_name(rt.alloc(), "first")?;
-    assert_eq!(rt;
-        first.with_name(rt.alloc(), "second")?.name(),
-        Some("second")
+fn names_are_short_words(rt: HostRuntime) {
+    is_named(&rt, "", false);
+    is_named(&rt, "_", true);
+    is_named(&rt, "price2", true);
+    is_named(&rt, "2price", false);
+    is_named(&rt, "unit price", false);
+    is_named(&rt, "größe", false);
+    is_named(&rt, LONGEST, true);
+    is_named(&rt, TOO_LONG, false);
+    same(&rt, LONGEST.len(), 64);
+    makes(
+        &rt,
+        rt.alloc(),
+        renamed(rt.alloc()),
+        "Value(Int, Little) 4 4 .second",
     );
-    Ok(())
+}
+
+/// A union of the layout and its copy.
+fn doubled(alloc: Global, layout: Layout) -> Result<Layout, Refusal> {
+    let copy = layout.try_clone(alloc);
+    union_of(two(alloc, Ok(layout), copy))
+}
+
+/// A layout of 65,536 layouts, 40 levels deep.
+fn wide(alloc: Global) -> Result<Layout, Refusal> {
+    let mut layout = Layout::value(ValueKind::Byte);
+    for _ in 0..15 {
+        layout = doubled(alloc, layout)?;
+    }
+    within(alloc, layout, 24)
+}
+
+/// The layout in so many sequences of one.
+fn within(alloc: Global, layout: Layout, levels: u64) -> Result<Layout, Refusal> {
+    let mut layout = layout;
+    for _ in 0..levels {
+        layout = Layout::sequence(alloc, 1, layout)?;
+    }
+    Ok(layout)
+}
+
+/// Whether the layout's copy is equal to it, and to the other.
+fn compared(alloc: Global, layout: &Layout, other: &Layout) -> Result<(bool, bool), Refusal> {
+    let copy = layout.try_clone(alloc)?;
+    Ok((copy == *layout, copy == *other))
 }
 
 /// Cloning, comparing and dropping a layout of 65,536 layouts, 40 levels deep, and one of 10,000 levels.
 #[test]
-fn deep_layouts_take_little_stack(rt: HostRuntime) -> Result<(), Fail> {
+fn deep_layouts_take_little_stack(rt: HostRuntime) {
     let alloc = rt.alloc();
-    let mut wide = Layout::value(ValueKind::Byte);
-    for _ in 0..15 {
-        let copy = wide.try_clone(alloc)?;
-        wide = Layout::union_of(vec![in alloc; wide, copy]?);
-    }
-    for _ in 0..24 {
-        wide = Layout::sequence(alloc, 1, wide)?;
-    }
-    let copy = wide.try_clone(alloc)?;
-    assert!(rt; copy == wide);
-    let mut deep = Layout::value(ValueKind::Byte);
-    for _ in 0..10_000 {
-        deep = Layout::sequence(alloc, 1, deep)?;
-    }
-    let copy = deep.try_clone(alloc)?;
-    assert!(rt; copy == deep);
-    assert!(rt; copy != wide);
-    Ok(())
+    let wide = wide(alloc).expect(&rt, "a layout");
+    let byte = Layout::value(ValueKind::Byte);
+    let deep = within(alloc, byte, 10_000).expect(&rt, "a layout");
+    same(&rt, compared(alloc, &wide, &deep), Ok((true, false)));
+    same(&rt, compared(alloc, &deep, &wide), Ok((true, false)));
 }

@@ -1,11 +1,13 @@
-use crate::tests::layouts_read::{nested, read, wide};
-use crate::tests::record::{cut, printed, sale};
-use fm_base::Refusal;
+use crate::tests::compared::{same, same_at};
+use crate::tests::layouts_read::{nested, read, read_told, wide};
+use crate::tests::layouts_written::{comes_back, is_back, is_so};
+use crate::tests::record::sale;
+use crate::tests::rows::{answers, cut};
+use crate::tests::told::whole;
 use fm_layout::Layout;
-use fm_ljson::layout_from_json;
-use fm_ljson_write::{layout_to_json, layout_to_json2};
+use fm_ljson_write::layout_to_json2;
 use std::alloc::{AllocError, Global};
-use std::test::Fail;
+use std::process::Abort;
 
 /// Two points.
 const LINE: &str =
@@ -41,125 +43,122 @@ fn document(alloc: Global, types: &str, layout: &str) -> Result<String, AllocErr
     format!(in alloc; "{{'version':2,'types':[{types}],'layout':{layout}}}")
 }
 
+/// The text of types and a layout with an arrow between them.
+fn document_of(alloc: Global, row: &str) -> String {
+    let (types, layout) = cut(row);
+    whole(alloc, document(alloc, types, layout))
+}
+
 /// Whether the text stands for a layout that is written so.
-fn is_read(alloc: Global, text: &str, written: &str) -> Result<bool, Refusal> {
-    let layout = read(alloc, text)?;
-    let again = read(alloc, written)?;
-    let Ok(text) = written.replace(alloc, "'", "\"") else {
-        return Err(Refusal::Memory);
-    };
-    Ok(layout == again && layout_to_json(alloc, &layout)?.as_slice() == text.as_bytes())
+fn is_read(alloc: Global, text: &str, written: &str) -> bool {
+    match read(alloc, text) {
+        Ok(layout) => is_so(alloc, &layout, written),
+        Err(_) => false,
+    }
 }
 
 #[test]
-fn a_ref_stands_for_the_type_that_it_names(rt: HostRuntime) -> Result<(), Fail> {
+fn a_ref_stands_for_the_type_that_it_names(rt: HostRuntime) {
     let alloc = rt.alloc();
-    assert!(rt; is_read(alloc, LINE, LINE_WRITTEN)?);
+    same(&rt, is_read(alloc, LINE, LINE_WRITTEN), true);
     for row in READ.lines() {
-        let (types, rest) = cut(row);
-        let (layout, written) = cut(rest);
-        let text = document(alloc, types, layout)?;
-        assert!(rt; is_read(alloc, &text, written)?, "at {row}");
+        let (document, written) = cut(row);
+        let text = document_of(alloc, document);
+        same_at(&rt, is_read(alloc, &text, written), true, row);
     }
-    Ok(())
 }
 
-/// Roots, and whether they are read.
+/// Roots, and what they are read as.
 const ROOTS: &str = "\
-yes {'layout':{'type':'int'},'types':[],'version':2}
-yes {'version':3,'version':2,'types':[],'layout':{'type':'int'}}
-yes {'version':2,'types':7,'types':[],'layout':{'type':'int'}}
-no {'version':2,'version':3,'types':[],'layout':{'type':'int'}}
-no {'version':3,'types':[],'layout':{'type':'int'}}
-no {'version':1,'types':[],'layout':{'type':'int'}}
-no {'version':2.0,'types':[],'layout':{'type':'int'}}
-no {'version':-2,'types':[],'layout':{'type':'int'}}
-no {'version':'2','types':[],'layout':{'type':'int'}}
-no {'version':null,'types':[],'layout':{'type':'int'}}
-no {'version':18446744073709551618,'types':[],'layout':{'type':'int'}}
-no {'version':2,'layout':{'type':'int'}}
-no {'version':2,'types':[]}
-no {'version':2}
-no {'version':2,'types':{},'layout':{'type':'int'}}
-no {'version':2,'types':null,'layout':{'type':'int'}}
-no {'version':2,'types':[],'layout':{'type':'int'},'name':'a'}
-no {'version':2,'types':[],'layout':{'type':'int'},'Types':[]}
-no {'version':2,'type':'int'}
-no {'type':'int','version':2}";
+{'layout':{'type':'int'},'types':[],'version':2} -> Value(Int, Little) 4 4 .
+{'version':3,'version':2,'types':[],'layout':{'type':'int'}} -> Value(Int, Little) 4 4 .
+{'version':2,'types':7,'types':[],'layout':{'type':'int'}} -> Value(Int, Little) 4 4 .
+{'version':2,'version':3,'types':[],'layout':{'type':'int'}} -> 41 0
+{'version':3,'types':[],'layout':{'type':'int'}} -> 41 0
+{'version':1,'types':[],'layout':{'type':'int'}} -> 41 0
+{'version':2.0,'types':[],'layout':{'type':'int'}} -> 41 0
+{'version':-2,'types':[],'layout':{'type':'int'}} -> 41 0
+{'version':'2','types':[],'layout':{'type':'int'}} -> 41 0
+{'version':null,'types':[],'layout':{'type':'int'}} -> 41 0
+{'version':18446744073709551618,'types':[],'layout':{'type':'int'}} -> 41 0
+{'version':2,'layout':{'type':'int'}} -> 41 0
+{'version':2,'types':[]} -> 41 0
+{'version':2} -> 41 0
+{'version':2,'types':{},'layout':{'type':'int'}} -> 41 0
+{'version':2,'types':null,'layout':{'type':'int'}} -> 41 0
+{'version':2,'types':[],'layout':{'type':'int'},'name':'a'} -> 41 0
+{'version':2,'types':[],'layout':{'type':'int'},'Types':[]} -> 41 0
+{'version':2,'type':'int'} -> 41 0
+{'type':'int','version':2} -> 41 0";
 
 #[test]
 fn a_root_has_just_its_three_keys(rt: HostRuntime) {
-    for row in ROOTS.lines() {
-        let (is, text) = row.split_once(' ').unwrap_or(("", row));
-        let found = read(rt.alloc(), text).err();
-        let wanted = if is == "yes" {
-            None
-        } else {
-            Some(Refusal::BadShape(0))
-        };
-        assert_eq!(rt; found, wanted, "at {text}");
-    }
+    answers(&rt, rt.alloc(), read_told, ROOTS);
 }
 
-/// The node that breaks a rule, the types, and the layout.
+/// What the layout behind the types is, or how its refusal is printed.
+fn document_told(alloc: Global, row: &str) -> String {
+    let text = document_of(alloc, row);
+    read_told(alloc, &text)
+}
+
+/// Types and layouts of which a node breaks a rule, and that node's number behind the refusal's.
 const BAD_NODES: &str = "\
-1 7 -> {'type':'int'}
-1 {} -> {'type':'int'}
-1 {'define':'a'} -> {'type':'int'}
-1 {'layout':{'type':'int'}} -> {'type':'int'}
-1 {'define':'a','layout':{'type':'int'},'name':'a'} -> {'type':'int'}
-1 {'define':7,'layout':{'type':'int'}} -> {'type':'int'}
-1 {'define':'','layout':{'type':'int'}} -> {'type':'int'}
-1 {'define':'9a','layout':{'type':'int'}} -> {'type':'int'}
-1 {'define':'a b','layout':{'type':'int'}} -> {'type':'int'}
-1 {'define':'aaaaaaaaaaaaaaaaaaaaaaaaaaaaaaaaaaaaaaaaaaaaaaaaaaaaaaaaaaaaaaaaa','layout':{'type':'int'}} -> {'type':'int'}
-2 {'define':'a','layout':7} -> {'type':'int'}
-2 {'define':'a','layout':{}} -> {'type':'int'}
-2 {'define':'a','layout':{'type':'ref','of':'a'}} -> {'type':'int'}
-2 {'define':'a','layout':{'type':'ref','of':'b'}},{'define':'b','layout':{'type':'int'}} -> {'type':'int'}
-3 {'define':'a','layout':{'type':'int'}},{'define':'a','layout':{'type':'long'}} -> {'type':'ref','of':'a'}
-3 {'define':'a','layout':{'type':'int'}},{'define':'a','layout':7} -> {'type':'int'}
-3 {'define':'a','layout':{'type':'int'}},7 -> {'type':'float'}
-1  -> 7
-1  -> {'type':'ref','of':'a'}
-1  -> {'version':2,'types':[],'layout':{'type':'int'}}
-3 {'define':'a','layout':{'type':'int'}} -> {'type':'ref','of':'b'}
-3 {'define':'a','layout':{'type':'int'}} -> {'type':'ref','of':'A'}
-3 {'define':'a','layout':{'type':'int'}} -> {'type':'ref','of':'9a'}
-3 {'define':'a','layout':{'type':'int'}} -> {'type':'ref','of':7}
-3 {'define':'a','layout':{'type':'int'}} -> {'type':'ref'}
-3 {'define':'a','layout':{'type':'int'}} -> {'type':'ref','of':'a','name':'9a'}
-3 {'define':'a','layout':{'type':'int'}} -> {'type':'ref','of':'a','name':null}
-3 {'define':'a','layout':{'type':'int'}} -> {'type':'ref','of':'a','align':4}
-3 {'define':'a','layout':{'type':'int'}} -> {'type':'ref','of':'a','order':'big'}
-3 {'define':'a','layout':{'type':'int'}} -> {'type':'Ref','of':'a'}
-3 {'define':'a','layout':{'type':'int'}} -> {'type':'int','of':'a'}
-4 {'define':'a','layout':{'type':'int'}} -> {'type':'sequence','count':1,'element':{'type':'ref','of':'b'}}
-5 {'define':'a','layout':{'type':'struct','members':[{'type':'int'},{'type':'int'}]}} -> {'type':'float'}
-7 {'define':'a','layout':{'type':'struct','members':[{'type':'int'},{'type':'int'}]}} -> {'type':'struct','members':[{'type':'ref','of':'a'},{'type':'float'}]}
-5 {'define':'a','layout':{'type':'struct','members':[{'type':'int'},{'type':'int'}]}},{'define':'b','layout':{'type':'int'},'x':1} -> {'type':'int'}";
+7 -> {'type':'int'} -> 41 1
+{} -> {'type':'int'} -> 41 1
+{'define':'a'} -> {'type':'int'} -> 41 1
+{'layout':{'type':'int'}} -> {'type':'int'} -> 41 1
+{'define':'a','layout':{'type':'int'},'name':'a'} -> {'type':'int'} -> 41 1
+{'define':7,'layout':{'type':'int'}} -> {'type':'int'} -> 41 1
+{'define':'','layout':{'type':'int'}} -> {'type':'int'} -> 41 1
+{'define':'9a','layout':{'type':'int'}} -> {'type':'int'} -> 41 1
+{'define':'a b','layout':{'type':'int'}} -> {'type':'int'} -> 41 1
+{'define':'aaaaaaaaaaaaaaaaaaaaaaaaaaaaaaaaaaaaaaaaaaaaaaaaaaaaaaaaaaaaaaaaa','layout':{'type':'int'}} -> {'type':'int'} -> 41 1
+{'define':'a','layout':7} -> {'type':'int'} -> 41 2
+{'define':'a','layout':{}} -> {'type':'int'} -> 41 2
+{'define':'a','layout':{'type':'ref','of':'a'}} -> {'type':'int'} -> 41 2
+{'define':'a','layout':{'type':'ref','of':'b'}},{'define':'b','layout':{'type':'int'}} -> {'type':'int'} -> 41 2
+{'define':'a','layout':{'type':'int'}},{'define':'a','layout':{'type':'long'}} -> {'type':'ref','of':'a'} -> 41 3
+{'define':'a','layout':{'type':'int'}},{'define':'a','layout':7} -> {'type':'int'} -> 41 3
+{'define':'a','layout':{'type':'int'}},7 -> {'type':'float'} -> 41 3
+ -> 7 -> 41 1
+ -> {'type':'ref','of':'a'} -> 41 1
+ -> {'version':2,'types':[],'layout':{'type':'int'}} -> 41 1
+{'define':'a','layout':{'type':'int'}} -> {'type':'ref','of':'b'} -> 41 3
+{'define':'a','layout':{'type':'int'}} -> {'type':'ref','of':'A'} -> 41 3
+{'define':'a','layout':{'type':'int'}} -> {'type':'ref','of':'9a'} -> 41 3
+{'define':'a','layout':{'type':'int'}} -> {'type':'ref','of':7} -> 41 3
+{'define':'a','layout':{'type':'int'}} -> {'type':'ref'} -> 41 3
+{'define':'a','layout':{'type':'int'}} -> {'type':'ref','of':'a','name':'9a'} -> 41 3
+{'define':'a','layout':{'type':'int'}} -> {'type':'ref','of':'a','name':null} -> 41 3
+{'define':'a','layout':{'type':'int'}} -> {'type':'ref','of':'a','align':4} -> 41 3
+{'define':'a','layout':{'type':'int'}} -> {'type':'ref','of':'a','order':'big'} -> 41 3
+{'define':'a','layout':{'type':'int'}} -> {'type':'Ref','of':'a'} -> 41 3
+{'define':'a','layout':{'type':'int'}} -> {'type':'int','of':'a'} -> 41 3
+{'define':'a','layout':{'type':'int'}} -> {'type':'sequence','count':1,'element':{'type':'ref','of':'b'}} -> 41 4
+{'define':'a','layout':{'type':'struct','members':[{'type':'int'},{'type':'int'}]}} -> {'type':'float'} -> 41 5
+{'define':'a','layout':{'type':'struct','members':[{'type':'int'},{'type':'int'}]}} -> {'type':'struct','members':[{'type':'ref','of':'a'},{'type':'float'}]} -> 41 7
+{'define':'a','layout':{'type':'struct','members':[{'type':'int'},{'type':'int'}]}},{'define':'b','layout':{'type':'int'},'x':1} -> {'type':'int'} -> 41 5";
+
+/// What the two points are, where the second is of another type.
+fn other_told(alloc: Global) -> String {
+    let text = whole(
+        alloc,
+        LINE.replace(alloc, "'p','name':'to'", "'q','name':'to'"),
+    );
+    read_told(alloc, &text)
+}
 
 #[test]
-fn nodes_are_numbered_as_they_are_written(rt: HostRuntime) -> Result<(), Fail> {
+fn nodes_are_numbered_as_they_are_written(rt: HostRuntime) {
     let alloc = rt.alloc();
-    for row in BAD_NODES.lines() {
-        let (node, rest) = row.split_once(' ').unwrap_or(("", row));
-        let (types, layout) = cut(rest);
-        let node = node.parse().unwrap_or(u64::MAX);
-        let text = document(alloc, types, layout)?;
-        assert_eq!(rt;
-            read(alloc, &text).err(),
-            Some(Refusal::BadShape(node)),
-            "at {row}"
-        );
-    }
-    let other = LINE.replace(alloc, "'p','name':'to'", "'q','name':'to'")?;
-    assert_eq!(rt; read(alloc, &other).err(), Some(Refusal::BadShape(7)));
-    assert_eq!(rt;
-        read(alloc, "{'type':'ref','of':'a'}").err(),
-        Some(Refusal::BadShape(0))
+    answers(&rt, alloc, document_told, BAD_NODES);
+    same(&rt, other_told(alloc).as_str(), "41 7");
+    same(
+        &rt,
+        read_told(alloc, "{'type':'ref','of':'a'}").as_str(),
+        "41 0",
     );
-    Ok(())
 }
 
 /// Types and layouts that the constructors refuse, and how their refusals are printed.
@@ -173,16 +172,8 @@ const REFUSED: &str = "\
 {'define':'a','layout':{'type':'long'}} -> {'type':'union','members':[{'type':'ref','of':'a'}],'align':4} -> 24 8";
 
 #[test]
-fn types_are_refused_as_the_constructors_do(rt: HostRuntime) -> Result<(), Fail> {
-    let alloc = rt.alloc();
-    for row in REFUSED.lines() {
-        let (types, rest) = cut(row);
-        let (layout, refusal) = cut(rest);
-        let text = document(alloc, types, layout)?;
-        let found = printed(alloc, read(alloc, &text).err())?;
-        assert_eq!(rt; found.as_str(), refusal, "at {row}");
-    }
-    Ok(())
+fn types_are_refused_as_the_constructors_do(rt: HostRuntime) {
+    answers(&rt, rt.alloc(), document_told, REFUSED);
 }
 
 /// The type t, which is this.
@@ -190,123 +181,126 @@ fn as_t(alloc: Global, layout: &str) -> Result<String, AllocError> {
     format!(in alloc; "{{'define':'t','layout':{layout}}}")
 }
 
+/// The type t in so many sequences of one.
+fn nested_t(alloc: Global, levels: usize) -> Result<String, AllocError> {
+    let text = nested(alloc, levels)?;
+    text.replace(alloc, "{'type':'int'}", "{'type':'ref','of':'t'}")
+}
+
 /// The type t in so many sequences of one, where t is an int in so many.
-fn nested_type(alloc: Global, inner: u64, outer: u64) -> Result<String, Fail> {
+fn nested_type(alloc: Global, inner: usize, outer: usize) -> Result<String, AllocError> {
     let t = as_t(alloc, &nested(alloc, inner)?)?;
-    let layout = nested(alloc, outer)?.replace(alloc, "{'type':'int'}", "{'type':'ref','of':'t'}")?;
-    Ok(document(alloc, &t, &layout)?)
+    document(alloc, &t, &nested_t(alloc, outer)?)
+}
+
+/// Stops where t isn't read so, in so many sequences of one.
+fn is_nested<R: Abort>(rt: &R, alloc: Global, inner: usize, outer: usize, wanted: &str) {
+    let text = whole(alloc, nested_type(alloc, inner, outer));
+    same_at(rt, read_told(alloc, &text).as_str(), wanted, (inner, outer));
 }
 
 #[test]
-fn levels_are_counted_through_refs(rt: HostRuntime) -> Result<(), Fail> {
+fn levels_are_counted_through_refs(rt: HostRuntime) {
     let alloc = rt.alloc();
-    for (inner, outer) in [(39, 0), (0, 39), (20, 19), (1, 38)] {
-        let text = nested_type(alloc, inner, outer)?;
-        assert_eq!(rt; read(alloc, &text).map(|l| l.size()).ok(), Some(4));
-    }
+    is_nested(&rt, alloc, 39, 0, "Sequence(1) 4 4 .");
+    is_nested(&rt, alloc, 0, 39, "Sequence(1) 4 4 .");
+    is_nested(&rt, alloc, 20, 19, "Sequence(1) 4 4 .");
+    is_nested(&rt, alloc, 1, 38, "Sequence(1) 4 4 .");
     // The root of t is node 2, and that of `layout` stands behind t's int, which is node 2 + inner.
-    for (inner, outer, node) in [
-        (40, 0, 2),
-        (40, 1, 2),
-        (0, 40, 3),
-        (20, 20, 23),
-        (39, 1, 42),
-        (1, 39, 4),
-    ] {
-        let text = nested_type(alloc, inner, outer)?;
-        assert_eq!(rt;
-            read(alloc, &text).err(),
-            Some(Refusal::BadShape(node)),
-            "at {inner} and {outer}"
-        );
-    }
-    Ok(())
+    is_nested(&rt, alloc, 40, 0, "41 2");
+    is_nested(&rt, alloc, 40, 1, "41 2");
+    is_nested(&rt, alloc, 0, 40, "41 3");
+    is_nested(&rt, alloc, 20, 20, "41 23");
+    is_nested(&rt, alloc, 39, 1, "41 42");
+    is_nested(&rt, alloc, 1, 39, "41 4");
 }
 
-/// A struct of the type t so often, and of so many bytes.
-fn wide_type(alloc: Global, refs: u64, bytes: u64) -> Result<String, Fail> {
-    let mut layout = String::from_str(
-        alloc,
-        "{'type':'struct','members':[{'type':'ref','of':'t'}",
-    )?;
-    for _ in 1..refs {
-        layout.push_str(",{'type':'ref','of':'t'}")?;
-    }
-    for _ in 0..bytes {
-        layout.push_str(",{'type':'byte'}")?;
-    }
-    layout.push_str("]}")?;
-    let t = as_t(alloc, &wide(alloc, 255)?)?;
-    Ok(document(alloc, &t, &layout)?)
+/// A struct of the type t, so many more of it, and of so many bytes.
+fn refs_and_bytes(alloc: Global, refs: usize, bytes: usize) -> Result<String, AllocError> {
+    let refs = ",{'type':'ref','of':'t'}".repeat(alloc, refs)?;
+    let bytes = ",{'type':'byte'}".repeat(alloc, bytes)?;
+    format!(in alloc; "{{'type':'struct','members':[{{'type':'ref','of':'t'}}{refs}{bytes}]}}")
+}
+
+/// The same, where t is a struct of 255 bytes.
+fn wide_type(alloc: Global, refs: usize, bytes: usize) -> Result<String, AllocError> {
+    let t = as_t(alloc, &wide(alloc, 254)?)?;
+    document(alloc, &t, &refs_and_bytes(alloc, refs, bytes)?)
+}
+
+/// Stops where a struct of t, so many more of it, and of so many bytes isn't read so.
+fn is_wide<R: Abort>(rt: &R, alloc: Global, refs: usize, bytes: usize, wanted: &str) {
+    let text = whole(alloc, wide_type(alloc, refs, bytes));
+    same_at(rt, read_told(alloc, &text).as_str(), wanted, (refs, bytes));
 }
 
 #[test]
-fn nodes_are_counted_through_refs(rt: HostRuntime) -> Result<(), Fail> {
+fn nodes_are_counted_through_refs(rt: HostRuntime) {
     let alloc = rt.alloc();
-    let most = wide_type(alloc, 255, 255)?;
-    assert_eq!(rt;
-        read(alloc, &most).map(|l| l.size()).ok(),
-        Some(255 * 255 + 255)
-    );
+    is_wide(&rt, alloc, 254, 255, "Struct(510) 65280 1 .");
     // The root is node 0, the entry node 1, and t has 256 nodes.
-    for (refs, bytes) in [(255, 256), (256, 0)] {
-        let more = wide_type(alloc, refs, bytes)?;
-        assert_eq!(rt;
-            read(alloc, &more).err(),
-            Some(Refusal::BadShape(258)),
-            "at {refs} and {bytes}"
-        );
-    }
-    Ok(())
+    is_wide(&rt, alloc, 254, 256, "41 258");
+    is_wide(&rt, alloc, 255, 0, "41 258");
 }
 
-/// Types of which each has the one before it twice, and the first is a byte.
-fn doubled(alloc: Global, count: u64) -> Result<String, Fail> {
-    let mut types = String::from_str(alloc, "{'define':'t0','layout':{'type':'byte'}}")?;
+/// Puts the type of this number, which has the one before it twice.
+fn put_doubled(types: &mut String, alloc: Global, before: u64, k: u64) -> Result<(), AllocError> {
+    let more = format!(in alloc;
+        ",{{'define':'t{k}','layout':{{'type':'struct','members':[{{'type':'ref','of':'t{before}'}},{{'type':'ref','of':'t{before}'}}]}}}}"
+    )?;
+    types.push_str(&more)
+}
+
+/// Types of which each has the one before it twice, and the first is a byte. Others stand before them.
+fn doubled(alloc: Global, others: &str, count: u64) -> Result<String, AllocError> {
+    let mut types = others.to_string(alloc)?;
+    types.push_str("{'define':'t0','layout':{'type':'byte'}}")?;
     for k in 1..count {
-        let before = k - 1;
-        let more = format!(in alloc;
-            ",{{'define':'t{k}','layout':{{'type':'struct','members':[{{'type':'ref','of':'t{before}'}},{{'type':'ref','of':'t{before}'}}]}}}}"
-        )?;
-        types.push_str(&more)?;
+        put_doubled(&mut types, alloc, k - 1, k)?;
     }
     Ok(types)
 }
 
-#[test]
-fn what_is_too_large_is_never_built(rt: HostRuntime) -> Result<(), Fail> {
-    let alloc = rt.alloc();
-    let text = document(alloc, &doubled(alloc, 16)?, "{'type':'ref','of':'t15'}")?;
-    assert_eq!(rt; read(alloc, &text).map(|l| l.size()).ok(), Some(32_768));
-    // Type k has 2^(k + 1) - 1 nodes, and its root is node 4 k.
-    let types = doubled(alloc, 40)?;
-    let text = document(alloc, &types, "{'type':'int'}")?;
-    assert_eq!(rt; read(alloc, &text).err(), Some(Refusal::BadShape(64)));
-    // A rule that is broken behind it comes first, and a layout that is refused before it doesn't.
-    let text = document(alloc, &types, "{'type':'float'}")?;
-    assert_eq!(rt; read(alloc, &text).err(), Some(Refusal::BadShape(159)));
-    let refused = format!(in alloc;
-        "{{'define':'z','layout':{{'type':'padding','size':0}}}},{types}"
-    )?;
-    let text = document(alloc, &refused, "{'type':'int'}")?;
-    assert_eq!(rt; read(alloc, &text).err(), Some(Refusal::BadShape(66)));
-    Ok(())
+/// What the layout behind so many such types is, or how its refusal is printed.
+fn doubled_told(alloc: Global, others: &str, count: u64, layout: &str) -> String {
+    let types = whole(alloc, doubled(alloc, others, count));
+    let text = whole(alloc, document(alloc, &types, layout));
+    read_told(alloc, &text)
 }
 
-/// Whether the layout is read again from both texts, and the second is this one.
-fn is_written(alloc: Global, layout: &Layout, text: &str) -> Result<bool, Refusal> {
-    let first = layout_from_json(alloc, &layout_to_json(alloc, layout)?)?;
-    let bytes = layout_to_json2(alloc, layout)?;
-    let second = layout_from_json(alloc, &bytes)?;
-    Ok(first == *layout && second == *layout && bytes.as_slice() == text.as_bytes())
+/// A type that is refused.
+const NO_PADDING: &str = "{'define':'z','layout':{'type':'padding','size':0}},";
+
+#[test]
+fn what_is_too_large_is_never_built(rt: HostRuntime) {
+    let alloc = rt.alloc();
+    let all = doubled_told(alloc, "", 16, "{'type':'ref','of':'t15'}");
+    same(&rt, all.as_str(), "Struct(2) 32768 1 .");
+    // Type k has 2^(k + 1) - 1 nodes, and its root is node 4 k.
+    let large = doubled_told(alloc, "", 40, "{'type':'int'}");
+    same(&rt, large.as_str(), "41 64");
+    // A rule that is broken behind it comes first, and a layout that is refused before it doesn't.
+    let broken = doubled_told(alloc, "", 40, "{'type':'float'}");
+    same(&rt, broken.as_str(), "41 159");
+    let refused = doubled_told(alloc, NO_PADDING, 40, "{'type':'int'}");
+    same(&rt, refused.as_str(), "41 66");
+}
+
+/// Whether this is written of the layout as version 2, and the layout is read from it again.
+fn is_written(alloc: Global, layout: &Layout, text: &str) -> bool {
+    match layout_to_json2(alloc, layout) {
+        Ok(bytes) => bytes.as_slice() == text.as_bytes() && is_back(alloc, layout, &bytes),
+        Err(_) => false,
+    }
 }
 
 const SALE: &str =
     "{\"layout\":{\"members\":[{\"name\":\"id\",\"type\":\"int\"},{\"name\":\"kind\",\"type\":\"short\"},{\"size\":2,\"type\":\"padding\"},{\"name\":\"price\",\"type\":\"long\"},{\"count\":4,\"element\":{\"type\":\"byte\"},\"name\":\"tags\",\"type\":\"sequence\"},{\"size\":4,\"type\":\"padding\"}],\"type\":\"struct\"},\"types\":[],\"version\":2}";
 
 #[test]
-fn a_record_is_written_as_version_2_and_read_again(rt: HostRuntime) -> Result<(), Fail> {
+fn a_record_is_written_as_version_2_and_read_again(rt: HostRuntime) {
     let alloc = rt.alloc();
-    assert!(rt; is_written(alloc, &sale(alloc)?, SALE)?);
-    Ok(())
+    let sale = sale(alloc).expect(&rt, "a layout");
+    same(&rt, is_written(alloc, &sale, SALE), true);
+    same(&rt, comes_back(alloc, &sale), true);
 }

@@ -1,30 +1,43 @@
-use crate::tests::record::{cut, printed, sale};
+use crate::tests::compared::same_at;
+use crate::tests::record::sale;
+use crate::tests::rows::answers;
+use crate::tests::told::{told, whole};
 use fm_base::Refusal;
 use fm_layout::Layout;
 use fm_ljson::layout_from_json;
 use std::alloc::{AllocError, Global};
-use std::test::Fail;
+use std::process::Abort;
 
 /// The layout of a text that has `'` for each quotation mark.
 pub(crate) fn read(alloc: Global, text: &str) -> Result<Layout, Refusal> {
-    let mut json = String::new(alloc);
-    for c in text.chars() {
-        json.push(if c == '\'' { '"' } else { c })?;
-    }
+    let json = text.replace(alloc, "'", "\"")?;
     layout_from_json(alloc, json.as_bytes())
 }
 
-#[test]
-fn reads_a_record(rt: HostRuntime) -> Result<(), Fail> {
-    let sale = sale(rt.alloc())?;
-    for text in [
-        "{'type':'struct','members':[{'type':'int','name':'id'},{'type':'short','name':'kind'},{'type':'padding','size':2},{'type':'long','name':'price'},{'type':'sequence','name':'tags','count':4,'element':{'type':'byte'}},{'type':'padding','size':4}]}",
-        "{'members':[{'name':'id','type':'int'},{'name':'kind','type':'short'},{'size':2,'type':'padding'},{'name':'price','type':'long'},{'count':4,'element':{'type':'byte'},'name':'tags','type':'sequence'},{'size':4,'type':'padding'}],'type':'struct'}",
-    ] {
-        let layout = read(rt.alloc(), text)?;
-        assert!(rt; layout == sale, "at {text}");
+/// What the layout of a text is, or how its refusal is printed.
+pub(crate) fn read_told(alloc: Global, text: &str) -> String {
+    told(alloc, read(alloc, text))
+}
+
+/// The layout of `fm_layout`'s documentation, with its keys in two orders.
+const SALES: [&str; 2] = [
+    "{'type':'struct','members':[{'type':'int','name':'id'},{'type':'short','name':'kind'},{'type':'padding','size':2},{'type':'long','name':'price'},{'type':'sequence','name':'tags','count':4,'element':{'type':'byte'}},{'type':'padding','size':4}]}",
+    "{'members':[{'name':'id','type':'int'},{'name':'kind','type':'short'},{'size':2,'type':'padding'},{'name':'price','type':'long'},{'count':4,'element':{'type':'byte'},'name':'tags','type':'sequence'},{'size':4,'type':'padding'}],'type':'struct'}",
+];
+
+/// Whether the text is read as that layout.
+fn is_sale(alloc: Global, text: &str) -> bool {
+    match (read(alloc, text), sale(alloc)) {
+        (Ok(layout), Ok(sale)) => layout == sale,
+        _ => false,
     }
-    Ok(())
+}
+
+#[test]
+fn reads_a_record(rt: HostRuntime) {
+    for text in SALES {
+        same_at(&rt, is_sale(rt.alloc(), text), true, text);
+    }
 }
 
 /// Texts of layouts, and what each is: its form, its size and alignment, and its name behind a dot.
@@ -47,112 +60,85 @@ const READ: &str = "\
 {'type':'int','align':3,'align':2} -> Value(Int, Little) 4 2 .
 {'\\u0074ype':'int'} -> Value(Int, Little) 4 4 .";
 
-/// What the layout is, as a row tells it.
-fn layout_text(alloc: Global, layout: &Layout) -> Result<String, AllocError> {
-    let form = layout.form();
-    let (size, alignment) = (layout.size(), layout.alignment());
-    let name = layout.name().unwrap_or("");
-    format!(in alloc; "{form:?} {size} {alignment} .{name}")
+#[test]
+fn reads_each_type_and_key(rt: HostRuntime) {
+    answers(&rt, rt.alloc(), read_told, READ);
 }
 
-#[test]
-fn reads_each_type_and_key(rt: HostRuntime) -> Result<(), Fail> {
-    for row in READ.lines() {
-        let (text, is) = cut(row);
-        let layout = read(rt.alloc(), text)?;
-        let found = layout_text(rt.alloc(), &layout)?;
-        assert_eq!(rt; found.as_str(), is, "at {text}");
-    }
-    Ok(())
+/// Texts that are no JSON.
+const NO_JSON: &str = "\
+{ -> 40
+ -> 40
+{'type':'int'}} -> 40
+{'type':'int'} 1 -> 40
+{'type':'int',} -> 40
+{'type':'int','align':08} -> 40
+{'type':'int','align':+8} -> 40
+{'type':'int','align':1e999} -> 40
+{'type':'int','name':'\\ud800'} -> 40";
+
+/// Whether the bytes are refused as no JSON.
+fn is_no_json(alloc: Global, bytes: &[u8]) -> bool {
+    layout_from_json(alloc, bytes).err() == Some(Refusal::BadJson)
 }
 
 #[test]
 fn refuses_what_is_no_json(rt: HostRuntime) {
-    for text in [
-        "",
-        "{",
-        "{'type':'int'}}",
-        "{'type':'int'} 1",
-        "{'type':'int',}",
-        "{'type':'int','align':08}",
-        "{'type':'int','align':+8}",
-        "{'type':'int','align':1e999}",
-        "{'type':'int','name':'\\ud800'}",
-    ] {
-        assert_eq!(rt;
-            read(rt.alloc(), text).err(),
-            Some(Refusal::BadJson),
-            "at {text}"
-        );
-    }
-    for bytes in [
-        &b"\"\xff\""[..],
-        &b"{\"type\":\"int\"\xc3}"[..],
-        &b"\xef\xbb\xbf{}"[..],
-    ] {
-        assert_eq!(rt;
-            layout_from_json(rt.alloc(), bytes).err(),
-            Some(Refusal::BadJson)
-        );
-    }
+    let alloc = rt.alloc();
+    answers(&rt, alloc, read_told, NO_JSON);
+    same_at(&rt, is_no_json(alloc, b"\"\xff\""), true, 0);
+    same_at(&rt, is_no_json(alloc, b"{\"type\":\"int\"\xc3}"), true, 1);
+    same_at(&rt, is_no_json(alloc, b"\xef\xbb\xbf{}"), true, 2);
 }
 
-/// The node that breaks a rule, and the text. One text, since a prover goes through a table row by row.
+/// Texts of which a node breaks a rule, and that node's number behind the refusal's.
 const BAD_NODES: &str = "\
-0 null
-0 []
-0 'int'
-0 {}
-0 {'type':'float'}
-0 {'type':'Int'}
-0 {'type':7}
-0 {'type':'int','size':4}
-0 {'type':'int','Name':'a'}
-0 {'type':'int','':1}
-0 {'type':'int','name':''}
-0 {'type':'int','name':'9a'}
-0 {'type':'int','name':'a-b'}
-0 {'type':'int','name':null}
-0 {'type':'int','order':'Big'}
-0 {'type':'int','order':true}
-0 {'type':'int','align':8.0}
-0 {'type':'int','align':8e0}
-0 {'type':'int','align':-0}
-0 {'type':'int','align':-8}
-0 {'type':'int','align':'8'}
-0 {'type':'int','align':1099511627777}
-0 {'type':'int','align':18446744073709551616}
-0 {'type':'padding'}
-0 {'type':'padding','size':1099511627777}
-0 {'type':'padding','size':2,'align':1}
-0 {'type':'padding','size':2,'order':'big'}
-0 {'type':'sequence','count':2}
-0 {'type':'sequence','element':{'type':'int'}}
-0 {'type':'sequence','count':1099511627777,'element':{'type':'int'}}
-0 {'type':'sequence','count':2,'element':{'type':'int'},'members':[]}
-0 {'type':'struct'}
-0 {'type':'struct','members':{}}
-0 {'type':'struct','members':[],'order':'big'}
-0 {'type':'union','members':[],'size':1}
-1 {'type':'sequence','count':2,'element':7}
-1 {'type':'struct','members':[1]}
-2 {'type':'struct','members':[{'type':'int'},{'type':'float'},{}]}
-4 {'type':'struct','members':[{'type':'union','members':[{'type':'int'},{'type':'int'}]},{}]}
-4 {'type':'struct','members':[{'type':'sequence','count':1,'element':{'type':'struct','members':[]}},{'type':'int'},null]}
-3 {'type':'union','members':[{'type':'struct','members':[{'type':'int'},{'type':'int','align':-1}]},{}]}
-2 {'type':'struct','members':[{'type':'padding','size':0},{}]}";
+null -> 41 0
+[] -> 41 0
+'int' -> 41 0
+{} -> 41 0
+{'type':'float'} -> 41 0
+{'type':'Int'} -> 41 0
+{'type':7} -> 41 0
+{'type':'int','size':4} -> 41 0
+{'type':'int','Name':'a'} -> 41 0
+{'type':'int','':1} -> 41 0
+{'type':'int','name':''} -> 41 0
+{'type':'int','name':'9a'} -> 41 0
+{'type':'int','name':'a-b'} -> 41 0
+{'type':'int','name':null} -> 41 0
+{'type':'int','order':'Big'} -> 41 0
+{'type':'int','order':true} -> 41 0
+{'type':'int','align':8.0} -> 41 0
+{'type':'int','align':8e0} -> 41 0
+{'type':'int','align':-0} -> 41 0
+{'type':'int','align':-8} -> 41 0
+{'type':'int','align':'8'} -> 41 0
+{'type':'int','align':1099511627777} -> 41 0
+{'type':'int','align':18446744073709551616} -> 41 0
+{'type':'padding'} -> 41 0
+{'type':'padding','size':1099511627777} -> 41 0
+{'type':'padding','size':2,'align':1} -> 41 0
+{'type':'padding','size':2,'order':'big'} -> 41 0
+{'type':'sequence','count':2} -> 41 0
+{'type':'sequence','element':{'type':'int'}} -> 41 0
+{'type':'sequence','count':1099511627777,'element':{'type':'int'}} -> 41 0
+{'type':'sequence','count':2,'element':{'type':'int'},'members':[]} -> 41 0
+{'type':'struct'} -> 41 0
+{'type':'struct','members':{}} -> 41 0
+{'type':'struct','members':[],'order':'big'} -> 41 0
+{'type':'union','members':[],'size':1} -> 41 0
+{'type':'sequence','count':2,'element':7} -> 41 1
+{'type':'struct','members':[1]} -> 41 1
+{'type':'struct','members':[{'type':'int'},{'type':'float'},{}]} -> 41 2
+{'type':'struct','members':[{'type':'union','members':[{'type':'int'},{'type':'int'}]},{}]} -> 41 4
+{'type':'struct','members':[{'type':'sequence','count':1,'element':{'type':'struct','members':[]}},{'type':'int'},null]} -> 41 4
+{'type':'union','members':[{'type':'struct','members':[{'type':'int'},{'type':'int','align':-1}]},{}]} -> 41 3
+{'type':'struct','members':[{'type':'padding','size':0},{}]} -> 41 2";
 
 #[test]
 fn names_the_node_that_breaks_a_rule(rt: HostRuntime) {
-    for row in BAD_NODES.lines() {
-        let (node, text) = row.split_once(' ').unwrap_or(("", row));
-        let node = node.parse().unwrap_or(u64::MAX);
-        assert_eq!(rt;
-            read(rt.alloc(), text).err(),
-            Some(Refusal::BadShape(node)),
-            "at {text}"
-        );
-    }
+    answers(&rt, rt.alloc(), read_told, BAD_NODES);
 }
 
 /// Texts of layouts that the constructors refuse, and how their refusals are printed.
@@ -172,66 +158,47 @@ const REFUSED: &str = "\
 {'type':'struct','members':[{'type':'byte'},{'type':'int'},{'type':'padding','size':0}]} -> 23";
 
 #[test]
-fn refuses_as_the_constructors_do(rt: HostRuntime) -> Result<(), Fail> {
-    for row in REFUSED.lines() {
-        let (text, refusal) = cut(row);
-        let found = printed(rt.alloc(), read(rt.alloc(), text).err())?;
-        assert_eq!(rt; found.as_str(), refusal, "at {text}");
-    }
-    Ok(())
+fn refuses_as_the_constructors_do(rt: HostRuntime) {
+    answers(&rt, rt.alloc(), read_told, REFUSED);
 }
 
 /// An int in so many sequences of one.
-pub(crate) fn nested(alloc: Global, levels: u64) -> Result<String, Fail> {
-    let mut text = String::new(alloc);
-    for _ in 0..levels {
-        text.push_str("{'type':'sequence','count':1,'element':")?;
-    }
-    text.push_str("{'type':'int'}")?;
-    for _ in 0..levels {
-        text.push_str("}")?;
-    }
-    Ok(text)
+pub(crate) fn nested(alloc: Global, levels: usize) -> Result<String, AllocError> {
+    let before = "{'type':'sequence','count':1,'element':".repeat(alloc, levels)?;
+    let behind = "}".repeat(alloc, levels)?;
+    format!(in alloc; "{before}{{'type':'int'}}{behind}")
+}
+
+/// Stops where an int in so many sequences of one isn't read so.
+fn is_nested<R: Abort>(rt: &R, alloc: Global, levels: usize, wanted: &str) {
+    let text = whole(alloc, nested(alloc, levels));
+    same_at(rt, read_told(alloc, &text).as_str(), wanted, levels);
 }
 
 #[test]
-fn reads_forty_levels(rt: HostRuntime) -> Result<(), Fail> {
-    let deep = nested(rt.alloc(), 39)?;
-    assert_eq!(rt; read(rt.alloc(), &deep).map(|l| l.size()).ok(), Some(4));
-    for (levels, refusal) in [
-        (40, Refusal::BadShape(40)),
-        (41, Refusal::BadShape(40)),
-        (126, Refusal::BadShape(40)),
-        (127, Refusal::BadJson),
-    ] {
-        let deep = nested(rt.alloc(), levels)?;
-        assert_eq!(rt; read(rt.alloc(), &deep).err(), Some(refusal), "at {levels}");
-    }
-    Ok(())
+fn reads_forty_levels(rt: HostRuntime) {
+    let alloc = rt.alloc();
+    is_nested(&rt, alloc, 39, "Sequence(1) 4 4 .");
+    is_nested(&rt, alloc, 40, "41 40");
+    is_nested(&rt, alloc, 41, "41 40");
+    is_nested(&rt, alloc, 126, "41 40");
+    is_nested(&rt, alloc, 127, "40");
 }
 
-/// A struct of so many bytes.
-pub(crate) fn wide(alloc: Global, members: u64) -> Result<String, Fail> {
-    let mut text = String::new(alloc);
-    text.push_str("{'type':'struct','members':[{'type':'byte'}")?;
-    for _ in 1..members {
-        text.push_str(",{'type':'byte'}")?;
-    }
-    text.push_str("]}")?;
-    Ok(text)
+/// A struct of so many bytes, and one.
+pub(crate) fn wide(alloc: Global, more: usize) -> Result<String, AllocError> {
+    let members = ",{'type':'byte'}".repeat(alloc, more)?;
+    format!(in alloc; "{{'type':'struct','members':[{{'type':'byte'}}{members}]}}")
+}
+
+/// Stops where a struct of so many bytes, and one, isn't read so.
+fn is_wide<R: Abort>(rt: &R, alloc: Global, more: usize, wanted: &str) {
+    let text = whole(alloc, wide(alloc, more));
+    same_at(rt, read_told(alloc, &text).as_str(), wanted, more);
 }
 
 #[test]
-fn reads_65536_nodes(rt: HostRuntime) -> Result<(), Fail> {
-    let most = wide(rt.alloc(), 65_535)?;
-    assert_eq!(rt;
-        read(rt.alloc(), &most).map(|l| l.size()).ok(),
-        Some(65_535)
-    );
-    let more = wide(rt.alloc(), 65_536)?;
-    assert_eq!(rt;
-        read(rt.alloc(), &more).err(),
-        Some(Refusal::BadShape(65_536))
-    );
-    Ok(())
+fn reads_65536_nodes(rt: HostRuntime) {
+    is_wide(&rt, rt.alloc(), 65_534, "Struct(65535) 65535 1 .");
+    is_wide(&rt, rt.alloc(), 65_535, "41 65536");
 }

@@ -1,69 +1,112 @@
-use crate::tests::record::sale;
+use crate::tests::compared::same;
+use crate::tests::record::{one, sale};
+use crate::tests::told::{told, whole};
 use fm_base::Refusal;
 use fm_lanes::{Order, ValueKind};
 use fm_layout::Layout;
 use fm_ljson::layout_from_json;
 use fm_ljson_write::layout_to_json;
 use std::alloc::Global;
-use std::test::Fail;
+use std::process::Abort;
 
 /// A record of an id, a kind, a price and four tags.
 const SALE: &str =
-    "{\"members\":[{\"name\":\"id\",\"type\":\"int\"},{\"name\":\"kind\",\"type\":\"short\"},{\"size\":2,\"type\":\"padding\"},{\"name\":\"price\",\"type\":\"long\"},{\"count\":4,\"element\":{\"type\":\"byte\"},\"name\":\"tags\",\"type\":\"sequence\"},{\"size\":4,\"type\":\"padding\"}],\"type\":\"struct\"}";
+    "{'members':[{'name':'id','type':'int'},{'name':'kind','type':'short'},{'size':2,'type':'padding'},{'name':'price','type':'long'},{'count':4,'element':{'type':'byte'},'name':'tags','type':'sequence'},{'size':4,'type':'padding'}],'type':'struct'}";
 
-/// A union under a name, and three of it.
-const UNION: &str = "{\"members\":[{\"type\":\"int\"}],\"name\":\"u\",\"type\":\"union\"}";
-
+/// Three of a union under a name.
 const ROW: &str =
-    "{\"align\":16,\"count\":3,\"element\":{\"members\":[{\"type\":\"int\"}],\"name\":\"u\",\"type\":\"union\"},\"type\":\"sequence\"}";
+    "{'align':16,'count':3,'element':{'members':[{'type':'int'}],'name':'u','type':'union'},'type':'sequence'}";
 
-/// Whether this text is written of the layout, and the layout is read from it again.
-fn is_written(alloc: Global, layout: &Layout, text: &str) -> Result<bool, Refusal> {
-    let bytes = layout_to_json(alloc, layout)?;
-    let again = layout_from_json(alloc, &bytes)?;
-    Ok(bytes.as_slice() == text.as_bytes() && again == *layout)
+/// Whether the layout is read from these bytes.
+pub(crate) fn is_back(alloc: Global, layout: &Layout, bytes: &[u8]) -> bool {
+    match layout_from_json(alloc, bytes) {
+        Ok(again) => again == *layout,
+        Err(_) => false,
+    }
+}
+
+/// Whether the layout is read from what is written of it.
+pub(crate) fn comes_back(alloc: Global, layout: &Layout) -> bool {
+    match layout_to_json(alloc, layout) {
+        Ok(bytes) => is_back(alloc, layout, &bytes),
+        Err(_) => false,
+    }
+}
+
+/// Whether this text, which has `'` for each quotation mark, is written of the layout, and the layout is read from it
+/// again.
+pub(crate) fn is_so(alloc: Global, layout: &Layout, text: &str) -> bool {
+    let json = whole(alloc, text.replace(alloc, "'", "\""));
+    match layout_to_json(alloc, layout) {
+        Ok(bytes) => bytes.as_slice() == json.as_bytes() && is_back(alloc, layout, &bytes),
+        Err(_) => false,
+    }
+}
+
+/// Stops where the layout isn't written so, or isn't read again.
+fn is_written<R: Abort>(rt: &R, alloc: Global, made: Result<Layout, Refusal>, text: &str) {
+    match made {
+        Ok(layout) => same(rt, is_so(alloc, &layout, text), true),
+        Err(refusal) => same(rt, Some(refusal), None),
+    }
+}
+
+/// A layout of no bytes.
+fn empty(alloc: Global) -> Result<Layout, Refusal> {
+    Layout::structure(Vec::new(alloc))
 }
 
 #[test]
-fn a_record_is_written_and_read_again(rt: HostRuntime) -> Result<(), Fail> {
+fn a_record_is_written_and_read_again(rt: HostRuntime) {
     let alloc = rt.alloc();
-    assert!(rt; is_written(alloc, &sale(alloc)?, SALE)?);
-    let empty = Layout::structure(Vec::new(alloc))?;
-    assert!(rt; is_written(alloc, &empty, "{\"members\":[],\"type\":\"struct\"}")?);
-    Ok(())
+    is_written(&rt, alloc, sale(alloc), SALE);
+    is_written(&rt, alloc, empty(alloc), "{'members':[],'type':'struct'}");
+}
+
+/// A boolean under a name, 8 bytes apart.
+fn wide(alloc: Global) -> Result<Layout, Refusal> {
+    let layout = Layout::value(ValueKind::Boolean).with_alignment(8)?;
+    layout.with_name(alloc, "b")
 }
 
 #[test]
-fn values_are_written_and_read_again(rt: HostRuntime) -> Result<(), Fail> {
+fn values_are_written_and_read_again(rt: HostRuntime) {
     let alloc = rt.alloc();
     let plain = Layout::value(ValueKind::Byte);
-    assert!(rt; is_written(alloc, &plain, "{\"type\":\"byte\"}")?);
+    is_written(&rt, alloc, Ok(plain), "{'type':'byte'}");
     let big = Layout::value(ValueKind::Char).with_order(Order::Big);
-    assert!(rt; is_written(alloc, &big, "{\"order\":\"big\",\"type\":\"char\"}")?);
-    let wide = Layout::value(ValueKind::Boolean)
-        .with_alignment(8)?
-        .with_name(alloc, "b")?;
-    assert!(rt;
-        is_written(
-            alloc,
-            &wide,
-            "{\"align\":8,\"name\":\"b\",\"type\":\"boolean\"}"
-        )?
+    is_written(&rt, alloc, Ok(big), "{'order':'big','type':'char'}");
+    is_written(
+        &rt,
+        alloc,
+        wide(alloc),
+        "{'align':8,'name':'b','type':'boolean'}",
     );
-    let narrow = Layout::value(ValueKind::Long).with_alignment(1)?;
-    assert!(rt; is_written(alloc, &narrow, "{\"align\":1,\"type\":\"long\"}")?);
-    Ok(())
+    let narrow = Layout::value(ValueKind::Long).with_alignment(1);
+    is_written(&rt, alloc, narrow, "{'align':1,'type':'long'}");
+}
+
+/// A union under a name.
+fn named_union(alloc: Global) -> Result<Layout, Refusal> {
+    let members = one(alloc, Layout::value(ValueKind::Int))?;
+    Layout::union_of(members).with_name(alloc, "u")
+}
+
+/// Three of that.
+fn row(alloc: Global) -> Result<Layout, Refusal> {
+    Layout::sequence(alloc, 3, named_union(alloc)?)?.with_alignment(16)
 }
 
 #[test]
-fn groups_are_written_and_read_again(rt: HostRuntime) -> Result<(), Fail> {
+fn groups_are_written_and_read_again(rt: HostRuntime) {
     let alloc = rt.alloc();
-    let union = Layout::union_of(vec![in alloc; Layout::value(ValueKind::Int)]?);
-    let named = union.with_name(alloc, "u")?;
-    assert!(rt; is_written(alloc, &named, UNION)?);
-    let row = Layout::sequence(alloc, 3, named)?.with_alignment(16)?;
-    assert!(rt; is_written(alloc, &row, ROW)?);
-    Ok(())
+    is_written(
+        &rt,
+        alloc,
+        named_union(alloc),
+        "{'members':[{'type':'int'}],'name':'u','type':'union'}",
+    );
+    is_written(&rt, alloc, row(alloc), ROW);
 }
 
 /// A byte in so many sequences of one.
@@ -75,24 +118,27 @@ fn nested(alloc: Global, sequences: u64) -> Result<Layout, Refusal> {
     Ok(layout)
 }
 
-#[test]
-fn only_what_is_within_the_limits_is_read_again(rt: HostRuntime) -> Result<(), Fail> {
-    let alloc = rt.alloc();
-    let deepest = nested(alloc, 39)?;
-    let bytes = layout_to_json(alloc, &deepest)?;
-    assert!(rt; layout_from_json(alloc, &bytes)? == deepest);
-    let bytes = layout_to_json(alloc, &nested(alloc, 40)?)?;
-    assert_eq!(rt;
-        layout_from_json(alloc, &bytes).err(),
-        Some(Refusal::BadShape(40))
-    );
+/// What is read from what is written of the layout.
+fn again(alloc: Global, made: Result<Layout, Refusal>) -> Result<Layout, Refusal> {
+    let bytes = layout_to_json(alloc, &made?)?;
+    layout_from_json(alloc, &bytes)
+}
 
-    // A sequence of elements without bytes may have more than 2^40 of them, and such a count isn't read.
-    let row = Layout::sequence(alloc, (1 << 40) + 1, Layout::structure(Vec::new(alloc))?)?;
-    let bytes = layout_to_json(alloc, &row)?;
-    assert_eq!(rt;
-        layout_from_json(alloc, &bytes).err(),
-        Some(Refusal::BadShape(0))
-    );
-    Ok(())
+/// Stops where what is read again isn't this.
+fn is_again<R: Abort>(rt: &R, alloc: Global, made: Result<Layout, Refusal>, wanted: &str) {
+    same(rt, told(alloc, again(alloc, made)).as_str(), wanted);
+}
+
+/// A sequence of one element more than 2^40, which have no bytes.
+fn endless(alloc: Global) -> Result<Layout, Refusal> {
+    Layout::sequence(alloc, (1 << 40) + 1, empty(alloc)?)
+}
+
+#[test]
+fn only_what_is_within_the_limits_is_read_again(rt: HostRuntime) {
+    let alloc = rt.alloc();
+    let deepest = nested(alloc, 39).expect(&rt, "a layout");
+    same(&rt, comes_back(alloc, &deepest), true);
+    is_again(&rt, alloc, nested(alloc, 40), "41 40");
+    is_again(&rt, alloc, endless(alloc), "41 0");
 }

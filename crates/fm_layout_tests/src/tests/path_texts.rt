@@ -1,87 +1,104 @@
-use fm_base::Refusal;
+use crate::tests::compared::{same, same_at};
+use crate::tests::rows::answers;
+use crate::tests::told::{refusal_told, whole};
 use fm_path_text::{NameText, PathStep, parse_path};
-use std::test::Fail;
+use std::alloc::Global;
 
-const NAME_OF_64: &str = "aaaaaaaaaaaaaaaaaaaaaaaaaaaaaaaaaaaaaaaaaaaaaaaaaaaaaaaaaaaaaaaa";
-
-/// How many steps paths have, and their texts.
-const PATHS: &str = "\
-0 .
-1 .id
-2 .a.b
-1 .#0
-1 []
-5 .tags[4:-2].#7[][3]
-1 .#1099511627776
-1 [1099511627776:-1099511627776]
-1 .aaaaaaaaaaaaaaaaaaaaaaaaaaaaaaaaaaaaaaaaaaaaaaaaaaaaaaaaaaaaaaaa
-64 [][][][][][][][][][][][][][][][][][][][][][][][][][][][][][][][][][][][][][][][][][][][][][][][][][][][][][][][][][][][][][][][]";
-
-#[test]
-fn reads_paths(rt: HostRuntime) -> Result<(), Fail> {
-    for row in PATHS.lines() {
-        let (steps, text) = row.split_once(' ').unwrap_or(("", row));
-        let steps: usize = steps.parse().unwrap_or(usize::MAX);
-        let path = parse_path(rt.alloc(), text)?;
-        assert_eq!(rt; path.len(), steps, "at {text}");
+/// How many steps the path of a text has, or how its refusal is printed.
+fn steps_told(alloc: Global, text: &str) -> String {
+    match parse_path(alloc, text) {
+        Ok(path) => {
+            let steps = path.len();
+            whole(alloc, format!(in alloc; "{steps} steps"))
+        }
+        Err(refusal) => refusal_told(alloc, refusal),
     }
-    Ok(())
 }
+
+/// The texts of paths, and how many steps they have.
+const PATHS: &str = "\
+. -> 0 steps
+.id -> 1 steps
+.a.b -> 2 steps
+.#0 -> 1 steps
+[] -> 1 steps
+.tags[4:-2].#7[][3] -> 5 steps
+.#1099511627776 -> 1 steps
+[1099511627776:-1099511627776] -> 1 steps
+.aaaaaaaaaaaaaaaaaaaaaaaaaaaaaaaaaaaaaaaaaaaaaaaaaaaaaaaaaaaaaaaa -> 1 steps
+[][][][][][][][][][][][][][][][][][][][][][][][][][][][][][][][][][][][][][][][][][][][][][][][][][][][][][][][][][][][][][][][] -> 64 steps";
 
 #[test]
-fn reads_each_step(rt: HostRuntime) -> Result<(), Fail> {
-    let path = parse_path(rt.alloc(), ".tags[4:-2].#7[][3][0:5]")?;
-    assert_eq!(rt; path.len(), 6);
-    assert!(rt; matches!(&path[0], PathStep::Name(name) if name.as_bytes() == b"tags".as_slice()));
-    assert!(rt; matches!(path[1], PathStep::EachFrom(4, -2)));
-    assert!(rt; matches!(path[2], PathStep::Group(7)));
-    assert!(rt; matches!(path[3], PathStep::Each));
-    assert!(rt; matches!(path[4], PathStep::At(3)));
-    assert!(rt; matches!(path[5], PathStep::EachFrom(0, 5)));
-    Ok(())
+fn reads_paths(rt: HostRuntime) {
+    answers(&rt, rt.alloc(), steps_told, PATHS);
 }
 
-/// How many bytes of texts that are no path some path's text begins with, and these texts.
+/// Whether the path begins with this name.
+fn begins_with(path: &[PathStep], wanted: &[u8]) -> bool {
+    match path.first() {
+        Some(PathStep::Name(name)) => name.as_bytes() == wanted,
+        _ => false,
+    }
+}
+
+/// The steps behind the first.
+fn later_told(alloc: Global, path: &[PathStep]) -> String {
+    let later = path.get(1..);
+    whole(alloc, format!(in alloc; "{later:?}"))
+}
+
+/// The steps behind `.tags` in a path that has one of each kind.
+const LATER: &str = "Some([EachFrom(4, -2), Group(7), Each, At(3), EachFrom(0, 5)])";
+
+#[test]
+fn reads_each_step(rt: HostRuntime) {
+    let alloc = rt.alloc();
+    let path = parse_path(alloc, ".tags[4:-2].#7[][3][0:5]").expect(&rt, "a path");
+    same(&rt, begins_with(&path, b"tags"), true);
+    same(&rt, later_told(alloc, &path).as_str(), LATER);
+}
+
+/// Texts that are no path, and behind the refusal's number how many bytes of it some path's text begins with.
 const NO_PATHS: &str = "\
-0\x20
-0 a
-3 .a[
-1 .[0]
-1 ..
-1 .1
-1 .\u{e9}
-2 .a b
-2 [01]
-4 [1:-0]
-3 [1:]
-14 .#1099511627777
-15 [0:1099511627777]
-65 .aaaaaaaaaaaaaaaaaaaaaaaaaaaaaaaaaaaaaaaaaaaaaaaaaaaaaaaaaaaaaaaaa
-128 [][][][][][][][][][][][][][][][][][][][][][][][][][][][][][][][][][][][][][][][][][][][][][][][][][][][][][][][][][][][][][][][][]";
+a -> 50 0
+ -> 50 0
+.a[ -> 50 3
+.[0] -> 50 1
+.. -> 50 1
+.1 -> 50 1
+.\u{e9} -> 50 1
+.a b -> 50 2
+[01] -> 50 2
+[1:-0] -> 50 4
+[1:] -> 50 3
+.#1099511627777 -> 50 14
+[0:1099511627777] -> 50 15
+.aaaaaaaaaaaaaaaaaaaaaaaaaaaaaaaaaaaaaaaaaaaaaaaaaaaaaaaaaaaaaaaaa -> 50 65
+[][][][][][][][][][][][][][][][][][][][][][][][][][][][][][][][][][][][][][][][][][][][][][][][][][][][][][][][][][][][][][][][][] -> 50 128";
 
 #[test]
 fn refuses_at_the_longest_prefix(rt: HostRuntime) {
-    for row in NO_PATHS.lines() {
-        let (at, text) = row.split_once(' ').unwrap_or(("", row));
-        let at: u64 = at.parse().unwrap_or(u64::MAX);
-        match parse_path(rt.alloc(), text) {
-            Err(Refusal::BadQuery(found)) => assert_eq!(rt; found, at, "at {text}"),
-            _ => assert!(rt; false, "at {text}"),
-        }
+    answers(&rt, rt.alloc(), steps_told, NO_PATHS);
+}
+
+const NAME_OF_64: &str = "aaaaaaaaaaaaaaaaaaaaaaaaaaaaaaaaaaaaaaaaaaaaaaaaaaaaaaaaaaaaaaaa";
+
+const NAME_OF_65: &str = "aaaaaaaaaaaaaaaaaaaaaaaaaaaaaaaaaaaaaaaaaaaaaaaaaaaaaaaaaaaaaaaaa";
+
+/// The length of the name that the text is, if its bytes are the text's.
+fn name_length(text: &str) -> Option<usize> {
+    match NameText::of(text) {
+        Some(name) if name.as_bytes() == text.as_bytes() => Some(name.len()),
+        Some(_) => Some(0),
+        None => None,
     }
 }
 
 #[test]
 fn takes_names_of_up_to_64_bytes(rt: HostRuntime) {
-    assert!(rt; matches!(NameText::of("_9"), Some(name) if name.as_bytes() == b"_9".as_slice()));
-    assert!(rt; matches!(NameText::of(NAME_OF_64), Some(name) if name.len() == 64));
-    for text in [
-        "",
-        "9a",
-        "a.b",
-        "\u{e9}",
-        "aaaaaaaaaaaaaaaaaaaaaaaaaaaaaaaaaaaaaaaaaaaaaaaaaaaaaaaaaaaaaaaaa",
-    ] {
-        assert!(rt; NameText::of(text).is_none(), "at {text}");
+    same(&rt, name_length("_9"), Some(2));
+    same(&rt, name_length(NAME_OF_64), Some(64));
+    for text in ["", "9a", "a.b", "\u{e9}", NAME_OF_65] {
+        same_at(&rt, name_length(text), None, text);
     }
 }

@@ -1,79 +1,120 @@
-use crate::tests::record::{cut, printed, sale};
+use crate::tests::compared::same;
+use crate::tests::record::{named, sale, structure, two};
+use crate::tests::rows::answers;
+use crate::tests::told::{refusal_told, whole};
 use fm_base::Refusal;
 use fm_lanes::{Order, ValueKind};
 use fm_layout::Layout;
-use fm_path::{Dim, byte_offset, list_places, parse_path, resolve};
+use fm_path::{Resolved, byte_offset, list_places, parse_path, resolve};
 use std::alloc::Global;
-use std::process::Abort;
-use std::test::Fail;
 
-/// A struct of two ints of the same name.
-fn twins(alloc: Global) -> Result<Layout, Fail> {
-    let mut members = Vec::new(alloc);
-    members.push(Layout::value(ValueKind::Int).with_name(alloc, "a")?)?;
-    members.push(Layout::value(ValueKind::Int).with_name(alloc, "a")?)?;
-    Ok(Layout::structure(members)?)
+/// Where the path of this text leads to in the layout.
+fn resolved_at(alloc: Global, layout: &Layout, text: &str) -> Result<Resolved, Refusal> {
+    let path = parse_path(alloc, text)?;
+    resolve(alloc, layout, &path)
+}
+
+/// The value's offset, kind and order, the root's size and alignment, and the open indices.
+fn value_told(alloc: Global, resolved: &Resolved) -> String {
+    let (offset, value) = (resolved.offset(), resolved.value());
+    let (kind, order) = (value.kind, value.order);
+    let (size, alignment) = (resolved.root_size(), resolved.root_alignment());
+    let dims = resolved.dims().as_slice();
+    whole(
+        alloc,
+        format!(in alloc; "{offset} {kind:?} {order:?} in {size} {alignment} {dims:?}"),
+    )
+}
+
+/// Where the path of this text leads to in what was made.
+fn resolved_in(
+    alloc: Global,
+    made: Result<Layout, Refusal>,
+    text: &str,
+) -> Result<Resolved, Refusal> {
+    match made {
+        Ok(layout) => resolved_at(alloc, &layout, text),
+        Err(refusal) => Err(refusal),
+    }
+}
+
+/// That, or how the refusal is printed.
+fn path_told(alloc: Global, made: Result<Layout, Refusal>, text: &str) -> String {
+    match resolved_in(alloc, made, text) {
+        Ok(resolved) => value_told(alloc, &resolved),
+        Err(refusal) => refusal_told(alloc, refusal),
+    }
+}
+
+/// Where the path leads to in a sale.
+fn in_a_sale(alloc: Global, text: &str) -> String {
+    path_told(alloc, sale(alloc), text)
+}
+
+/// Paths to values of a sale.
+const VALUES: &str = "\
+.id -> 0 Int Little in 24 8 []
+.#1 -> 4 Short Little in 24 8 []
+.price -> 8 Long Little in 24 8 []
+.tags[3] -> 19 Byte Little in 24 8 []
+.tags[] -> 16 Byte Little in 24 8 [Dim { stride: 1, bound: 4 }]";
+
+#[test]
+fn resolves_to_the_value(rt: HostRuntime) {
+    answers(&rt, rt.alloc(), in_a_sale, VALUES);
+}
+
+/// Five values.
+fn five(alloc: Global, kind: ValueKind) -> Result<Layout, Refusal> {
+    Layout::sequence(alloc, 5, Layout::value(kind))
+}
+
+/// Where the path leads to in five ints.
+fn in_ints(alloc: Global, text: &str) -> String {
+    path_told(alloc, five(alloc, ValueKind::Int), text)
+}
+
+/// Paths to five ints.
+const INTS: &str = "\
+[] -> 0 Int Little in 20 4 [Dim { stride: 4, bound: 5 }]
+[1:2] -> 4 Int Little in 20 4 [Dim { stride: 8, bound: 2 }]
+[4:-2] -> 16 Int Little in 20 4 [Dim { stride: -8, bound: 3 }]
+[3:-2] -> 12 Int Little in 20 4 [Dim { stride: -8, bound: 2 }]
+[4:1] -> 16 Int Little in 20 4 [Dim { stride: 0, bound: 1 }]
+[0:-1] -> 0 Int Little in 20 4 [Dim { stride: 0, bound: 1 }]";
+
+#[test]
+fn strides_and_bounds(rt: HostRuntime) {
+    answers(&rt, rt.alloc(), in_ints, INTS);
+}
+
+/// The offset at these indices, if there are as many as open steps.
+fn offset_at(resolved: &Resolved, indices: &[u64]) -> Option<Result<u64, Refusal>> {
+    if resolved.dims().len() != indices.len() {
+        return None;
+    }
+    Some(resolved.offset_at(indices))
+}
+
+/// The offset in five bytes at an index of each second from the last on.
+fn offset_from_the_last(alloc: Global, index: u64) -> Option<Result<u64, Refusal>> {
+    match resolved_in(alloc, five(alloc, ValueKind::Byte), "[4:-2]") {
+        Ok(resolved) => offset_at(&resolved, &[index]),
+        Err(_) => None,
+    }
 }
 
 #[test]
-fn resolves_to_the_value(rt: HostRuntime) -> Result<(), Fail> {
-    let layout = sale(rt.alloc())?;
-    for (text, offset, kind) in [
-        (".id", 0, ValueKind::Int),
-        (".#1", 4, ValueKind::Short),
-        (".price", 8, ValueKind::Long),
-        (".tags[3]", 19, ValueKind::Byte),
-        (".tags[]", 16, ValueKind::Byte),
-    ] {
-        let path = parse_path(rt.alloc(), text)?;
-        let resolved = resolve(rt.alloc(), &layout, &path)?;
-        let value = resolved.value();
-        assert_eq!(rt;
-            (resolved.offset(), value.kind, value.order),
-            (offset, kind, Order::Little),
-            "at {text}"
-        );
-        assert_eq!(rt;
-            (resolved.root_size(), resolved.root_alignment()),
-            (24, 8),
-            "at {text}"
-        );
-    }
-    Ok(())
-}
-
-#[test]
-fn strides_and_bounds(rt: HostRuntime) -> Result<(), Fail> {
-    let layout = Layout::sequence(rt.alloc(), 5, Layout::value(ValueKind::Int))?;
-    for (text, offset, stride, bound) in [
-        ("[]", 0, 4, 5),
-        ("[1:2]", 4, 8, 2),
-        ("[4:-2]", 16, -8, 3),
-        ("[3:-2]", 12, -8, 2),
-        ("[4:1]", 16, 0, 1),
-        ("[0:-1]", 0, 0, 1),
-    ] {
-        let path = parse_path(rt.alloc(), text)?;
-        let resolved = resolve(rt.alloc(), &layout, &path)?;
-        assert_eq!(rt; resolved.offset(), offset, "at {text}");
-        let dims = [Dim { stride, bound }];
-        assert_eq!(rt; resolved.dims().as_slice(), dims.as_slice(), "at {text}");
-    }
-    Ok(())
-}
-
-#[test]
-fn offsets_back_to_the_start(rt: HostRuntime) -> Result<(), Fail> {
-    let layout = Layout::sequence(rt.alloc(), 5, Layout::value(ValueKind::Byte))?;
-    let path = parse_path(rt.alloc(), "[4:-2]")?;
-    let resolved = resolve(rt.alloc(), &layout, &path)?;
-    for (index, offset) in [(0, 4), (1, 2), (2, 0)] {
-        assert_eq!(rt; resolved.dims().len(), 1);
-        assert_eq!(rt; resolved.offset_at(&[index]), Ok(offset));
-    }
-    assert_eq!(rt; resolved.dims().len(), 1);
-    assert_eq!(rt; resolved.offset_at(&[3]), Err(Refusal::IndexOut(0)));
-    Ok(())
+fn offsets_back_to_the_start(rt: HostRuntime) {
+    let alloc = rt.alloc();
+    same(&rt, offset_from_the_last(alloc, 0), Some(Ok(4)));
+    same(&rt, offset_from_the_last(alloc, 1), Some(Ok(2)));
+    same(&rt, offset_from_the_last(alloc, 2), Some(Ok(0)));
+    same(
+        &rt,
+        offset_from_the_last(alloc, 3),
+        Some(Err(Refusal::IndexOut(0))),
+    );
 }
 
 /// Paths that lead to no value of a sale, and how their refusals are printed.
@@ -93,86 +134,136 @@ const NO_VALUES: &str = "\
 . -> 35";
 
 #[test]
-fn refuses_at_the_first_step(rt: HostRuntime) -> Result<(), Fail> {
-    let layout = sale(rt.alloc())?;
-    for row in NO_VALUES.lines() {
-        let (text, refusal) = cut(row);
-        let path = parse_path(rt.alloc(), text)?;
-        let found = printed(rt.alloc(), resolve(rt.alloc(), &layout, &path).err())?;
-        assert_eq!(rt; found.as_str(), refusal, "at {text}");
+fn refuses_at_the_first_step(rt: HostRuntime) {
+    answers(&rt, rt.alloc(), in_a_sale, NO_VALUES);
+}
+
+/// The path's offset in the layout.
+fn offset_of(alloc: Global, layout: &Layout, text: &str) -> Result<u64, Refusal> {
+    let path = parse_path(alloc, text)?;
+    byte_offset(layout, &path)
+}
+
+/// The path's offset in what was made, or how the refusal is printed.
+fn offset_told(alloc: Global, made: Result<Layout, Refusal>, text: &str) -> String {
+    let offset = match made {
+        Ok(layout) => offset_of(alloc, &layout, text),
+        Err(refusal) => Err(refusal),
+    };
+    match offset {
+        Ok(offset) => whole(alloc, format!(in alloc; "at {offset}")),
+        Err(refusal) => refusal_told(alloc, refusal),
     }
-    Ok(())
 }
 
-/// A path, and what `byte_offset` answers.
-type Offset = (&'static str, Result<u64, Refusal>);
+/// The path's offset in a sale.
+fn offset_in_a_sale(alloc: Global, text: &str) -> String {
+    offset_told(alloc, sale(alloc), text)
+}
 
-/// Stops where a path's offset in the layout isn't the row's.
-fn has_offsets<R: Abort>(
-    rt: &R,
-    alloc: Global,
-    layout: &Layout,
-    rows: &[Offset],
-) -> Result<(), Fail> {
-    for row in rows {
-        let (text, offset) = *row;
-        let path = parse_path(alloc, text)?;
-        assert_eq!(rt; byte_offset(layout, &path), offset, "at {text}");
+/// Paths into a sale, and their offsets.
+const OFFSETS: &str = "\
+. -> at 0
+.tags -> at 16
+.tags[3] -> at 19
+.#5 -> at 20
+.tags[] -> 34 1
+.id[0:0] -> 34 1
+.nope[] -> 31 0
+.tags[4] -> 33 1";
+
+#[test]
+fn offsets_of_layouts(rt: HostRuntime) {
+    answers(&rt, rt.alloc(), offset_in_a_sale, OFFSETS);
+}
+
+/// A struct of two ints of the same name.
+fn twins(alloc: Global) -> Result<Layout, Refusal> {
+    let first = named(alloc, ValueKind::Int, "a");
+    structure(two(alloc, first, named(alloc, ValueKind::Int, "a")))
+}
+
+/// The path's offset in twins.
+fn offset_in_twins(alloc: Global, text: &str) -> String {
+    offset_told(alloc, twins(alloc), text)
+}
+
+/// Paths into twins, and their offsets.
+const OFFSETS_IN_TWINS: &str = "\
+.a -> at 0
+.#1 -> at 4
+.#2 -> 31 0";
+
+/// The list of the values of what was made, or how the refusal is printed.
+fn list_told(alloc: Global, made: Result<Layout, Refusal>) -> String {
+    let list = match made {
+        Ok(layout) => list_places(alloc, &layout),
+        Err(refusal) => Err(refusal),
+    };
+    match list {
+        Ok(list) => list,
+        Err(refusal) => refusal_told(alloc, refusal),
     }
-    Ok(())
+}
+
+/// The list of the values of twins.
+const TWINS: &str = "size 8\nalignment 4\n.a 0 int little\n.#1 4 int little\n";
+
+#[test]
+fn the_first_of_a_name_is_meant(rt: HostRuntime) {
+    let alloc = rt.alloc();
+    answers(&rt, alloc, offset_in_twins, OFFSETS_IN_TWINS);
+    same(&rt, list_told(alloc, twins(alloc)).as_str(), TWINS);
+}
+
+/// So many sales.
+fn sales(alloc: Global, count: u64) -> Result<Layout, Refusal> {
+    Layout::sequence(alloc, count, sale(alloc)?)
+}
+
+/// None of two sales.
+fn none_of_two(alloc: Global) -> Result<Layout, Refusal> {
+    Layout::sequence(alloc, 0, sales(alloc, 2)?)
+}
+
+/// The path to a price in each, from the second sale back to the first.
+const PRICES: &str = "[][1:-1].price";
+
+/// Where it leads to.
+const PRICES_TOLD: &str =
+    "32 Long Little in 0 8 [Dim { stride: 48, bound: 0 }, Dim { stride: -24, bound: 2 }]";
+
+/// The offset of the first of none.
+fn first_of_none(alloc: Global) -> Option<Result<u64, Refusal>> {
+    match resolved_in(alloc, none_of_two(alloc), PRICES) {
+        Ok(resolved) => offset_at(&resolved, &[0, 0]),
+        Err(_) => None,
+    }
 }
 
 #[test]
-fn offsets_of_layouts(rt: HostRuntime) -> Result<(), Fail> {
-    let rows = [
-        (".", Ok(0)),
-        (".tags", Ok(16)),
-        (".tags[3]", Ok(19)),
-        (".#5", Ok(20)),
-        (".tags[]", Err(Refusal::StillOpen(1))),
-        (".id[0:0]", Err(Refusal::StillOpen(1))),
-        (".nope[]", Err(Refusal::NoMember(0))),
-        (".tags[4]", Err(Refusal::IndexOut(1))),
-    ];
-    has_offsets(&rt, rt.alloc(), &sale(rt.alloc())?, &rows)
+fn no_index_of_an_empty_sequence(rt: HostRuntime) {
+    let alloc = rt.alloc();
+    same(
+        &rt,
+        path_told(alloc, none_of_two(alloc), PRICES).as_str(),
+        PRICES_TOLD,
+    );
+    same(&rt, first_of_none(alloc), Some(Err(Refusal::IndexOut(0))));
 }
 
-#[test]
-fn the_first_of_a_name_is_meant(rt: HostRuntime) -> Result<(), Fail> {
-    let layout = twins(rt.alloc())?;
-    let rows = [
-        (".a", Ok(0)),
-        (".#1", Ok(4)),
-        (".#2", Err(Refusal::NoMember(0))),
-    ];
-    has_offsets(&rt, rt.alloc(), &layout, &rows)?;
-    let text = list_places(rt.alloc(), &layout)?;
-    let expected = "size 8\nalignment 4\n.a 0 int little\n.#1 4 int little\n";
-    assert_eq!(rt; text.as_str(), expected);
-    Ok(())
-}
+/// The list of the values of three sales.
+const SALES: &str =
+    "size 72\nalignment 8\n[].id 0 int little 24*3\n[].kind 4 short little 24*3\n[].price 8 long little 24*3\n[].tags[] 16 byte little 24*3 1*4\n";
 
 #[test]
-fn no_index_of_an_empty_sequence(rt: HostRuntime) -> Result<(), Fail> {
-    let inner = Layout::sequence(rt.alloc(), 2, sale(rt.alloc())?)?;
-    let layout = Layout::sequence(rt.alloc(), 0, inner)?;
-    let path = parse_path(rt.alloc(), "[][1:-1].price")?;
-    let resolved = resolve(rt.alloc(), &layout, &path)?;
-    assert_eq!(rt; resolved.root_size(), 0);
-    assert_eq!(rt; resolved.dims().len(), 2);
-    assert_eq!(rt; resolved.offset_at(&[0, 0]), Err(Refusal::IndexOut(0)));
-    Ok(())
-}
-
-#[test]
-fn lists_the_values(rt: HostRuntime) -> Result<(), Fail> {
-    let rows = Layout::sequence(rt.alloc(), 3, sale(rt.alloc())?)?;
-    let text = list_places(rt.alloc(), &rows)?;
-    let expected =
-        "size 72\nalignment 8\n[].id 0 int little 24*3\n[].kind 4 short little 24*3\n[].price 8 long little 24*3\n[].tags[] 16 byte little 24*3 1*4\n";
-    assert_eq!(rt; text.as_str(), expected);
+fn lists_the_values(rt: HostRuntime) {
+    let alloc = rt.alloc();
+    same(&rt, list_told(alloc, sales(alloc, 3)).as_str(), SALES);
     let value = Layout::value(ValueKind::Char).with_order(Order::Big);
-    let text = list_places(rt.alloc(), &value)?;
-    assert_eq!(rt; text.as_str(), "size 2\nalignment 2\n. 0 char big\n");
-    Ok(())
+    same(
+        &rt,
+        list_told(alloc, Ok(value)).as_str(),
+        "size 2\nalignment 2\n. 0 char big\n",
+    );
 }

@@ -1,90 +1,108 @@
-use crate::tests::record::{cut, printed, sale};
+use crate::tests::compared::same;
+use crate::tests::record::sale;
+use crate::tests::rows::answers;
+use crate::tests::told::{refusal_told, whole};
 use fm_base::Refusal;
 use fm_lanes::ValueKind;
 use fm_layout::Layout;
-use fm_records_query::{Asked, Fold, Operator, Query, check_record, parse_list, parse_query};
-use std::alloc::Global;
-use std::test::Fail;
+use fm_records_query::{Asked, Condition, Item, Query, check_record, parse_list, parse_query};
+use std::alloc::{AllocError, Global};
 
-/// The refusal of this text over the sales.
-fn refused(alloc: Global, text: &str) -> Result<Option<Refusal>, Fail> {
-    let layout = sale(alloc)?;
-    if check_record(&layout).is_err() {
-        return Ok(None);
+/// The item's text, and what it asks: a fold, of which offset, and over how many open indices.
+fn item_told(alloc: Global, item: &Item) -> Result<String, AllocError> {
+    let text = item.text.as_str();
+    match &item.asked {
+        Asked::Count => format!(in alloc; "; {text}: Count"),
+        Asked::Of(fold, path) => {
+            let (offset, open) = (path.offset(), path.dims().len());
+            format!(in alloc; "; {text}: {fold:?} {offset} {open}")
+        }
     }
-    Ok(parse_query(alloc, text, &layout).err())
 }
 
-/// Whether the text is refused so.
-fn is_refused(alloc: Global, text: &str, refusal: Refusal) -> Result<bool, Fail> {
-    Ok(refused(alloc, text)? == Some(refusal))
+/// The condition's text, and what it says: an operator, a literal, and the value's offset.
+fn condition_told(alloc: Global, condition: &Condition) -> Result<String, AllocError> {
+    let text = condition.text.as_str();
+    let (operator, literal) = (condition.operator, condition.literal);
+    let offset = condition.path.offset();
+    format!(in alloc; "; {text}: {operator:?} {literal} {offset}")
+}
+
+/// Each item and each condition of the query.
+fn parts_told(alloc: Global, query: &Query) -> Result<String, AllocError> {
+    let mut told = String::new(alloc);
+    for item in query.items() {
+        told.push_str(&item_told(alloc, item)?)?;
+    }
+    for condition in query.conditions() {
+        told.push_str(&condition_told(alloc, condition)?)?;
+    }
+    Ok(told)
+}
+
+/// A record's size and alignment, how many items and conditions the query has, and each of them.
+fn query_told(alloc: Global, query: &Query) -> String {
+    let (size, alignment) = (query.record_size(), query.record_alignment());
+    let (items, conditions) = (query.items().len(), query.conditions().len());
+    let parts = whole(alloc, parts_told(alloc, query));
+    whole(
+        alloc,
+        format!(in alloc; "{size} {alignment} {items} {conditions}{parts}"),
+    )
 }
 
 /// The query of this text over the sales.
-fn read(alloc: Global, text: &str) -> Result<Query, Fail> {
+fn read(alloc: Global, text: &str) -> Result<Query, Refusal> {
     let layout = sale(alloc)?;
     check_record(&layout)?;
-    Ok(parse_query(alloc, text, &layout)?)
+    parse_query(alloc, text, &layout)
 }
 
-#[test]
-fn reads_items(rt: HostRuntime) -> Result<(), Fail> {
-    let query = read(rt.alloc(), "count,sum(.price),list(.tags[]) where .kind>=2")?;
-    assert_eq!(rt; query.record_size(), 24);
-    assert_eq!(rt; query.record_alignment(), 8);
-    let items = query.items();
-    assert_eq!(rt; items.len(), 3);
-    assert_eq!(rt; items[0].text.as_str(), "count");
-    assert!(rt; matches!(&items[0].asked, Asked::Count));
-    assert_eq!(rt; items[1].text.as_str(), "sum(.price)");
-    assert!(rt; matches!(&items[1].asked, Asked::Of(Fold::Sum, path) if path.offset() == 8));
-    assert_eq!(rt; items[2].text.as_str(), "list(.tags[])");
-    assert!(rt; matches!(&items[2].asked, Asked::Of(Fold::All, path) if path.dims().len() == 1));
-    Ok(())
-}
-
-#[test]
-fn reads_conditions(rt: HostRuntime) -> Result<(), Fail> {
-    let query = read(rt.alloc(), "count where .kind>=2")?;
-    let conditions = query.conditions();
-    assert_eq!(rt; conditions.len(), 1);
-    assert_eq!(rt; conditions[0].text.as_str(), ".kind>=2");
-    assert_eq!(rt; conditions[0].path.offset(), 4);
-    assert_eq!(rt; conditions[0].operator, Operator::AtLeast);
-    assert_eq!(rt; conditions[0].literal, 2);
-    Ok(())
-}
-
-/// Conditions, and what they say.
-const CONDITIONS: [(&str, Operator, i64); 5] = [
-    (".id=0", Operator::Equal, 0),
-    (".id!=-1", Operator::NotEqual, -1),
-    (".id<-9223372036854775808", Operator::Below, i64::MIN),
-    (".id<=10", Operator::AtMost, 10),
-    (".kind>9223372036854775807", Operator::Above, i64::MAX),
-];
-
-#[test]
-fn reads_each_fold_and_operator(rt: HostRuntime) -> Result<(), Fail> {
-    let query = read(
-        rt.alloc(),
-        "min(.price),max(.#4[3:-1]) where .id=0 and .id!=-1 and .id<-9223372036854775808 and .id<=10 \
-         and .kind>9223372036854775807",
-    )?;
-    let items = query.items();
-    assert_eq!(rt; items.len(), 2);
-    assert!(rt; matches!(&items[0].asked, Asked::Of(Fold::Least, _)));
-    assert!(rt; matches!(&items[1].asked, Asked::Of(Fold::Greatest, _)));
-    assert_eq!(rt; query.conditions().len(), 5);
-    for (condition, (text, operator, literal)) in query.conditions().iter().zip(CONDITIONS) {
-        assert_eq!(rt; condition.text.as_str(), text);
-        assert_eq!(rt;
-            (condition.operator, condition.literal),
-            (operator, literal),
-            "at {text}"
-        );
+/// What the query says, or how its refusal is printed.
+fn told(alloc: Global, query: Result<Query, Refusal>) -> String {
+    match query {
+        Ok(query) => query_told(alloc, &query),
+        Err(refusal) => refusal_told(alloc, refusal),
     }
-    Ok(())
+}
+
+/// What the query of this text over the sales says.
+fn read_told(alloc: Global, text: &str) -> String {
+    told(alloc, read(alloc, text))
+}
+
+#[test]
+fn reads_items(rt: HostRuntime) {
+    let text = "count,sum(.price),list(.tags[]) where .kind>=2";
+    let wanted =
+        "24 8 3 1; count: Count; sum(.price): Sum 8 0; list(.tags[]): All 16 1; .kind>=2: AtLeast 2 4";
+    same(&rt, read_told(rt.alloc(), text).as_str(), wanted);
+}
+
+#[test]
+fn reads_conditions(rt: HostRuntime) {
+    let wanted = "24 8 1 1; count: Count; .kind>=2: AtLeast 2 4";
+    same(
+        &rt,
+        read_told(rt.alloc(), "count where .kind>=2").as_str(),
+        wanted,
+    );
+}
+
+/// A query of two folds and five conditions.
+const EACH: &str =
+    "min(.price),max(.#4[3:-1]) where .id=0 and .id!=-1 and .id<-9223372036854775808 and .id<=10 \
+     and .kind>9223372036854775807";
+
+/// What it says.
+const EACH_TOLD: &str =
+    "24 8 2 5; min(.price): Least 8 0; max(.#4[3:-1]): Greatest 19 1; .id=0: Equal 0 0; .id!=-1: NotEqual -1 0; \
+     .id<-9223372036854775808: Below -9223372036854775808 0; .id<=10: AtMost 10 0; \
+     .kind>9223372036854775807: Above 9223372036854775807 4";
+
+#[test]
+fn reads_each_fold_and_operator(rt: HostRuntime) {
+    same(&rt, read_told(rt.alloc(), EACH).as_str(), EACH_TOLD);
 }
 
 const ITEMS_16: &str =
@@ -94,65 +112,58 @@ const CONDITIONS_16: &str =
     "count where .id=0 and .id=0 and .id=0 and .id=0 and .id=0 and .id=0 and .id=0 and .id=0 \
      and .id=0 and .id=0 and .id=0 and .id=0 and .id=0 and .id=0 and .id=0 and .id=0";
 
-#[test]
-fn reads_sixteen_of_each(rt: HostRuntime) -> Result<(), Fail> {
-    let items = read(rt.alloc(), ITEMS_16)?;
-    assert_eq!(rt; items.items().len(), 16);
-    assert_eq!(rt; items.conditions().len(), 0);
-    let conditions = read(rt.alloc(), CONDITIONS_16)?;
-    assert_eq!(rt; conditions.conditions().len(), 16);
-    Ok(())
+/// How many items and conditions the query of this text has.
+fn counts(alloc: Global, text: &str) -> Result<(usize, usize), Refusal> {
+    let query = read(alloc, text)?;
+    Ok((query.items().len(), query.conditions().len()))
 }
 
-/// How many bytes of texts that are none some query's text begins with, and these texts. One text, since a prover goes
-/// through a table row by row.
+#[test]
+fn reads_sixteen_of_each(rt: HostRuntime) {
+    same(&rt, counts(rt.alloc(), ITEMS_16), Ok((16, 0)));
+    same(&rt, counts(rt.alloc(), CONDITIONS_16), Ok((1, 16)));
+}
+
+/// Texts that are none, and behind the refusal's number how many bytes of it some query's text begins with.
 const NO_TEXTS: &str = "\
-0\x20
-6 count,
-11 sum(.tags[01])
-0 x
-1 mon(.id)
-3 maxi
-6 count\x20
-11 count where
-6 count  where .id=0
-6 count, sum(.id)
-4 sum()
-7 sum(.id
-8 sum(.id))
-7 sum(.id=
-15 count where .id
-15 count where .id)
-16 count where .id!0
-16 count where .id==0
-17 count where .id<=
-17 count where .id<==0
-16 count where .id=+1
-17 count where .id=-0
-17 count where .id=-
-17 count where .id=00
-34 count where .id=9223372036854775808
-35 count where .id=-9223372036854775809
-18 count where .id=1 or .id=2
-18 count where .id=1  and .id=2
-22 count where .id=1 and\x20
-20 count where .id=1 an
-17 count where .id=1,count
-5 count\u{e9}
-95 count,count,count,count,count,count,count,count,count,count,count,count,count,count,count,count,count
-167 count where .id=0 and .id=0 and .id=0 and .id=0 and .id=0 and .id=0 and .id=0 and .id=0 and .id=0 and .id=0 and .id=0 and .id=0 and .id=0 and .id=0 and .id=0 and .id=0 and .id=0";
+count, -> 50 6
+ -> 50 0
+sum(.tags[01]) -> 50 11
+x -> 50 0
+mon(.id) -> 50 1
+maxi -> 50 3
+count\x20 -> 50 6
+count where -> 50 11
+count  where .id=0 -> 50 6
+count, sum(.id) -> 50 6
+sum() -> 50 4
+sum(.id -> 50 7
+sum(.id)) -> 50 8
+sum(.id= -> 50 7
+count where .id -> 50 15
+count where .id) -> 50 15
+count where .id!0 -> 50 16
+count where .id==0 -> 50 16
+count where .id<= -> 50 17
+count where .id<==0 -> 50 17
+count where .id=+1 -> 50 16
+count where .id=-0 -> 50 17
+count where .id=- -> 50 17
+count where .id=00 -> 50 17
+count where .id=9223372036854775808 -> 50 34
+count where .id=-9223372036854775809 -> 50 35
+count where .id=1 or .id=2 -> 50 18
+count where .id=1  and .id=2 -> 50 18
+count where .id=1 and\x20 -> 50 22
+count where .id=1 an -> 50 20
+count where .id=1,count -> 50 17
+count\u{e9} -> 50 5
+count,count,count,count,count,count,count,count,count,count,count,count,count,count,count,count,count -> 50 95
+count where .id=0 and .id=0 and .id=0 and .id=0 and .id=0 and .id=0 and .id=0 and .id=0 and .id=0 and .id=0 and .id=0 and .id=0 and .id=0 and .id=0 and .id=0 and .id=0 and .id=0 -> 50 167";
 
 #[test]
-fn refuses_at_the_longest_prefix(rt: HostRuntime) -> Result<(), Fail> {
-    for row in NO_TEXTS.lines() {
-        let (at, text) = row.split_once(' ').unwrap_or(("", row));
-        let at = at.parse().unwrap_or(u64::MAX);
-        assert!(rt;
-            is_refused(rt.alloc(), text, Refusal::BadQuery(at))?,
-            "at {text}"
-        );
-    }
-    Ok(())
+fn refuses_at_the_longest_prefix(rt: HostRuntime) {
+    answers(&rt, rt.alloc(), read_told, NO_TEXTS);
 }
 
 /// Queries whose paths are refused, and how the refusal that comes first is printed.
@@ -172,43 +183,47 @@ count,sum(.id.x),sum(.nope) where .tags[]=1 -> 30 1
 sum(.nope),count where .id=x -> 50 27";
 
 #[test]
-fn refuses_paths_in_their_order(rt: HostRuntime) -> Result<(), Fail> {
-    for row in BAD_PATHS.lines() {
-        let (text, refusal) = cut(row);
-        let found = printed(rt.alloc(), refused(rt.alloc(), text)?)?;
-        assert_eq!(rt; found.as_str(), refusal, "at {text}");
-    }
-    Ok(())
+fn refuses_paths_in_their_order(rt: HostRuntime) {
+    answers(&rt, rt.alloc(), read_told, BAD_PATHS);
+}
+
+/// Whether records can be of what was made.
+fn checked(made: Result<Layout, Refusal>) -> Result<(), Refusal> {
+    check_record(&made?)
 }
 
 #[test]
-fn checks_records(rt: HostRuntime) -> Result<(), Fail> {
-    assert!(rt; check_record(&sale(rt.alloc())?).is_ok());
-    let empty = Layout::structure(Vec::new(rt.alloc()))?;
-    assert!(rt; matches!(check_record(&empty), Err(Refusal::NoSize)));
-    let ragged = Layout::value(ValueKind::Int).with_alignment(8)?;
-    assert!(rt; matches!(check_record(&ragged), Err(Refusal::ElementRagged)));
-    Ok(())
+fn checks_records(rt: HostRuntime) {
+    let alloc = rt.alloc();
+    same(&rt, checked(sale(alloc)), Ok(()));
+    let empty = Layout::structure(Vec::new(alloc));
+    same(&rt, checked(empty), Err(Refusal::NoSize));
+    let ragged = Layout::value(ValueKind::Int).with_alignment(8);
+    same(&rt, checked(ragged), Err(Refusal::ElementRagged));
 }
 
-#[test]
-fn lists_the_values_of_a_path(rt: HostRuntime) -> Result<(), Fail> {
-    let layout = sale(rt.alloc())?;
+/// The query that lists the values of this path of the sales.
+fn list(alloc: Global, text: &str) -> Result<Query, Refusal> {
+    let layout = sale(alloc)?;
     check_record(&layout)?;
-    let query = parse_list(rt.alloc(), ".tags[]", &layout)?;
-    assert_eq!(rt; query.conditions().len(), 0);
-    assert_eq!(rt; query.items().len(), 1);
-    let item = &query.items()[0];
-    assert_eq!(rt; item.text.as_str(), "list(.tags[])");
-    assert!(rt; matches!(&item.asked, Asked::Of(Fold::All, path) if path.offset() == 16));
-    for (text, refusal) in [
-        ("", Refusal::BadQuery(0)),
-        (".tags[]=1", Refusal::BadQuery(7)),
-        ("list(.id)", Refusal::BadQuery(0)),
-        (".nope", Refusal::NoMember(0)),
-        (".tags", Refusal::NotValue),
-    ] {
-        assert_eq!(rt; parse_list(rt.alloc(), text, &layout).err(), Some(refusal));
-    }
-    Ok(())
+    parse_list(alloc, text, &layout)
+}
+
+/// What that query says, or how its refusal is printed.
+fn list_told(alloc: Global, text: &str) -> String {
+    told(alloc, list(alloc, text))
+}
+
+/// Paths, and the queries that list their values.
+const LISTS: &str = "\
+.tags[] -> 24 8 1 0; list(.tags[]): All 16 1
+ -> 50 0
+.tags[]=1 -> 50 7
+list(.id) -> 50 0
+.nope -> 31 0
+.tags -> 35";
+
+#[test]
+fn lists_the_values_of_a_path(rt: HostRuntime) {
+    answers(&rt, rt.alloc(), list_told, LISTS);
 }

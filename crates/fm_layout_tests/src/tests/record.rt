@@ -1,33 +1,59 @@
+ghost use Rattle.fm_layout.specs.Name.{IsName};
+
 use fm_base::Refusal;
 use fm_lanes::ValueKind;
 use fm_layout::Layout;
-use std::alloc::{AllocError, Global};
+use std::alloc::Global;
 
-/// The record of `fm_layout`'s documentation, of 24 bytes: an id, a kind, a price and four tags.
-pub fn sale(alloc: Global) -> Result<Layout, Refusal> {
-    let members = vec![in alloc;
-        Layout::value(ValueKind::Int).with_name(alloc, "id")?,
-        Layout::value(ValueKind::Short).with_name(alloc, "kind")?,
-        Layout::padding(2)?,
-        Layout::value(ValueKind::Long).with_name(alloc, "price")?,
-        Layout::sequence(alloc, 4, Layout::value(ValueKind::Byte))?.with_name(alloc, "tags")?,
-        Layout::padding(4)?,
-    ];
-    match members {
-        Ok(members) => Layout::structure(members),
+/// Members that were made, or why not.
+pub(crate) type Members = Result<Vec<Layout>, Refusal>;
+
+/// The members with one more behind them.
+pub(crate) fn add(members: Members, member: Result<Layout, Refusal>) -> Members {
+    let mut members = members?;
+    match members.push(member?) {
+        Ok(()) => Ok(members),
         Err(_) => Err(Refusal::Memory),
     }
 }
 
-/// How the refusal is printed, if there is one.
-pub fn printed(alloc: Global, refusal: Option<Refusal>) -> Result<String, AllocError> {
-    match refusal {
-        Some(refusal) => format!(in alloc; "{refusal}"),
-        None => Ok(String::new(alloc)),
-    }
+/// The members of a group of one.
+pub(crate) fn one(alloc: Global, member: Layout) -> Members {
+    add(Ok(Vec::new(alloc)), Ok(member))
 }
 
-/// What stands before the row's first arrow, and what behind it.
-pub fn cut(row: &str) -> (&str, &str) {
-    row.split_once(" -> ").unwrap_or((row, ""))
+/// The members of a group of two.
+pub(crate) fn two(
+    alloc: Global,
+    first: Result<Layout, Refusal>,
+    second: Result<Layout, Refusal>,
+) -> Members {
+    add(add(Ok(Vec::new(alloc)), first), second)
+}
+
+/// A struct of these.
+pub(crate) fn structure(members: Members) -> Result<Layout, Refusal> {
+    Layout::structure(members?)
+}
+
+/// A value under this name.
+pub(crate) fn named(alloc: Global, kind: ValueKind, name: &str) -> Result<Layout, Refusal>
+    requires { IsName name.now }
+{
+    Layout::value(kind).with_name(alloc, name)
+}
+
+/// Four bytes under their name.
+fn tags(alloc: Global) -> Result<Layout, Refusal> {
+    Layout::sequence(alloc, 4, Layout::value(ValueKind::Byte))?.with_name(alloc, "tags")
+}
+
+/// The record of `fm_layout`'s documentation, of 24 bytes: an id, a kind, a price and four tags.
+pub(crate) fn sale(alloc: Global) -> Result<Layout, Refusal> {
+    let id = named(alloc, ValueKind::Int, "id");
+    let members = two(alloc, id, named(alloc, ValueKind::Short, "kind"));
+    let members = add(members, Layout::padding(2));
+    let members = add(members, named(alloc, ValueKind::Long, "price"));
+    let members = add(members, tags(alloc));
+    structure(add(members, Layout::padding(4)))
 }

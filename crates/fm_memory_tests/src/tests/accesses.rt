@@ -1,6 +1,7 @@
 ghost use Rattle.std.specs.Prelude.{◌≡◌, ◌+◌, ◌≤◌, None};
 ghost use Rattle.fm_segment_access.specs.Learnt.{CanTouch};
 
+use crate::tests::compared::same;
 use fm_base::{ArenaId, Kind, Memory, Refusal};
 use fm_mono::Mono;
 use fm_segment_access::{fill, get_number, put_number};
@@ -14,54 +15,62 @@ fn three_words<R: Abort + Wait, M: Memory>(rt: &R, m: &mut M) -> ArenaId
 {
     let arena = m.open_arena(rt, Kind::Shared).expect(rt, "an arena");
     let place = m.allocate(rt, arena, 24, 8).expect(rt, "three words");
-    assert_eq!(rt; place, 0);
+    same(rt, place, 0);
     arena
 }
 
-/// Bytes of such an arena, from `place` on.
-#[derive(Clone, Copy)]
-struct Bytes {
+/// Stops where `put_number` doesn't answer so.
+fn puts<R: Abort + Wait, M: Memory>(
+    rt: &R,
+    m: &mut M,
     arena: ArenaId,
     place: u64,
     width: u32,
+    number: u64,
+    answer: Result<(), Refusal>,
+)
+    requires words { CanTouch (M.view m.old) arena 0 24 }
+    requires some { 1 ≤ width }
+    requires width { width ≤ 8 }
+    requires within { place + width ≤ 24 }
+    ensures { CanTouch (M.view m.new) arena 0 24 }
+{
+    same(rt, put_number(rt, m, arena, place, width, number), answer);
 }
 
-fn bytes_at(arena: ArenaId, place: u64, width: u32) -> Bytes
-    ensures { result ≡ record { arena = arena; place = place; width = width } }
+/// Stops where `fill` doesn't answer so.
+fn fills<R: Abort + Wait, M: Memory>(
+    rt: &R,
+    m: &mut M,
+    arena: ArenaId,
+    place: u64,
+    n: u64,
+    byte: u8,
+    answer: Result<(), Refusal>,
+)
+    requires words { CanTouch (M.view m.old) arena 0 24 }
+    requires within { place + n ≤ 24 }
+    ensures { CanTouch (M.view m.new) arena 0 24 }
 {
-    Bytes {
-        arena,
-        place,
-        width,
-    }
+    same(rt, fill(rt, m, arena, place, n, byte), answer);
 }
 
-fn put<R: Wait, M: Memory>(rt: &R, m: &mut M, to: Bytes, number: u64) -> Result<(), Refusal>
-    requires words { CanTouch (M.view m.old) to.arena 0 24 }
-    requires some { 1 ≤ to.width }
-    requires width { to.width ≤ 8 }
-    requires within { to.place + to.width ≤ 24 }
-    ensures { CanTouch (M.view m.new) to.arena 0 24 }
+/// Stops where `get_number` doesn't answer so.
+fn gets<R: Abort, M: Memory>(
+    rt: &R,
+    m: &mut M,
+    arena: ArenaId,
+    place: u64,
+    width: u32,
+    answer: Result<u64, Refusal>,
+)
+    requires words { CanTouch (M.view m.old) arena 0 24 }
+    requires some { 1 ≤ width }
+    requires width { width ≤ 8 }
+    requires within { place + width ≤ 24 }
+    ensures { CanTouch (M.view m.new) arena 0 24 }
 {
-    put_number(rt, m, to.arena, to.place, to.width, number)
-}
-
-fn fill_bytes<R: Wait, M: Memory>(rt: &R, m: &mut M, to: Bytes, byte: u8) -> Result<(), Refusal>
-    requires words { CanTouch (M.view m.old) to.arena 0 24 }
-    requires within { to.place + to.width ≤ 24 }
-    ensures { CanTouch (M.view m.new) to.arena 0 24 }
-{
-    fill(rt, m, to.arena, to.place, u64::from(to.width), byte)
-}
-
-fn get<M: Memory>(m: &mut M, from: Bytes) -> Result<u64, Refusal>
-    requires words { CanTouch (M.view m.old) from.arena 0 24 }
-    requires some { 1 ≤ from.width }
-    requires width { from.width ≤ 8 }
-    requires within { from.place + from.width ≤ 24 }
-    ensures { CanTouch (M.view m.new) from.arena 0 24 }
-{
-    get_number(m, from.arena, from.place, from.width)
+    same(rt, get_number(m, arena, place, width), answer);
 }
 
 /// The byte at `at`, where the bytes 1, 2, 3 .. were put at `place` and all others are 255.
@@ -76,22 +85,28 @@ fn byte_at(at: u64, place: u64, width: u64) -> u64
 }
 
 /// Puts a number of the bytes 1, 2, 3 .. among ones, and reads it and every byte again.
-fn put_among_ones<R: Abort + Wait, M: Memory>(rt: &R, m: &mut M, to: Bytes, number: u64)
-    requires words { CanTouch (M.view m.old) to.arena 0 24 }
-    requires some { 1 ≤ to.width }
-    requires width { to.width ≤ 8 }
-    requires within { to.place + to.width ≤ 24 }
-    ensures { CanTouch (M.view m.new) to.arena 0 24 }
+fn put_among_ones<R: Abort + Wait, M: Memory>(
+    rt: &R,
+    m: &mut M,
+    arena: ArenaId,
+    place: u64,
+    width: u32,
+    number: u64,
+)
+    requires words { CanTouch (M.view m.old) arena 0 24 }
+    requires some { 1 ≤ width }
+    requires width { width ≤ 8 }
+    requires within { place + width ≤ 24 }
+    ensures { CanTouch (M.view m.new) arena 0 24 }
 {
-    let arena = to.arena;
-    assert_eq!(rt; put(rt, m, bytes_at(arena, 0, 8), u64::MAX), Ok(()));
-    assert_eq!(rt; put(rt, m, bytes_at(arena, 8, 8), u64::MAX), Ok(()));
-    assert_eq!(rt; put(rt, m, bytes_at(arena, 16, 8), u64::MAX), Ok(()));
-    assert_eq!(rt; put(rt, m, to, number), Ok(()));
-    assert_eq!(rt; get(m, to), Ok(number));
+    puts(rt, m, arena, 0, 8, u64::MAX, Ok(()));
+    puts(rt, m, arena, 8, 8, u64::MAX, Ok(()));
+    puts(rt, m, arena, 16, 8, u64::MAX, Ok(()));
+    puts(rt, m, arena, place, width, number, Ok(()));
+    gets(rt, m, arena, place, width, Ok(number));
     for at in 0..24u64 {
-        let byte = byte_at(at, to.place, u64::from(to.width));
-        assert_eq!(rt; get(m, bytes_at(arena, at, 1)), Ok(byte));
+        let byte = byte_at(at, place, u64::from(width));
+        gets(rt, m, arena, at, 1, Ok(byte));
     }
 }
 
@@ -104,7 +119,7 @@ fn at_each_place<R: Abort + Wait, M: Memory>(rt: &R, m: &mut M, width: u32, numb
 {
     let arena = three_words(rt, m);
     for place in 0..9u64 {
-        put_among_ones(rt, m, bytes_at(arena, place, width), number);
+        put_among_ones(rt, m, arena, place, width, number);
     }
 }
 
@@ -120,36 +135,24 @@ fn numbers_at_each_place(rt: HostRuntime) {
 #[test]
 fn a_fill_changes_just_its_bytes(rt: HostRuntime) {
     let mut m = Mono::make(rt.alloc(), 64);
-    let arena = three_words(&rt, &mut m);
-    assert_eq!(rt; fill_bytes(&rt, &mut m, bytes_at(arena, 3, 14), 7), Ok(()));
-    assert_eq!(rt;
-        get(&mut m, bytes_at(arena, 0, 8)),
-        Ok(0x0707_0707_0700_0000)
-    );
-    assert_eq!(rt;
-        get(&mut m, bytes_at(arena, 8, 8)),
-        Ok(0x0707_0707_0707_0707)
-    );
-    assert_eq!(rt; get(&mut m, bytes_at(arena, 16, 8)), Ok(7));
-    assert_eq!(rt; fill_bytes(&rt, &mut m, bytes_at(arena, 5, 0), 9), Ok(()));
-    assert_eq!(rt; get(&mut m, bytes_at(arena, 5, 1)), Ok(7));
+    let a = three_words(&rt, &mut m);
+    fills(&rt, &mut m, a, 3, 14, 7, Ok(()));
+    gets(&rt, &mut m, a, 0, 8, Ok(0x0707_0707_0700_0000));
+    gets(&rt, &mut m, a, 8, 8, Ok(0x0707_0707_0707_0707));
+    gets(&rt, &mut m, a, 16, 8, Ok(7));
+    fills(&rt, &mut m, a, 5, 0, 9, Ok(()));
+    gets(&rt, &mut m, a, 5, 1, Ok(7));
 }
 
 #[test]
 fn a_closed_arena_is_refused(rt: HostRuntime) {
     let mut m = Mono::make(rt.alloc(), 64);
-    let arena = three_words(&rt, &mut m);
+    let a = three_words(&rt, &mut m);
     let refused = Refusal::Closed;
-    assert_eq!(rt;
-        put(&rt, &mut m, bytes_at(arena, 6, 4), 0x0403_0201),
-        Ok(())
-    );
-    assert_eq!(rt; get(&mut m, bytes_at(arena, 4, 4)), Ok(0x0201_0000));
-    assert_eq!(rt; m.close(&rt, arena), Ok(()));
-    assert_eq!(rt; get(&mut m, bytes_at(arena, 6, 4)), Err(refused));
-    assert_eq!(rt; put(&rt, &mut m, bytes_at(arena, 6, 4), 0), Err(refused));
-    assert_eq!(rt;
-        fill_bytes(&rt, &mut m, bytes_at(arena, 6, 4), 0),
-        Err(refused)
-    );
+    puts(&rt, &mut m, a, 6, 4, 0x0403_0201, Ok(()));
+    gets(&rt, &mut m, a, 4, 4, Ok(0x0201_0000));
+    same(&rt, m.close(&rt, a), Ok(()));
+    gets(&rt, &mut m, a, 6, 4, Err(refused));
+    puts(&rt, &mut m, a, 6, 4, 0, Err(refused));
+    fills(&rt, &mut m, a, 6, 4, 0, Err(refused));
 }

@@ -2,6 +2,7 @@ ghost use Rattle.std.specs.Prelude.{◌≡◌, ◌≤◌, IsTrue, None, length};
 ghost use Rattle.fm_lanes.specs.Value.{kind_of};
 ghost use Rattle.fm_segment.specs.Learnt.{CanUse};
 
+use crate::tests::compared::same;
 use crate::tests::segments::fresh;
 use fm_base::{Memory, Refusal};
 use fm_handle::VarHandle;
@@ -25,7 +26,7 @@ pub fn handle<R: Abort>(rt: &R, alloc: Global, kind: ValueKind, text: &str) -> V
 pub fn takes<R: Abort>(rt: &R, h: &VarHandle, indices: &[u64])
     ensures { length indices.now ≡ length h.now.dims }
 {
-    assert!(rt; indices.len() == h.resolved().dims().len());
+    same(rt, indices.len() == h.resolved().dims().len(), true);
 }
 
 fn is_of(v: Value, kind: ValueKind) -> bool
@@ -46,7 +47,7 @@ fn is_of(v: Value, kind: ValueKind) -> bool
 pub fn holds<R: Abort>(rt: &R, h: &VarHandle, v: Value)
     ensures { kind_of v ≡ h.now.value.kind }
 {
-    assert!(rt; is_of(v, h.resolved().value().kind));
+    same(rt, is_of(v, h.resolved().value().kind), true);
 }
 
 /// Stops where `get` doesn't answer so.
@@ -62,7 +63,7 @@ fn gets<R: Abort, M: Memory>(
     ensures { CanUse (M.view m.new) s.now }
 {
     takes(rt, h, indices);
-    assert_eq!(rt; h.get(m, s, 0, indices), answer);
+    same(rt, h.get(m, s, 0, indices), answer);
 }
 
 /// Stops where `set` doesn't answer so.
@@ -80,7 +81,7 @@ fn sets<R: Abort + Wait, M: Memory>(
 {
     takes(rt, h, indices);
     holds(rt, h, v);
-    assert_eq!(rt; h.set(rt, m, s, 0, indices, v), answer);
+    same(rt, h.set(rt, m, s, 0, indices, v), answer);
 }
 
 /// Stops where `get_and_add` doesn't answer so.
@@ -98,7 +99,7 @@ fn adds<R: Abort + Wait, M: Memory>(
 {
     takes(rt, h, indices);
     holds(rt, h, delta);
-    assert_eq!(rt; h.get_and_add(rt, m, s, 0, indices, delta), answer);
+    same(rt, h.get_and_add(rt, m, s, 0, indices, delta), answer);
 }
 
 /// Stops where `compare_and_exchange` of this value for the next one doesn't answer so.
@@ -119,7 +120,7 @@ fn exchanges<R: Abort + Wait, M: Memory>(
     holds(rt, h, expected);
     holds(rt, h, v);
     let found = h.compare_and_exchange(rt, m, s, 0, indices, expected, v);
-    assert_eq!(rt; found, answer);
+    same(rt, found, answer);
 }
 
 /// Stops where `compare_and_set` of this value for the next one doesn't answer so.
@@ -140,7 +141,96 @@ fn wins<R: Abort + Wait, M: Memory>(
     holds(rt, h, expected);
     holds(rt, h, v);
     let won = h.compare_and_set(rt, m, s, 0, indices, expected, v);
-    assert_eq!(rt; won, answer);
+    same(rt, won, answer);
+}
+
+/// Stops where `set_long` doesn't answer so.
+fn sets_long<R: Abort, M: Memory>(
+    rt: &R,
+    m: &mut M,
+    h: &VarHandle,
+    s: &Segment,
+    base: u64,
+    indices: &[u64],
+    answer: Result<(), Refusal>,
+)
+    requires { CanUse (M.view m.old) s.now }
+    ensures { CanUse (M.view m.new) s.now }
+{
+    takes(rt, h, indices);
+    same(rt, h.set_long(m, s, base, indices, 7), answer);
+}
+
+/// Stops where `compare_and_exchange_long` of 0 for 5 doesn't answer so.
+fn exchanges_long<R: Abort, M: Memory>(
+    rt: &R,
+    m: &mut M,
+    h: &VarHandle,
+    s: &Segment,
+    indices: &[u64],
+    answer: Result<i64, Refusal>,
+)
+    requires { CanUse (M.view m.old) s.now }
+    ensures { CanUse (M.view m.new) s.now }
+{
+    takes(rt, h, indices);
+    same(
+        rt,
+        h.compare_and_exchange_long(m, s, 0, indices, 0, 5),
+        answer,
+    );
+}
+
+/// Stops where `get_and_add_long` of -20 doesn't answer so.
+fn adds_long<R: Abort, M: Memory>(
+    rt: &R,
+    m: &mut M,
+    h: &VarHandle,
+    s: &Segment,
+    indices: &[u64],
+    answer: Result<i64, Refusal>,
+)
+    requires { CanUse (M.view m.old) s.now }
+    ensures { CanUse (M.view m.new) s.now }
+{
+    takes(rt, h, indices);
+    same(rt, h.get_and_add_long(m, s, 0, indices, -20), answer);
+}
+
+/// An int, at `index` of the second row, is set, added to, and changed by who expects it.
+fn change_an_int<R: Abort + Wait, M: Memory>(
+    rt: &R,
+    m: &mut M,
+    rows: &VarHandle,
+    row: &VarHandle,
+    s: &Segment,
+    index: u64,
+)
+    requires { CanUse (M.view m.old) s.now }
+    ensures { CanUse (M.view m.new) s.now }
+{
+    let (four, seven, nine) = (Value::Int(4), Value::Int(7), Value::Int(9));
+    sets(rt, m, rows, s, &[1, index], seven, Ok(()));
+    adds(rt, m, row, s, &[index], Value::Int(-3), Ok(seven));
+    wins(rt, m, rows, s, &[1, index], (seven, nine), Ok(false));
+    wins(rt, m, rows, s, &[1, index], (four, nine), Ok(true));
+}
+
+/// It is 9 then, and is exchanged for 7.
+fn exchange_an_int<R: Abort + Wait, M: Memory>(
+    rt: &R,
+    m: &mut M,
+    row: &VarHandle,
+    s: &Segment,
+    index: u64,
+)
+    requires { CanUse (M.view m.old) s.now }
+    ensures { CanUse (M.view m.new) s.now }
+{
+    let (four, seven, nine) = (Value::Int(4), Value::Int(7), Value::Int(9));
+    exchanges(rt, m, row, s, &[index], (four, seven), Ok(nine));
+    exchanges(rt, m, row, s, &[index], (nine, seven), Ok(nine));
+    gets(rt, m, row, s, &[index], Ok(seven));
 }
 
 /// What every memory does with an int in a word whose other int others alone change: the int is as this caller leaves
@@ -159,15 +249,23 @@ pub fn use_ints<R: Abort + Wait, M: Memory>(
     let s = fresh(rt, m, 16);
     let rows = handle(rt, alloc, ValueKind::Int, "[][]");
     let row = handle(rt, alloc, ValueKind::Int, "[1][]");
-    let (four, seven, nine) = (Value::Int(4), Value::Int(7), Value::Int(9));
-    sets(rt, m, &rows, &s, &[1, index], seven, Ok(()));
-    adds(rt, m, &row, &s, &[index], Value::Int(-3), Ok(seven));
-    wins(rt, m, &rows, &s, &[1, index], (seven, nine), Ok(false));
-    wins(rt, m, &rows, &s, &[1, index], (four, nine), Ok(true));
-    exchanges(rt, m, &row, &s, &[index], (four, seven), Ok(nine));
-    exchanges(rt, m, &row, &s, &[index], (nine, seven), Ok(nine));
-    gets(rt, m, &row, &s, &[index], Ok(seven));
+    change_an_int(rt, m, &rows, &row, &s, index);
+    exchange_an_int(rt, m, &row, &s, index);
     gets(rt, m, &rows, &s, &[1, 1 - index], Ok(Value::Int(others)));
+}
+
+/// A long to which others add `step` before each call on its word.
+fn change_a_long<R: Abort, M: Memory>(rt: &R, m: &mut M, long: &VarHandle, s: &Segment, step: u32)
+    requires known { CanUse (M.view m.old) s.now }
+    requires small { step ≤ 1 }
+    ensures { CanUse (M.view m.new) s.now }
+{
+    let step = i64::from(step);
+    sets_long(rt, m, long, s, 0, &[1, 0], Ok(()));
+    gets(rt, m, long, s, &[1, 0], Ok(Value::Long(7 + step)));
+    exchanges_long(rt, m, long, s, &[1, 0], Ok(7 + 2 * step));
+    adds_long(rt, m, long, s, &[1, 0], Ok(7 + 3 * step));
+    gets(rt, m, long, s, &[1, 0], Ok(Value::Long(4 * step - 13)));
 }
 
 /// What every memory does with a long to which others add `step` before each call on its word.
@@ -177,16 +275,8 @@ pub fn use_longs<R: Abort + Wait, M: Memory>(rt: &R, m: &mut M, alloc: Global, s
     ensures { (M.view m.new).inside ≡ None }
 {
     let s = fresh(rt, m, 32);
-    let longs = handle(rt, alloc, ValueKind::Long, "[][]");
-    let step = i64::from(step);
-    takes(rt, &longs, &[1, 0]);
-    assert_eq!(rt; longs.set_long(m, &s, 0, &[1, 0], 7), Ok(()));
-    gets(rt, m, &longs, &s, &[1, 0], Ok(Value::Long(7 + step)));
-    let found = longs.compare_and_exchange_long(m, &s, 0, &[1, 0], 0, 5);
-    assert_eq!(rt; found, Ok(7 + 2 * step));
-    let found = longs.get_and_add_long(m, &s, 0, &[1, 0], -20);
-    assert_eq!(rt; found, Ok(7 + 3 * step));
-    gets(rt, m, &longs, &s, &[1, 0], Ok(Value::Long(4 * step - 13)));
+    let long = handle(rt, alloc, ValueKind::Long, "[][]");
+    change_a_long(rt, m, &long, &s, step);
 }
 
 /// What every memory does with a value of an arena that is confined to another caller.
@@ -208,20 +298,22 @@ pub fn use_values_of_another<R: Abort + Wait, M: Memory>(
     exchanges(rt, m, &rows, s, &[0, 1], (v, v), Err(refused));
 }
 
+/// A handle for a long by itself.
+fn one_long<R: Abort>(rt: &R, alloc: Global) -> VarHandle {
+    let path = parse_path(alloc, ".").expect(rt, "a path");
+    let long = resolve(alloc, &Layout::value(ValueKind::Long), &path);
+    VarHandle::of(long.expect(rt, "a value"))
+}
+
 /// The same of a long that fills a word, and of a call that is refused before.
 pub fn use_a_long_of_another<R: Abort, M: Memory>(rt: &R, m: &mut M, alloc: Global, s: &Segment)
     requires { CanUse (M.view m.old) s.now }
     ensures { CanUse (M.view m.new) s.now }
 {
-    let path = parse_path(alloc, ".").expect(rt, "a path");
-    let long = resolve(alloc, &Layout::value(ValueKind::Long), &path);
-    let long = VarHandle::of(long.expect(rt, "a value"));
-    let refused = Refusal::WrongThread;
-    takes(rt, &long, &[]);
-    assert_eq!(rt; long.set_long(m, s, 0, &[], 7), Err(refused));
-    assert_eq!(rt; long.set_long(m, s, 12, &[], 7), Err(Refusal::Bounds));
-    assert_eq!(rt; long.set_long(m, s, 4, &[], 7), Err(Refusal::Misaligned));
-    let found = long.compare_and_exchange_long(m, s, 0, &[], 0, 7);
-    assert_eq!(rt; found, Err(refused));
-    assert_eq!(rt; long.get_and_add_long(m, s, 0, &[], 7), Err(refused));
+    let long = one_long(rt, alloc);
+    sets_long(rt, m, &long, s, 0, &[], Err(Refusal::WrongThread));
+    sets_long(rt, m, &long, s, 12, &[], Err(Refusal::Bounds));
+    sets_long(rt, m, &long, s, 4, &[], Err(Refusal::Misaligned));
+    exchanges_long(rt, m, &long, s, &[], Err(Refusal::WrongThread));
+    adds_long(rt, m, &long, s, &[], Err(Refusal::WrongThread));
 }

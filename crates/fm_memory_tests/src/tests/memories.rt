@@ -1,11 +1,11 @@
-ghost use Rattle.std.specs.Prelude.{◌≡◌, None};
+ghost use Rattle.std.specs.Prelude.{◌≡◌, ◌≤◌, None};
 
 use crate::tests::body::{close_an_arena, use_a_word};
 use crate::tests::exact::use_by_itself;
 use crate::tests::handles::{use_ints, use_longs};
 use crate::tests::segments::{copy_until_closed, use_ranges, use_values};
 use crate::{Double, Others};
-use fm_base::{Kind, Memory, Refusal};
+use fm_base::Memory;
 use fm_mono::Mono;
 use std::alloc::Global;
 use std::process::Abort;
@@ -31,6 +31,17 @@ fn one_thread(rt: HostRuntime) {
     use_alone(&rt, &mut m, rt.alloc());
 }
 
+/// What every memory does before whose calls another adds 1 to the word.
+fn use_beside_another<R: Abort + Wait, M: Memory>(rt: &R, m: &mut M, alloc: Global)
+    requires { (M.view m.old).inside ≡ None }
+{
+    use_a_word(rt, m, 1);
+    close_an_arena(rt, m);
+    use_ranges(rt, m);
+    use_values(rt, m, 8, 10, 0);
+    use_longs(rt, m, alloc, 1);
+}
+
 #[test]
 fn beside_another_caller(rt: HostRuntime) {
     let others = Others::Add {
@@ -38,11 +49,7 @@ fn beside_another_caller(rt: HostRuntime) {
         step: 1,
     };
     let mut m = Double::new(&rt, rt.alloc(), Mono::make(rt.alloc(), 64), others);
-    use_a_word(&rt, &mut m, 1);
-    close_an_arena(&rt, &mut m);
-    use_ranges(&rt, &mut m);
-    use_values(&rt, &mut m, 8, 10, 0);
-    use_longs(&rt, &mut m, rt.alloc(), 1);
+    use_beside_another(&rt, &mut m, rt.alloc());
 }
 
 #[test]
@@ -53,17 +60,23 @@ fn where_the_others_are_gathered(rt: HostRuntime) {
     use_alone(&rt, &mut m, rt.alloc());
 }
 
-/// The other caller comes between the tries of an update, and changes the bytes above the value, or those below it.
+/// The int at `index` of a word to which the other caller adds `step`, between the tries of an update.
+fn use_beside_a_neighbour<R: Abort + Wait>(rt: &R, alloc: Global, index: u64, step: u64)
+    requires { index ≤ 1 }
+{
+    let others = Others::Add {
+        script: 0x4444_4444_4444_4444,
+        step,
+    };
+    let mut m = Double::new(rt, alloc, Mono::make(alloc, 64), others);
+    use_ints(rt, &mut m, alloc, index, 3);
+}
+
+/// The other caller changes the bytes above the value, or those below it.
 #[test]
 fn beside_a_neighbour_that_changes(rt: HostRuntime) {
-    for (index, step) in [(0, 1 << 32), (1, 1)] {
-        let others = Others::Add {
-            script: 0x4444_4444_4444_4444,
-            step,
-        };
-        let mut m = Double::new(&rt, rt.alloc(), Mono::make(rt.alloc(), 64), others);
-        use_ints(&rt, &mut m, rt.alloc(), index, 3);
-    }
+    use_beside_a_neighbour(&rt, rt.alloc(), 0, 1 << 32);
+    use_beside_a_neighbour(&rt, rt.alloc(), 1, 1);
 }
 
 #[test]
@@ -71,19 +84,4 @@ fn while_another_caller_closes(rt: HostRuntime) {
     let mono = Mono::make(rt.alloc(), 64);
     let mut m = Double::new(&rt, rt.alloc(), mono, Others::Close { left: 5 });
     copy_until_closed(&rt, &mut m);
-}
-
-/// An arena of one thread, and a word of it, by the calls of `Memory` alone.
-#[test]
-fn from_opening_to_closing(rt: HostRuntime) {
-    let mut memory = Mono::make(rt.alloc(), 64);
-    let arena = memory.open_arena(&rt, Kind::Shared).expect(&rt, "an arena");
-    assert_eq!(rt; memory.allocate(&rt, arena, 8, 8), Ok(0));
-    assert_eq!(rt; memory.enter(arena), Ok(()));
-    memory.store(0, 7);
-    assert_eq!(rt; memory.load(0), 7);
-    memory.leave();
-    assert_eq!(rt; memory.allocate(&rt, arena, 64, 8), Err(Refusal::NoRoom(8)));
-    assert_eq!(rt; memory.close(&rt, arena), Ok(()));
-    assert_eq!(rt; memory.enter(arena), Err(Refusal::Closed));
 }

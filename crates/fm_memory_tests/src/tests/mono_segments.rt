@@ -4,10 +4,12 @@ mod access;
 mod ranges;
 mod story;
 
+use crate::tests::compared::{same, same_at};
 use fm_base::{ArenaId, Kind, Refusal};
 use fm_lanes::ValueKind;
 use fm_layout::Layout;
 use fm_segment::{Segment, is_aligned};
+use std::process::Abort;
 use std::test::Fail;
 
 /// The end of every arena.
@@ -35,16 +37,16 @@ fn places(first: u64, last: u64) -> Segment
 #[test]
 fn a_segment_has_its_parts(rt: HostRuntime) {
     let segment = Segment::of(arena(3), 8, 24);
-    assert_eq!(rt; segment.arena(), arena(3));
-    assert_eq!(rt; (segment.first(), segment.size()), (8, 24));
-    assert!(rt; !segment.is_read_only());
+    same(&rt, segment.arena(), arena(3));
+    same(&rt, (segment.first(), segment.size()), (8, 24));
+    same(&rt, segment.is_read_only(), false);
 }
 
 #[test]
 fn places_are_aligned(rt: HostRuntime) {
-    assert!(rt; is_aligned(24, 8));
-    assert!(rt; !is_aligned(20, 8));
-    assert!(rt; is_aligned(7, 1));
+    same(&rt, is_aligned(24, 8), true);
+    same(&rt, is_aligned(20, 8), false);
+    same(&rt, is_aligned(7, 1), true);
 }
 
 #[test]
@@ -60,7 +62,7 @@ fn slices_stay_in_bounds(rt: HostRuntime) {
         (u64::MAX, 1, Err(Refusal::Bounds)),
         (1, u64::MAX, Err(Refusal::Bounds)),
     ] {
-        assert_eq!(rt; segment.as_slice(offset, size), slice, "at {offset} {size}");
+        same_at(&rt, segment.as_slice(offset, size), slice, (offset, size));
     }
     for (offset, slice) in [
         (0, Ok(places(8, 32))),
@@ -68,7 +70,7 @@ fn slices_stay_in_bounds(rt: HostRuntime) {
         (24, Ok(places(32, 32))),
         (25, Err(Refusal::Bounds)),
     ] {
-        assert_eq!(rt; segment.as_slice_from(offset), slice, "at {offset}");
+        same_at(&rt, segment.as_slice_from(offset), slice, offset);
     }
 }
 
@@ -86,7 +88,7 @@ fn alignments_are_of_places(rt: HostRuntime) {
         (0, 0, 0, Err(Refusal::BadAlignment)),
     ] {
         let found = segment.as_slice_aligned(offset, size, align);
-        assert_eq!(rt; found, slice, "at {offset} {size} {align}");
+        same_at(&rt, found, slice, (offset, size, align));
     }
 }
 
@@ -94,17 +96,17 @@ fn alignments_are_of_places(rt: HostRuntime) {
 fn slices_of_slices_stay_read_only(rt: HostRuntime) -> Result<(), Fail> {
     let segment = places(8, 32);
     let inner = segment.as_slice(4, 16)?.as_slice_from(4)?;
-    assert_eq!(rt; inner, places(16, 28));
-    assert_eq!(rt; inner.as_slice(12, 1), Err(Refusal::Bounds));
+    same(&rt, inner, places(16, 28));
+    same(&rt, inner.as_slice(12, 1), Err(Refusal::Bounds));
     let kept = segment.as_read_only();
-    assert_eq!(rt; (kept.first(), kept.size()), (8, 24));
+    same(&rt, (kept.first(), kept.size()), (8, 24));
     for slice in [
         kept.as_slice(4, 16)?,
         kept.as_slice_from(4)?,
         kept.as_slice_aligned(8, 8, 8)?,
         kept.as_slice(4, 16)?.as_slice(0, 0)?,
     ] {
-        assert!(rt; slice.is_read_only());
+        same(&rt, slice.is_read_only(), true);
     }
     Ok(())
 }
@@ -112,34 +114,64 @@ fn slices_of_slices_stay_read_only(rt: HostRuntime) -> Result<(), Fail> {
 #[test]
 fn the_last_byte_is_a_slice(rt: HostRuntime) {
     let whole = places(0, LIMIT);
-    let last = Ok(places(LIMIT - 1, LIMIT));
-    assert_eq!(rt; whole.as_slice(LIMIT - 1, 1), last);
-    assert_eq!(rt; whole.as_slice_from(LIMIT), Ok(places(LIMIT, LIMIT)));
-    assert_eq!(rt; whole.as_slice(LIMIT, 1), Err(Refusal::Bounds));
-    assert_eq!(rt; whole.overlap(&places(LIMIT - 1, LIMIT)), last.ok());
+    let last = places(LIMIT - 1, LIMIT);
+    same(
+        &rt,
+        whole.as_slice(LIMIT - 1, 1),
+        Ok(places(LIMIT - 1, LIMIT)),
+    );
+    same(&rt, whole.as_slice_from(LIMIT), Ok(places(LIMIT, LIMIT)));
+    same(&rt, whole.as_slice(LIMIT, 1), Err(Refusal::Bounds));
+    same(&rt, whole.overlap(&last), Some(places(LIMIT - 1, LIMIT)));
+}
+
+/// Stops where the places 8 to 24 don't share those from `start` to `end` with these.
+fn shares<R: Abort>(rt: &R, first: u64, last: u64, start: u64, end: u64)
+    requires ordered { first ≤ last }
+    requires low { last ≤ 2 ^ 40 }
+    requires shared { start ≤ end }
+    requires low_end { end ≤ 2 ^ 40 }
+{
+    let (segment, other) = (places(8, 24), places(first, last));
+    same_at(
+        rt,
+        segment.overlap(&other),
+        Some(places(start, end)),
+        (first, last),
+    );
+    same_at(
+        rt,
+        other.overlap(&segment),
+        Some(places(start, end)),
+        (first, last),
+    );
 }
 
 #[test]
 fn overlaps_are_slices_of_the_first(rt: HostRuntime) {
+    shares(&rt, 0, 9, 8, 9);
+    shares(&rt, 0, 24, 8, 24);
+    shares(&rt, 0, 40, 8, 24);
+    shares(&rt, 8, 24, 8, 24);
+    shares(&rt, 12, 16, 12, 16);
+    shares(&rt, 12, 40, 12, 24);
+    shares(&rt, 23, 24, 23, 24);
+}
+
+/// Stops where the places 8 to 24 share any with these.
+fn shares_none<R: Abort>(rt: &R, other: Segment) {
     let segment = places(8, 24);
-    for (first, last, shared) in [
-        (0, 8, None),
-        (0, 9, Some(places(8, 9))),
-        (0, 24, Some(places(8, 24))),
-        (0, 40, Some(places(8, 24))),
-        (8, 24, Some(places(8, 24))),
-        (12, 16, Some(places(12, 16))),
-        (12, 40, Some(places(12, 24))),
-        (23, 24, Some(places(23, 24))),
-        (24, 40, None),
-        (12, 12, None),
-    ] {
-        let other = places(first, last);
-        assert_eq!(rt; segment.overlap(&other), shared, "at {first} {last}");
-        assert_eq!(rt; other.overlap(&segment), shared, "at {first} {last}");
-    }
-    assert_eq!(rt; segment.overlap(&Segment::of(arena(1), 8, 16)), None);
-    assert_eq!(rt; places(12, 12).overlap(&places(12, 12)), None);
+    same(rt, segment.overlap(&other), None);
+    same(rt, other.overlap(&segment), None);
+}
+
+#[test]
+fn segments_apart_have_no_overlap(rt: HostRuntime) {
+    shares_none(&rt, places(0, 8));
+    shares_none(&rt, places(24, 40));
+    shares_none(&rt, places(12, 12));
+    shares_none(&rt, Segment::of(arena(1), 8, 16));
+    same(&rt, places(12, 12).overlap(&places(12, 12)), None);
 }
 
 #[test]
@@ -147,40 +179,66 @@ fn an_overlap_is_written_as_the_first_is(rt: HostRuntime) {
     let segment = places(8, 24);
     let kept = segment.as_read_only();
     let other = places(16, 32);
-    assert_eq!(rt; kept.overlap(&other).map(|s| s.is_read_only()), Some(true));
-    assert_eq!(rt; other.overlap(&kept).map(|s| s.is_read_only()), Some(false));
+    same(
+        &rt,
+        kept.overlap(&other),
+        Some(places(16, 24).as_read_only()),
+    );
+    same(&rt, other.overlap(&kept), Some(places(16, 24)));
 }
 
 #[test]
-fn elements_are_the_consecutive_slices(rt: HostRuntime) -> Result<(), Fail> {
+fn elements_are_the_consecutive_slices(rt: HostRuntime) {
     let long = Layout::value(ValueKind::Long);
-    let mut elements = places(8, 32).elements(&long)?;
-    for element in [places(8, 16), places(16, 24), places(24, 32)] {
-        assert_eq!(rt; elements.next(), Some(element));
-    }
-    assert_eq!(rt; elements.next(), None);
-    assert_eq!(rt; places(8, 8).elements(&long)?.next(), None);
-    for element in places(8, 32).as_read_only().elements(&long)? {
-        assert!(rt; element.is_read_only());
-        assert_eq!(rt; element.size(), 8);
-    }
-    Ok(())
+    let mut elements = places(8, 32).elements(&long).expect(&rt, "elements");
+    same(&rt, elements.next(), Some(places(8, 16)));
+    same(&rt, elements.next(), Some(places(16, 24)));
+    same(&rt, elements.next(), Some(places(24, 32)));
+    same(&rt, elements.next(), None);
 }
 
 #[test]
-fn elements_are_refused_in_order(rt: HostRuntime) -> Result<(), Fail> {
+fn no_bytes_have_no_elements(rt: HostRuntime) {
     let long = Layout::value(ValueKind::Long);
-    let ragged = Layout::value(ValueKind::Int).with_alignment(8)?;
-    let empty = Layout::structure(Vec::new(rt.alloc()))?;
-    for (layout, first, last, refusal) in [
-        (&empty, 1, 21, Refusal::NoSize),
-        (&long, 1, 21, Refusal::Ragged(4)),
-        (&ragged, 1, 22, Refusal::Ragged(1)),
-        (&ragged, 4, 24, Refusal::ElementRagged),
-        (&long, 4, 28, Refusal::Misaligned),
-    ] {
-        let found = places(first, last).elements(layout).err();
-        assert_eq!(rt; found, Some(refusal), "at {first} {last}");
+    let mut elements = places(8, 8).elements(&long).expect(&rt, "elements");
+    same(&rt, elements.next(), None);
+}
+
+#[test]
+fn elements_stay_read_only(rt: HostRuntime) {
+    let long = Layout::value(ValueKind::Long);
+    let kept = places(8, 32).as_read_only();
+    for element in kept.elements(&long).expect(&rt, "elements") {
+        same(&rt, (element.is_read_only(), element.size()), (true, 8));
     }
-    Ok(())
+}
+
+/// Stops where the elements of these places aren't refused so.
+fn refuses_elements<R: Abort>(rt: &R, layout: &Layout, first: u64, last: u64, refusal: Refusal)
+    requires ordered { first ≤ last }
+    requires low { last ≤ 2 ^ 40 }
+{
+    let found = places(first, last).elements(layout).err();
+    same_at(rt, found, Some(refusal), (first, last));
+}
+
+#[test]
+fn elements_of_no_size_are_refused_first(rt: HostRuntime) {
+    let empty = Layout::structure(Vec::new(rt.alloc())).expect(&rt, "a layout");
+    refuses_elements(&rt, &empty, 1, 21, Refusal::NoSize);
+}
+
+#[test]
+fn elements_are_refused_in_order(rt: HostRuntime) {
+    let long = Layout::value(ValueKind::Long);
+    refuses_elements(&rt, &long, 1, 21, Refusal::Ragged(4));
+    refuses_elements(&rt, &long, 4, 28, Refusal::Misaligned);
+}
+
+#[test]
+fn ragged_elements_are_refused_in_order(rt: HostRuntime) {
+    let int = Layout::value(ValueKind::Int);
+    let ragged = int.with_alignment(8).expect(&rt, "an alignment");
+    refuses_elements(&rt, &ragged, 1, 22, Refusal::Ragged(1));
+    refuses_elements(&rt, &ragged, 4, 24, Refusal::ElementRagged);
 }

@@ -1,6 +1,7 @@
 ghost use Rattle.std.specs.Prelude.{◌≡◌, None};
 ghost use Rattle.fm_rule_calls.specs.Told.{view_of_pass};
 ghost use Rattle.fm_segment.specs.Access.{IsKnown};
+ghost use Rattle.fm_segment.specs.Learnt.{CanUse};
 ghost use Rattle.fm_arena.specs.Shares.{CanShare};
 ghost use Rattle.fm_memory_tests.specs.Beside.{AreBeside};
 
@@ -17,7 +18,7 @@ use fm_base::{Kind, Memory};
 use fm_rule::{Pass, Pool};
 use fm_segment::Segment;
 use fm_words::Shape;
-use std::alloc::AllocGlobal;
+use std::alloc::{AllocGlobal, Global};
 use std::process::Abort;
 use std::sync::Wait;
 
@@ -96,20 +97,30 @@ fn theirs<'a, R: Abort + Wait>(
     Segment::of(arena, first, 16)
 }
 
-/// An arena of another pass, open and closed, beside those of this one.
+/// What every memory does with 16 bytes of another caller's arena, and with arenas of its own beside it.
+fn use_beside_another<R: Abort + Wait, M: Memory>(rt: &R, m: &mut M, alloc: Global, s: &Segment)
+    requires { CanUse (M.view m.old) s.now }
+{
+    use_of_another(rt, m, s);
+    read_of_another(rt, m, s);
+    use_no_bytes(rt, m, s);
+    use_values_of_another(rt, m, alloc, s);
+    use_a_long_of_another(rt, m, alloc, s);
+    stay_out(rt, m, s.arena());
+    use_a_word(rt, m, 0);
+    use_ranges(rt, m);
+}
+
+/// An arena of another pass, open or closed, beside those of this one.
+fn beside_an_arena<R: Abort + AllocGlobal + Wait>(rt: &R, is_closed: bool) {
+    let (pool, pass) = made(rt);
+    let (mut m, other) = both(rt, &pool, pass);
+    let s = theirs(rt, &mut m, other, is_closed);
+    use_beside_another(rt, &mut m, rt.alloc(), &s);
+}
+
 #[test]
 fn over_a_pool_beside_an_arena_of_another_pass(rt: HostRuntime) {
-    for is_closed in [false, true] {
-        let (pool, pass) = made(&rt);
-        let (mut m, other) = both(&rt, &pool, pass);
-        let s = theirs(&rt, &mut m, other, is_closed);
-        use_of_another(&rt, &mut m, &s);
-        read_of_another(&rt, &mut m, &s);
-        use_no_bytes(&rt, &mut m, &s);
-        use_values_of_another(&rt, &mut m, rt.alloc(), &s);
-        use_a_long_of_another(&rt, &mut m, rt.alloc(), &s);
-        stay_out(&rt, &mut m, s.arena());
-        use_a_word(&rt, &mut m, 0);
-        use_ranges(&rt, &mut m);
-    }
+    beside_an_arena(&rt, false);
+    beside_an_arena(&rt, true);
 }

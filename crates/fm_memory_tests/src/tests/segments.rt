@@ -1,8 +1,13 @@
 ghost use Rattle.std.specs.Prelude.{◌≡◌, ◌≢◌, None};
+ghost use Rattle.fm_base.specs.Outcomes.{Lasts};
+ghost use Rattle.fm_lanes.specs.Value.{kind_of};
+ghost use Rattle.fm_segment.specs.Access.{HasKind};
 ghost use Rattle.fm_segment.specs.Learnt.{CanUse, CanUseBoth};
 
+use crate::tests::compared::same;
+use crate::tests::segment_calls::{copies, copies_part, differ, fills, gets_long, sets_long};
 use fm_base::{Kind, Memory, Refusal};
-use fm_lanes::{Value, ValueKind};
+use fm_lanes::{Order, Value};
 use fm_layout::Layout;
 use fm_segment::Segment;
 use std::process::Abort;
@@ -18,10 +23,19 @@ pub const OF_EACH_KIND: [Value; 6] = [
     Value::Long(0x0102_0304_0506_0708),
 ];
 
+/// A layout of the value's kind, in this order, at any place.
+pub fn anywhere<R: Abort>(rt: &R, v: Value, order: Order) -> Layout
+    ensures { HasKind result (kind_of v) }
+{
+    let layout = Layout::value(v.kind()).with_order(order);
+    layout.with_alignment(1).expect(rt, "an alignment")
+}
+
 /// A segment of so many bytes of a fresh shared arena.
 pub fn fresh<R: Abort + Wait, M: Memory>(rt: &R, m: &mut M, size: u64) -> Segment
     requires { (M.view m.old).inside ≡ None }
-    ensures { CanUse (M.view m.new) result }
+    ensures known { CanUse (M.view m.new) result }
+    ensures lasts { Lasts (M.view m.old) (M.view m.new) }
 {
     let arena = m.open_arena(rt, Kind::Shared).expect(rt, "an arena");
     let first = m.allocate(rt, arena, size, 8).expect(rt, "bytes");
@@ -50,16 +64,16 @@ pub fn use_ranges<R: Abort + Wait, M: Memory>(rt: &R, m: &mut M)
 {
     let (s, t) = two_of_eight(rt, m, Kind::Confined);
     let u = Segment::of(s.arena(), s.first(), 4);
-    assert_eq!(rt; s.fill(rt, m, 255), Ok(()));
-    assert_eq!(rt; s.mismatch(m, &t), Ok(0));
-    assert_eq!(rt; t.copy_from(rt, m, &s), Ok(()));
-    assert_eq!(rt; s.mismatch(m, &t), Ok(-1));
-    assert_eq!(rt; u.mismatch(m, &s), Ok(4));
-    assert_eq!(rt; u.copy_from(rt, m, &s), Err(Refusal::Bounds));
-    assert_eq!(rt; m.close(rt, s.arena()), Ok(()));
-    assert_eq!(rt; s.fill(rt, m, 1), Err(Refusal::Closed));
-    assert_eq!(rt; t.copy_from(rt, m, &u), Err(Refusal::Closed));
-    assert_eq!(rt; u.mismatch(m, &t), Err(Refusal::Closed));
+    fills(rt, m, &s, 255, Ok(()));
+    differ(rt, m, &s, &t, Ok(0));
+    copies(rt, m, &t, &s, Ok(()));
+    differ(rt, m, &s, &t, Ok(-1));
+    differ(rt, m, &u, &s, Ok(4));
+    copies(rt, m, &u, &s, Err(Refusal::Bounds));
+    same(rt, m.close(rt, s.arena()), Ok(()));
+    fills(rt, m, &s, 1, Err(Refusal::Closed));
+    copies(rt, m, &t, &u, Err(Refusal::Closed));
+    differ(rt, m, &u, &t, Err(Refusal::Closed));
 }
 
 /// What every memory does with values of a shared arena: the value that is got after 7 was set, that which is got after
@@ -75,24 +89,11 @@ pub fn use_values<R: Abort + Wait, M: Memory>(
     ensures { (M.view m.new).inside ≡ None }
 {
     let (s, t) = two_of_eight(rt, m, Kind::Shared);
-    let long = Layout::value(ValueKind::Long);
-    assert_eq!(rt; s.set(rt, m, &long, 0, Value::Long(7)), Ok(()));
-    assert_eq!(rt; s.get(m, &long, 0), Ok(Value::Long(set)));
-    assert_eq!(rt; Segment::copy(rt, m, &s, 0, &t, 0, 8), Ok(()));
-    assert_eq!(rt; t.get(m, &long, 0), Ok(Value::Long(copied)));
-    assert_eq!(rt; s.mismatch(m, &t), Ok(differs));
-}
-
-/// Two segments of 16 bytes, each of a fresh shared arena of its own.
-fn two_arenas<R: Abort + Wait, M: Memory>(rt: &R, m: &mut M) -> (Segment, Segment)
-    requires { (M.view m.old).inside ≡ None }
-    ensures { CanUseBoth (M.view m.new) result.0 result.1 }
-{
-    let a = m.open_arena(rt, Kind::Shared).expect(rt, "an arena");
-    let a_first = m.allocate(rt, a, 16, 8).expect(rt, "bytes");
-    let b = m.open_arena(rt, Kind::Shared).expect(rt, "an arena");
-    let b_first = m.allocate(rt, b, 16, 8).expect(rt, "bytes");
-    (Segment::of(a, a_first, 16), Segment::of(b, b_first, 16))
+    sets_long(rt, m, &s, 0, 7, Ok(()));
+    gets_long(rt, m, &s, 0, Ok(Value::Long(set)));
+    copies_part(rt, m, &s, 0, &t, 0, 8, Ok(()));
+    gets_long(rt, m, &t, 0, Ok(Value::Long(copied)));
+    differ(rt, m, &s, &t, Ok(differs));
 }
 
 /// A copy whose source is closed by another caller before this one's fifth `enter`: what was copied before stays.
@@ -100,14 +101,14 @@ pub fn copy_until_closed<R: Abort + Wait, M: Memory>(rt: &R, m: &mut M)
     requires outside { (M.view m.old).inside ≡ None }
     ensures { (M.view m.new).inside ≡ None }
 {
-    let (s, t) = two_arenas(rt, m);
-    let long = Layout::value(ValueKind::Long);
-    assert_eq!(rt; s.set(rt, m, &long, 0, Value::Long(7)), Ok(()));
-    assert_eq!(rt; s.set(rt, m, &long, 8, Value::Long(9)), Ok(()));
-    assert_eq!(rt; t.copy_from(rt, m, &s), Err(Refusal::Closed));
-    assert_eq!(rt; t.get(m, &long, 0), Ok(Value::Long(7)));
-    assert_eq!(rt; t.get(m, &long, 8), Ok(Value::Long(0)));
-    assert_eq!(rt; s.get(m, &long, 0), Err(Refusal::Closed));
+    let s = fresh(rt, m, 16);
+    let t = fresh(rt, m, 16);
+    sets_long(rt, m, &s, 0, 7, Ok(()));
+    sets_long(rt, m, &s, 8, 9, Ok(()));
+    copies(rt, m, &t, &s, Err(Refusal::Closed));
+    gets_long(rt, m, &t, 0, Ok(Value::Long(7)));
+    gets_long(rt, m, &t, 8, Ok(Value::Long(0)));
+    gets_long(rt, m, &s, 0, Err(Refusal::Closed));
 }
 
 /// What every memory does with a segment of 16 bytes of an arena that is confined to another caller.
@@ -115,26 +116,16 @@ pub fn use_of_another<R: Abort + Wait, M: Memory>(rt: &R, m: &mut M, s: &Segment
     requires { CanUse (M.view m.old) s.now }
     ensures { CanUse (M.view m.new) s.now }
 {
-    let long = Layout::value(ValueKind::Long);
-    assert_eq!(rt; s.get(m, &long, 9), Err(Refusal::Bounds));
-    assert_eq!(rt; s.get(m, &long, 1), Err(Refusal::Misaligned));
-    assert_eq!(rt; s.get(m, &long, 0), Err(Refusal::WrongThread));
-    assert_eq!(rt;
-        s.set(rt, m, &long, 0, Value::Long(7)),
-        Err(Refusal::WrongThread)
-    );
-    assert_eq!(rt;
-        s.set(rt, m, &long, 1, Value::Long(7)),
-        Err(Refusal::Misaligned)
-    );
-    assert_eq!(rt; s.fill(rt, m, 255), Err(Refusal::WrongThread));
-    assert_eq!(rt; s.copy_from(rt, m, s), Err(Refusal::WrongThread));
-    assert_eq!(rt; Segment::copy(rt, m, s, 0, s, 9, 8), Err(Refusal::Bounds));
-    assert_eq!(rt;
-        Segment::copy(rt, m, s, 0, s, 8, 8),
-        Err(Refusal::WrongThread)
-    );
-    assert_eq!(rt; s.mismatch(m, s), Err(Refusal::WrongThread));
+    gets_long(rt, m, s, 9, Err(Refusal::Bounds));
+    gets_long(rt, m, s, 1, Err(Refusal::Misaligned));
+    gets_long(rt, m, s, 0, Err(Refusal::WrongThread));
+    sets_long(rt, m, s, 0, 7, Err(Refusal::WrongThread));
+    sets_long(rt, m, s, 1, 7, Err(Refusal::Misaligned));
+    fills(rt, m, s, 255, Err(Refusal::WrongThread));
+    copies(rt, m, s, s, Err(Refusal::WrongThread));
+    copies_part(rt, m, s, 0, s, 9, 8, Err(Refusal::Bounds));
+    copies_part(rt, m, s, 0, s, 8, 8, Err(Refusal::WrongThread));
+    differ(rt, m, s, s, Err(Refusal::WrongThread));
 }
 
 /// The same through a segment that is read-only.
@@ -143,14 +134,10 @@ pub fn read_of_another<R: Abort + Wait, M: Memory>(rt: &R, m: &mut M, s: &Segmen
     ensures { CanUse (M.view m.new) s.now }
 {
     let read = s.as_read_only();
-    let long = Layout::value(ValueKind::Long);
-    assert_eq!(rt;
-        read.set(rt, m, &long, 9, Value::Long(7)),
-        Err(Refusal::ReadOnly)
-    );
-    assert_eq!(rt; read.fill(rt, m, 255), Err(Refusal::ReadOnly));
-    assert_eq!(rt; read.copy_from(rt, m, s), Err(Refusal::ReadOnly));
-    assert_eq!(rt; read.get(m, &long, 0), Err(Refusal::WrongThread));
+    sets_long(rt, m, &read, 9, 7, Err(Refusal::ReadOnly));
+    fills(rt, m, &read, 255, Err(Refusal::ReadOnly));
+    copies(rt, m, &read, s, Err(Refusal::ReadOnly));
+    gets_long(rt, m, &read, 0, Err(Refusal::WrongThread));
 }
 
 /// What every memory does with 0 bytes of any arena: no arena is entered.
@@ -159,9 +146,9 @@ pub fn use_no_bytes<R: Abort + Wait, M: Memory>(rt: &R, m: &mut M, s: &Segment)
     ensures { CanUse (M.view m.new) s.now }
 {
     let none = Segment::of(s.arena(), s.first(), 0);
-    assert_eq!(rt; none.fill(rt, m, 255), Ok(()));
-    assert_eq!(rt; none.copy_from(rt, m, &none), Ok(()));
-    assert_eq!(rt; none.copy_from(rt, m, s), Err(Refusal::Bounds));
-    assert_eq!(rt; Segment::copy(rt, m, s, 16, s, 16, 0), Ok(()));
-    assert_eq!(rt; none.mismatch(m, s), Ok(0));
+    fills(rt, m, &none, 255, Ok(()));
+    copies(rt, m, &none, &none, Ok(()));
+    copies(rt, m, &none, s, Err(Refusal::Bounds));
+    copies_part(rt, m, s, 16, s, 16, 0, Ok(()));
+    differ(rt, m, &none, s, Ok(0));
 }

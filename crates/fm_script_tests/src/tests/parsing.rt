@@ -1,8 +1,9 @@
-use fm_base::{Kind, Refusal};
-use fm_lanes::{Order, ValueKind};
-use fm_script_text::{Command, Who, parse_script};
-use std::alloc::Global;
-use std::test::Fail;
+use crate::tests::compared::{same, same_at};
+use crate::tests::written::push;
+use fm_base::Refusal;
+use fm_script_text::parse_script;
+use std::alloc::{AllocGlobal, Global};
+use std::process::Abort;
 
 /// The line at which the text is refused; 0 where it is a script.
 fn refused_at(alloc: Global, text: &str) -> Option<u64> {
@@ -13,73 +14,77 @@ fn refused_at(alloc: Global, text: &str) -> Option<u64> {
     }
 }
 
-const WORKED: [&str; 13] = [
-    "pool 1 1 8 1000 1\nfirst open a shared\nfirst alloc a s 8 8\nfirst set s long 0 7\nfirst close a\n\
-     first open b shared\nfirst alloc b t 8 8\nfirst get t long 0\nfirst get s long 0\n",
-    "pool 1 1 8 1000 1\nfirst open a shared\nfirst alloc a s 8 8\n1 add s long 0 5\n2 add s long 0 7\nlast get s long 0\n",
-    "pool 1 1 8 1000 1\nfirst open a shared\nfirst alloc a s 8 8\nfirst set s int 0 2147483647\nfirst set s int 4 9\n\
-     first add s int 0 1\nfirst get s int 0\n",
-    "pool 1 1 8 1000 1\nfirst open a shared\nfirst alloc a s 8 8\nfirst readonly s r\nfirst set r long 0 1\n\
-     first slice s u 5 4\nfirst get u byte 0\n",
-    "pool 1 1 8 1000 1\nfirst open a shared\nfirst hold a h\nfirst hold a k\nfirst close a\nfirst unhold h\nfirst unhold k\n\
-     first close a\nfirst close a\n",
-    "pool 1 1 8 1000 1\nfirst open a confined\nfirst alloc a s 8 8\nfirst close a\n1 get s long 0\n",
-    "pool 1 1 8 1000 1\nfirst open g global\nfirst close g\n",
-    "pool 1 1 8 1000 1\nfirst open a auto\nfirst alloc a s 8 8\nfirst again a h\nfirst back a\nfirst get s long 0\nfirst back h\n\
-     first get s long 0\n",
-    "pool 1 1 8 1000 1\nfirst open a shared\nfirst open b shared\nfirst alloc b t 8 8\n",
-    "pool 1 1 8 1000 1\nfirst open a shared\nfirst alloc a s 60 4\nfirst alloc a t 8 8\nfirst alloc a u 4 4\nfirst alloc a v 4 3\n\
-     first alloc a w 0 1\n",
-    "pool 1 1 8 1000 1\nfirst open a shared\nfirst alloc a s 8 8\nfirst cas s long 0 0 9\nfirst cas s long 0 0 3\nfirst get s long 0\n\
-     first set s int-be 0 1\nfirst get s int 0\n",
-    "pool 1 1 8 1000 1\nfirst open a shared\nfirst alloc a s 8 8\nfirst alloc a t 8 8\nfirst fill s 255\nfirst mismatch s t\n\
-     first copy s t\nfirst slice s u 0 4\nfirst mismatch u s\nfirst copy s u\nfirst alive a\n",
-    "pool 2 2 8 1000 2\nfirst open a shared\nfirst open b shared\nfirst alloc a s 128 8\nfirst alloc b t 8 8\n",
-];
+/// A script's text, whose lines behind the head are each ended by a bar.
+fn barred<R: Abort + AllocGlobal>(rt: &R, head: &str, lines: &str) -> String {
+    let alloc = rt.alloc();
+    let mut text = String::new(alloc);
+    push(rt, &mut text, head);
+    let lines = lines.replace(alloc, "|", "\n").expect(rt, "lines");
+    push(rt, &mut text, lines.as_str());
+    text
+}
 
-#[test]
-fn reads_worked_scripts(rt: HostRuntime) {
-    for text in WORKED {
-        assert!(rt; refused_at(rt.alloc(), text) == Some(0), "at {text}");
+fn push_read<R: Abort + AllocGlobal>(rt: &R, text: &mut String, more: &str, at: Option<u64>) {
+    push(rt, text, more);
+    same_at(rt, refused_at(rt.alloc(), text.as_str()), at, text.as_str());
+}
+
+/// A row's first word, which is a line's number, and the rest.
+fn split_row(row: &str) -> (Option<u64>, &str) {
+    let (at, lines) = row.split_once(' ').unwrap_or(("", row));
+    (Some(at.parse().unwrap_or(u64::MAX)), lines)
+}
+
+fn reads_row<R: Abort + AllocGlobal>(rt: &R, head: &str, row: &str) {
+    let (at, lines) = split_row(row);
+    let text = barred(rt, head, lines);
+    same_at(rt, refused_at(rt.alloc(), text.as_str()), at, row);
+}
+
+/// Where lines behind the head are refused, 0 where they are read; and the lines. One text, since a prover goes through
+/// a table row by row.
+fn reads_rows<R: Abort + AllocGlobal>(rt: &R, head: &str, rows: &str) {
+    for row in rows.lines() {
+        reads_row(rt, head, row);
     }
 }
 
+/// The first worked script.
+const FIRST: &str =
+    "pool 1 1 8 1000 1\nfirst open a shared\nfirst alloc a s 8 8\nfirst set s long 0 7\nfirst close a\n\
+     first open b shared\nfirst alloc b t 8 8\nfirst get t long 0\nfirst get s long 0\n";
+
+/// The others.
+const WORKED: &str = "\
+0 pool 1 1 8 1000 1|first open a shared|first alloc a s 8 8|1 add s long 0 5|2 add s long 0 7|last get s long 0|
+0 pool 1 1 8 1000 1|first open a shared|first alloc a s 8 8|first set s int 0 2147483647|first set s int 4 9|\
+     first add s int 0 1|first get s int 0|
+0 pool 1 1 8 1000 1|first open a shared|first alloc a s 8 8|first readonly s r|first set r long 0 1|\
+     first slice s u 5 4|first get u byte 0|
+0 pool 1 1 8 1000 1|first open a shared|first hold a h|first hold a k|first close a|first unhold h|\
+     first unhold k|first close a|first close a|
+0 pool 1 1 8 1000 1|first open a confined|first alloc a s 8 8|first close a|1 get s long 0|
+0 pool 1 1 8 1000 1|first open g global|first close g|
+0 pool 1 1 8 1000 1|first open a auto|first alloc a s 8 8|first again a h|first back a|first get s long 0|\
+     first back h|first get s long 0|
+0 pool 1 1 8 1000 1|first open a shared|first open b shared|first alloc b t 8 8|
+0 pool 1 1 8 1000 1|first open a shared|first alloc a s 60 4|first alloc a t 8 8|first alloc a u 4 4|\
+     first alloc a v 4 3|first alloc a w 0 1|
+0 pool 1 1 8 1000 1|first open a shared|first alloc a s 8 8|first cas s long 0 0 9|first cas s long 0 0 3|\
+     first get s long 0|first set s int-be 0 1|first get s int 0|
+0 pool 1 1 8 1000 1|first open a shared|first alloc a s 8 8|first alloc a t 8 8|first fill s 255|\
+     first mismatch s t|first copy s t|first slice s u 0 4|first mismatch u s|first copy s u|first alive a|
+0 pool 2 2 8 1000 2|first open a shared|first open b shared|first alloc a s 128 8|first alloc b t 8 8|";
+
 #[test]
-fn reads_lines(rt: HostRuntime) -> Result<(), Fail> {
-    let text =
-        "# counts\n\npool 1 1 8 1000 1\nfirst open a shared\n\nfirst alloc a s 8 16\n#\n2 set s int-be 4 -1\nlast close a";
-    let script = parse_script(rt.alloc(), text.as_bytes())?;
-    assert_eq!(rt; script.shape().passes, 3);
-    assert_eq!(rt; script.shape().page_words, 8);
-    assert_eq!(rt; script.shape().generations, 1000);
-    let lines = script.lines();
-    assert_eq!(rt; lines.len(), 4);
-    assert_eq!(rt; lines[0].number, 4);
-    assert_eq!(rt; lines[0].text.as_str(), "first open a shared");
-    assert_eq!(rt; lines[0].who, Who::First);
-    assert!(rt;
-        matches!(&lines[0].command, Command::Open { name, kind: Kind::Shared } if name.as_bytes() == b"a".as_slice())
-    );
-    assert_eq!(rt; lines[1].number, 6);
-    assert!(rt;
-        matches!(&lines[1].command, Command::Alloc { name, size: 8, align: 16, .. } if name.as_bytes() == b"s".as_slice())
-    );
-    assert_eq!(rt; lines[2].number, 8);
-    assert_eq!(rt; lines[2].who, Who::Worker(2));
-    assert!(rt;
-        matches!(&lines[2].command, Command::Set(cell, -1)
-        if cell.kind == ValueKind::Int && cell.order == Order::Big && cell.offset == 4)
-    );
-    assert_eq!(rt; lines[3].number, 9);
-    assert_eq!(rt; lines[3].who, Who::Last);
-    assert_eq!(rt; lines[3].text.as_str(), "last close a");
-    Ok(())
+fn reads_worked_scripts(rt: HostRuntime) {
+    same(&rt, refused_at(rt.alloc(), FIRST), Some(0));
+    reads_rows(&rt, "", WORKED);
 }
 
-const POOL: &str = "pool 1 1 8 1000 1\n";
+const HEAD: &str = "pool 1 1 8 1000 1\nfirst open a shared\nfirst alloc a s 8 8\n";
 
-/// Where lines behind a pool's line and `first open a shared`, `first alloc a s 8 8` are refused, and the lines, each
-/// ended by a bar. One text, since a prover goes through a table row by row.
+/// Rows behind `HEAD`.
 const BEHIND: &str = "\
 0\x20
 0 |#|# \u{7f}|
@@ -206,142 +211,114 @@ const BEHIND: &str = "\
 4 first get|";
 
 #[test]
-fn refuses_the_first_line_that_breaks_a_rule(rt: HostRuntime) -> Result<(), Fail> {
-    for row in BEHIND.lines() {
-        let (at, lines) = row.split_once(' ').unwrap_or(("", row));
-        let lines = lines.replace(rt.alloc(), "|", "\n")?;
-        let text = format!(in rt.alloc();
-            "{POOL}first open a shared\nfirst alloc a s 8 8\n{lines}"
-        )?;
-        assert!(rt;
-            refused_at(rt.alloc(), text.as_str()) == at.parse().ok(),
-            "at {row}"
-        );
-    }
-    Ok(())
+fn refuses_the_first_line_that_breaks_a_rule(rt: HostRuntime) {
+    reads_rows(&rt, HEAD, BEHIND);
 }
+
+const POOLS: &str = "\
+1\x20
+2 |
+2 #
+3 #||
+1 # \u{e9}|
+1 first open a shared|
+0 |pool 1 1 8 1 2|
+2 |pool 1 2 8 1 1|
+1 pool 2 2 8 1000 1|
+0 pool 2 2 8 1000 2|
+0 pool 2 2 8 1000 3|
+0 pool 2 2 8 1000 5|
+0 pool 1 1 8 1 65|
+0 pool 1 1 8 1 4096|
+1 pool 1 1 8 1 4097|
+1 pool 1 1 8 1|
+1 pool 1 1 8 1 1 1|
+0 pool 1 1 8 1 1
+0 pool 64 1 65536 4294967295 64|
+1 pool 64 1 65537 1 64|
+0 pool 64 4096 1024 4294967295 4096|
+1 pool 64 4096 1025 4294967295 4096|
+1 pool 65 1 8 1 65|
+0 pool 1 4096 8 1 4096|
+1 pool 1 4097 8 1 4097|
+0 pool 1 1 1048576 1 1|
+1 pool 1 1 1048577 1 1|
+1 pool 01 1 8 1 1|
+1 Pool 1 1 8 1 1|
+1 pool 0 1 8 1 0|
+1 pool 1 1 0 1 1|
+1 pool 1 1 8 0 1|
+1 pool 1 1 8 4294967296 1|
+2 pool 1 1 8 1 1|pool 1 1 8 1 1|";
 
 #[test]
 fn refuses_pools(rt: HostRuntime) {
-    for (text, at) in [
-        ("", 1),
-        ("\n", 2),
-        ("#", 2),
-        ("#\n\n", 3),
-        ("# \u{e9}\n", 1),
-        ("first open a shared\n", 1),
-        ("\npool 1 1 8 1 2\n", 0),
-        ("\npool 1 2 8 1 1\n", 2),
-        ("pool 2 2 8 1000 1\n", 1),
-        ("pool 2 2 8 1000 2\n", 0),
-        ("pool 2 2 8 1000 3\n", 0),
-        ("pool 2 2 8 1000 5\n", 0),
-        ("pool 1 1 8 1 65\n", 0),
-        ("pool 1 1 8 1 4096\n", 0),
-        ("pool 1 1 8 1 4097\n", 1),
-        ("pool 1 1 8 1\n", 1),
-        ("pool 1 1 8 1 1 1\n", 1),
-        ("pool 1 1 8 1 1", 0),
-        ("pool 64 1 65536 4294967295 64\n", 0),
-        ("pool 64 1 65537 1 64\n", 1),
-        ("pool 64 4096 1024 4294967295 4096\n", 0),
-        ("pool 64 4096 1025 4294967295 4096\n", 1),
-        ("pool 65 1 8 1 65\n", 1),
-        ("pool 1 4096 8 1 4096\n", 0),
-        ("pool 1 4097 8 1 4097\n", 1),
-        ("pool 1 1 1048576 1 1\n", 0),
-        ("pool 1 1 1048577 1 1\n", 1),
-        ("pool 01 1 8 1 1\n", 1),
-        ("Pool 1 1 8 1 1\n", 1),
-        ("pool 0 1 8 1 0\n", 1),
-        ("pool 1 1 0 1 1\n", 1),
-        ("pool 1 1 8 0 1\n", 1),
-        ("pool 1 1 8 4294967296 1\n", 1),
-        ("pool 1 1 8 1 1\npool 1 1 8 1 1\n", 2),
-    ] {
-        assert!(rt; refused_at(rt.alloc(), text) == Some(at), "at {text}");
+    reads_rows(&rt, "", POOLS);
+}
+
+/// Lines of each command behind others: a slash stands before their last word.
+const WORDS: &str = "\
+first open b/ shared
+first alloc a t 8/ 8
+first slice s t 0/ 4
+first readonly s/ t
+first get s long/ 0
+first set s long 0/ 7
+first add s long 0/ 7
+first cas s long 0 7/ 8
+first fill s/ 255
+first copy s/ s
+first mismatch s/ s
+first alive/ a
+first hold a h|first unhold/ h
+first open b auto|first again b h|first back b|first back/ h
+first open b auto|first back/ b
+first close/ a
+last close/ a";
+
+/// Lines are refused without their last word, and at the same line with that word twice.
+fn wants_last_word<R: Abort + AllocGlobal>(rt: &R, row: &str) {
+    let (line, word) = row.split_once('/').unwrap_or((row, ""));
+    let mut text = barred(rt, HEAD, line);
+    let less = refused_at(rt.alloc(), text.as_str());
+    same_at(rt, less.unwrap_or(0) > 0, true, row);
+    push_read(rt, &mut text, word, Some(0));
+    push_read(rt, &mut text, word, less);
+}
+
+#[test]
+fn refuses_a_word_less_or_more(rt: HostRuntime) {
+    for row in WORDS.lines() {
+        wants_last_word(&rt, row);
     }
 }
 
-/// Lines of each command behind others, without their last word, and that word.
-const WORDS: [(&str, &str); 17] = [
-    ("first open b", "shared"),
-    ("first alloc a t 8", "8"),
-    ("first slice s t 0", "4"),
-    ("first readonly s", "t"),
-    ("first get s long", "0"),
-    ("first set s long 0", "7"),
-    ("first add s long 0", "7"),
-    ("first cas s long 0 7", "8"),
-    ("first fill s", "255"),
-    ("first copy s", "s"),
-    ("first mismatch s", "s"),
-    ("first alive", "a"),
-    ("first hold a h\nfirst unhold", "h"),
-    (
-        "first open b auto\nfirst again b h\nfirst back b\nfirst back",
-        "h",
-    ),
-    ("first open b auto\nfirst back", "b"),
-    ("first close", "a"),
-    ("last close", "a"),
-];
+/// The first worked script's lines: a slash stands before the last byte.
+const CUT: &str = "\
+1 pool 1 1 8 1000 /1
+2 first open a share/d
+3 first alloc a s 8 /8
+4 first set s long 0 /7
+5 first close /a
+6 first open b share/d
+7 first alloc b t 8 /8
+8 first get t long /0
+9 first get s long /0";
 
-#[test]
-fn refuses_a_word_less_or_more(rt: HostRuntime) -> Result<(), Fail> {
-    for (line, word) in WORDS {
-        let head = format!(in rt.alloc();
-            "{POOL}first open a shared\nfirst alloc a s 8 8\n{line}"
-        )?;
-        let less = refused_at(rt.alloc(), head.as_str());
-        assert!(rt; less != Some(0) && less.is_some(), "at {line}");
-        let whole = format!(in rt.alloc(); "{head} {word}")?;
-        assert!(rt;
-            refused_at(rt.alloc(), whole.as_str()) == Some(0),
-            "at {line} {word}"
-        );
-        let more = format!(in rt.alloc(); "{head} {word} {word}")?;
-        assert!(rt;
-            refused_at(rt.alloc(), more.as_str()) == less,
-            "at {line} {word} {word}"
-        );
-    }
-    Ok(())
+/// A line is refused without its last byte, and read with it and where it is ended.
+fn reads_cut<R: Abort + AllocGlobal>(rt: &R, text: &mut String, row: &str) {
+    let (at, line) = split_row(row);
+    let (head, last) = line.split_once('/').unwrap_or((line, ""));
+    push_read(rt, text, head, at);
+    push_read(rt, text, last, Some(0));
+    push_read(rt, text, "\n", Some(0));
 }
 
-/// The first worked script's lines: without the last byte, that byte, and the line's number.
-const CUT: [(&str, &str, u64); 9] = [
-    ("pool 1 1 8 1000 ", "1", 1),
-    ("first open a share", "d", 2),
-    ("first alloc a s 8 ", "8", 3),
-    ("first set s long 0 ", "7", 4),
-    ("first close ", "a", 5),
-    ("first open b share", "d", 6),
-    ("first alloc b t 8 ", "8", 7),
-    ("first get t long ", "0", 8),
-    ("first get s long ", "0", 9),
-];
-
 #[test]
-fn reads_prefixes(rt: HostRuntime) -> Result<(), Fail> {
+fn reads_prefixes(rt: HostRuntime) {
     let mut text = String::new(rt.alloc());
-    for (head, last, number) in CUT {
-        text.push_str(head)?;
-        assert!(rt;
-            refused_at(rt.alloc(), text.as_str()) == Some(number),
-            "at {head}"
-        );
-        text.push_str(last)?;
-        assert!(rt;
-            refused_at(rt.alloc(), text.as_str()) == Some(0),
-            "at {head}{last}"
-        );
-        text.push_str("\n")?;
-        assert!(rt;
-            refused_at(rt.alloc(), text.as_str()) == Some(0),
-            "behind {head}{last}"
-        );
+    for row in CUT.lines() {
+        reads_cut(&rt, &mut text, row);
     }
-    assert!(rt; text.as_str() == WORKED[0]);
-    Ok(())
+    same(&rt, text.as_str(), FIRST);
 }

@@ -3,7 +3,8 @@ mod gates;
 mod relay;
 mod wide;
 
-use crate::tests::written::script_of;
+use crate::tests::compared::same;
+use crate::tests::written::{asking, push, script_of};
 use fm_io::{FreeGate, Gate};
 use fm_script::run_script;
 use fm_script_report::print_report;
@@ -27,6 +28,11 @@ fn printed<R: Abort + AllocGlobal + Threads + Wait + Sync>(rt: &R, text: &str) -
     printed_past(rt, text, &FreeGate)
 }
 
+/// Runs a script, which prints this.
+fn plays<R: Abort + AllocGlobal + Threads + Wait + Sync>(rt: &R, text: &str, wanted: &str) {
+    same(rt, printed(rt, text).as_str(), wanted);
+}
+
 #[test]
 fn a_slot_comes_back_empty(rt: HostRuntime) {
     let text =
@@ -36,7 +42,11 @@ fn a_slot_comes_back_empty(rt: HostRuntime) {
         "first open a shared -> ok\nfirst alloc a s 8 8 -> ok 0\nfirst set s long 0 7 -> ok\nfirst close a -> ok\n\
         first open b shared -> ok\nfirst alloc b t 8 8 -> ok 0\nfirst get t long 0 -> 0\n\
         first get s long 0 -> refused 1\nbytes b 0000000000000000\n";
-    assert_eq!(rt; printed(&rt, text).as_str(), wanted);
+    plays(&rt, text, wanted);
+}
+
+fn is_either<R: Abort>(rt: &R, found: &str, first: &str, second: &str) {
+    same(rt, found == first || found == second, true);
 }
 
 #[test]
@@ -51,7 +61,7 @@ fn two_workers_add(rt: HostRuntime) {
     let second =
         "first open a shared -> ok\nfirst alloc a s 8 8 -> ok 0\n1 add s long 0 5 -> 7\n2 add s long 0 7 -> 0\n\
         last get s long 0 -> 12\nbytes a 0c00000000000000\n";
-    assert!(rt; got.as_str() == first || got.as_str() == second);
+    is_either(&rt, got.as_str(), first, second);
 }
 
 #[test]
@@ -60,53 +70,97 @@ fn a_confined_arena_is_its_owners(rt: HostRuntime) {
         "pool 1 1 8 1 1\nfirst open a confined\nfirst alloc a s 8 8\nfirst close a\n1 get s long 0\n";
     let wanted =
         "first open a confined -> ok\nfirst alloc a s 8 8 -> ok 0\nfirst close a -> ok\n1 get s long 0 -> refused 2\n";
-    assert_eq!(rt; printed(&rt, text).as_str(), wanted);
+    plays(&rt, text, wanted);
 }
 
-/// Scripts of the first lines alone, and what they print: pages run out, an arena keeps those that a refused line got,
-/// and they come back with its close. The last one's pages have their bits in two words.
-const PAGES: [(&str, &str); 5] = [
-    (
-        "pool 2 2 8 1000 2\nfirst open a shared\nfirst open b shared\nfirst alloc a s 128 8\nfirst alloc b t 8 8\n\
-        first alloc b t2 0 8\nfirst alloc b u 129 8\nfirst close a\nfirst alloc b v 8 8\n",
-        "first open a shared -> ok\nfirst open b shared -> ok\nfirst alloc a s 128 8 -> ok 0\n\
-        first alloc b t 8 8 -> refused 11\nfirst alloc b t2 0 8 -> ok 0\nfirst alloc b u 129 8 -> refused 10 0\n\
-        first close a -> ok\nfirst alloc b v 8 8 -> ok 0\nbytes b 0000000000000000\n",
-    ),
-    (
-        "pool 2 2 8 1000 3\nfirst open a shared\nfirst open b shared\nfirst alloc a s 128 8\nfirst alloc b t 8 8\n\
-        first close a\n",
-        "first open a shared -> ok\nfirst open b shared -> ok\nfirst alloc a s 128 8 -> ok 0\n\
-        first alloc b t 8 8 -> ok 0\nfirst close a -> ok\nbytes b 0000000000000000\n",
-    ),
-    (
-        "pool 3 2 1 1000 3\nfirst open a shared\nfirst open b shared\nfirst open c shared\nfirst alloc a s 16 8\n\
-        first alloc b t 16 8\nfirst alloc c u 8 8\nfirst alloc b v 8 8\nfirst fill v 7\nfirst close b\n\
-        first alloc c w 8 8\nfirst get w long 0\n",
-        "first open a shared -> ok\nfirst open b shared -> ok\nfirst open c shared -> ok\n\
-        first alloc a s 16 8 -> ok 0\nfirst alloc b t 16 8 -> refused 11\nfirst alloc c u 8 8 -> refused 11\n\
-        first alloc b v 8 8 -> ok 0\nfirst fill v 7 -> ok\nfirst close b -> ok\nfirst alloc c w 8 8 -> ok 0\n\
-        first get w long 0 -> 0\nbytes a 00000000000000000000000000000000\nbytes c 0000000000000000\n",
-    ),
-    (
-        "pool 1 1 1 1000 5\nfirst open a shared\nfirst alloc a s 3 1\nfirst alloc a t 1 4\nfirst alloc a u 4 4\n",
-        "first open a shared -> ok\nfirst alloc a s 3 1 -> ok 0\nfirst alloc a t 1 4 -> ok 4\n\
-        first alloc a u 4 4 -> refused 10 5\nbytes a 0000000000\n",
-    ),
-    (
-        "pool 2 100 8 1000 100\nfirst open a shared\nfirst open b shared\nfirst alloc a s 6400 8\nfirst alloc a x 1 1\n\
-        first alloc b t 8 8\nfirst close a\nfirst alloc b u 8 8\n",
-        "first open a shared -> ok\nfirst open b shared -> ok\nfirst alloc a s 6400 8 -> ok 0\n\
-        first alloc a x 1 1 -> refused 10 6400\nfirst alloc b t 8 8 -> refused 11\nfirst close a -> ok\n\
-        first alloc b u 8 8 -> ok 0\nbytes b 0000000000000000\n",
-    ),
-];
+/// Plays lines that stand in the order of printing: each is answered as behind its arrow, and these bytes are left.
+fn plays_first<R: Abort + AllocGlobal + Threads + Wait + Sync>(
+    rt: &R,
+    pool: &str,
+    rows: &str,
+    bytes: &str,
+) {
+    let text = asking(rt, pool, rows);
+    let mut wanted = String::new(rt.alloc());
+    push(rt, &mut wanted, rows);
+    push(rt, &mut wanted, bytes);
+    plays(rt, text.as_str(), wanted.as_str());
+}
 
+/// An arena keeps the pages that a refused line got, and they come back with its close. The last pool's pages have
+/// their bits in two words.
 #[test]
 fn pages_run_out(rt: HostRuntime) {
-    for (text, wanted) in PAGES {
-        assert_eq!(rt; printed(&rt, text).as_str(), wanted);
-    }
+    plays_first(
+        &rt,
+        "pool 2 2 8 1000 2",
+        "\
+first open a shared -> ok
+first open b shared -> ok
+first alloc a s 128 8 -> ok 0
+first alloc b t 8 8 -> refused 11
+first alloc b t2 0 8 -> ok 0
+first alloc b u 129 8 -> refused 10 0
+first close a -> ok
+first alloc b v 8 8 -> ok 0
+",
+        "bytes b 0000000000000000\n",
+    );
+    plays_first(
+        &rt,
+        "pool 2 2 8 1000 3",
+        "\
+first open a shared -> ok
+first open b shared -> ok
+first alloc a s 128 8 -> ok 0
+first alloc b t 8 8 -> ok 0
+first close a -> ok
+",
+        "bytes b 0000000000000000\n",
+    );
+    plays_first(
+        &rt,
+        "pool 3 2 1 1000 3",
+        "\
+first open a shared -> ok
+first open b shared -> ok
+first open c shared -> ok
+first alloc a s 16 8 -> ok 0
+first alloc b t 16 8 -> refused 11
+first alloc c u 8 8 -> refused 11
+first alloc b v 8 8 -> ok 0
+first fill v 7 -> ok
+first close b -> ok
+first alloc c w 8 8 -> ok 0
+first get w long 0 -> 0
+",
+        "bytes a 00000000000000000000000000000000\nbytes c 0000000000000000\n",
+    );
+    plays_first(
+        &rt,
+        "pool 1 1 1 1000 5",
+        "\
+first open a shared -> ok
+first alloc a s 3 1 -> ok 0
+first alloc a t 1 4 -> ok 4
+first alloc a u 4 4 -> refused 10 5
+",
+        "bytes a 0000000000\n",
+    );
+    plays_first(
+        &rt,
+        "pool 2 100 8 1000 100",
+        "\
+first open a shared -> ok
+first open b shared -> ok
+first alloc a s 6400 8 -> ok 0
+first alloc a x 1 1 -> refused 10 6400
+first alloc b t 8 8 -> refused 11
+first close a -> ok
+first alloc b u 8 8 -> ok 0
+",
+        "bytes b 0000000000000000\n",
+    );
 }
 
 #[test]
@@ -117,7 +171,7 @@ fn a_worker_finds_no_page(rt: HostRuntime) {
     let wanted =
         "first open a shared -> ok\nfirst alloc a s 8 8 -> ok 0\n1 open b shared -> ok\n1 alloc b t 1 1 -> refused 11\n\
         1 get t byte 0 -> skipped\nlast alloc a u 1 1 -> refused 10 8\nbytes a 0000000000000000\nbytes b\n";
-    assert_eq!(rt; printed(&rt, text).as_str(), wanted);
+    plays(&rt, text, wanted);
 }
 
 #[test]
@@ -125,7 +179,7 @@ fn a_slot_has_one_arena(rt: HostRuntime) {
     let text = "pool 1 1 8 1 1\nfirst open a shared\nfirst close a\nfirst open b shared\n";
     let wanted =
         "first open a shared -> ok\nfirst close a -> ok\nfirst open b shared -> refused 12\n";
-    assert_eq!(rt; printed(&rt, text).as_str(), wanted);
+    plays(&rt, text, wanted);
 }
 
 #[test]
@@ -136,7 +190,7 @@ fn a_slot_has_its_last_generation(rt: HostRuntime) {
     let wanted =
         "first open a shared -> ok\nfirst close a -> ok\nfirst open b shared -> ok\nfirst close b -> ok\n\
         first open c shared -> refused 12\nfirst close c -> skipped\n";
-    assert_eq!(rt; printed(&rt, text).as_str(), wanted);
+    plays(&rt, text, wanted);
 }
 
 /// A worker's lines come in the order of its number, its names stay for the last lines, and what it holds is given
@@ -150,7 +204,7 @@ fn workers_names_stay(rt: HostRuntime) {
         "first open g auto -> ok\n1 open a shared -> ok\n1 alloc a s 4 4 -> ok 0\n1 set s int 0 258 -> ok\n\
         2 open b shared -> ok\n2 hold b h -> ok\n2 unhold h -> ok\n2 close b -> ok\nlast get s int 0 -> 258\n\
         last alive b -> false\nlast back g -> ended\nbytes a 02010000\n";
-    assert_eq!(rt; printed(&rt, text).as_str(), wanted);
+    plays(&rt, text, wanted);
 }
 
 /// A worker without lines is drawn too.
@@ -162,5 +216,5 @@ fn sixteen_workers_play(rt: HostRuntime) {
     let wanted =
         "first open a shared -> ok\nfirst alloc a s 8 8 -> ok 0\n3 add s int 4 3 -> 0\n16 add s int 0 16 -> 0\n\
         last get s long 0 -> 12884901904\nlast close a -> ok\n";
-    assert_eq!(rt; printed(&rt, text).as_str(), wanted);
+    plays(&rt, text, wanted);
 }

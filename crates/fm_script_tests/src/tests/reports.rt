@@ -6,13 +6,15 @@ ghost use Rattle.fm_gate.specs.Needs.{CanVisit, IsInside, IsOutside};
 ghost use Rattle.fm_rule_facts.specs.Views.{IsKnown, given_of};
 ghost use Rattle.fm_rule.specs.GivenBytes.{state_of};
 
+use crate::tests::compared::same;
+use crate::tests::written::script_of;
 use fm_base::{ArenaId, Caller, Kind, Refusal};
 use fm_close::close;
 use fm_gate::{a_crew_stands, allocate, enter, leave, open_arena, store};
 use fm_rule::{Finished, Pass, Pool};
 use fm_script_lines::{Numbers, Reply};
-use fm_script_report::{Report, print_report, report_lines};
-use fm_script_text::{Line, Script, parse_script};
+use fm_script_report::{Report, ReportLine, print_report, report_lines};
+use fm_script_text::{Line, Script};
 use fm_words::Shape;
 use std::alloc::AllocGlobal;
 use std::process::Abort;
@@ -43,8 +45,8 @@ fn stocked<R: Abort + Wait>(rt: &R, pool: &Pool, pass: &mut Pass) -> ArenaId
     ensures known { IsKnown pass.new result }
 {
     let a = open_arena(rt, pool, pass, Kind::Shared).expect(rt, "a slot");
-    assert_eq!(rt; allocate(rt, pool, pass, a, 8, 8), Ok(0));
-    assert_eq!(rt; enter(pool, pass, a), Ok(()));
+    same(rt, allocate(rt, pool, pass, a, 8, 8), Ok(0));
+    same(rt, enter(pool, pass, a), Ok(()));
     write(pool, pass, a);
     leave(pool, pass);
     a
@@ -58,7 +60,7 @@ fn ended<R: Abort + Wait>(rt: &R, pool: &Pool, pass: &mut Pass) -> ArenaId
     ensures lasts { Lasts pass.old pass.new }
 {
     let a = open_arena(rt, pool, pass, Kind::Shared).expect(rt, "a slot");
-    assert_eq!(rt; close(rt, pool, pass, a), Ok(()));
+    same(rt, close(rt, pool, pass, a), Ok(()));
     a
 }
 
@@ -69,7 +71,7 @@ fn finished<R: Abort + AllocGlobal>(rt: &R, pool: Pool, pass: Pass) -> Finished
 {
     a_crew_stands();
     let mut pass = pass;
-    assert!(rt; pool.whole(&mut pass));
+    same(rt, pool.whole(&mut pass), true);
     pool.finish(rt.alloc(), pass).expect(rt, "words")
 }
 
@@ -139,53 +141,64 @@ const TEXT: &str =
     last open a auto -> refused 12\nlast again a h -> skipped\nlast back a -> kept\nlast back h -> ended\n\
     bytes b\nbytes s 0f00ab0000000000\n";
 
+fn order_of<'a, R: Abort + AllocGlobal>(rt: &R, script: &'a Script) -> Vec<&'a Line> {
+    let mut order = Vec::new(rt.alloc());
+    for line in script.lines() {
+        same(rt, order.push(line).is_ok(), true);
+    }
+    order
+}
+
+/// The lines in the order of printing: their numbers by the names that they make, and they with those replies.
+fn told<R: Abort + AllocGlobal>(rt: &R) -> (Numbers, Vec<ReportLine>) {
+    let printed = script_of(rt, PRINTED);
+    let order = order_of(rt, &printed);
+    let names = Numbers::of_lines(rt.alloc(), order.as_slice()).expect(rt, "names");
+    same(rt, order.len(), 15);
+    let lines = report_lines(rt.alloc(), order.as_slice(), &REPLIES).expect(rt, "texts");
+    (names, lines)
+}
+
+fn one_caller<R: Abort + AllocGlobal>(rt: &R) -> Vec<Caller> {
+    let mut callers = Vec::new(rt.alloc());
+    let caller = Caller { number: 0, term: 0 };
+    same(rt, callers.push(caller).is_ok(), true);
+    callers
+}
+
 /// The report of the script, with those replies.
 fn reported<R: Abort + AllocGlobal + Wait>(rt: &R) -> Report {
-    let script = parse_script(rt.alloc(), SCRIPT.as_bytes()).expect(rt, "a script");
-    let printed = parse_script(rt.alloc(), PRINTED.as_bytes()).expect(rt, "a script");
-    let mut order = Vec::new(rt.alloc());
-    for line in printed.lines() {
-        assert!(rt; order.push(line).is_ok());
-    }
-    let names = Numbers::of_lines(rt.alloc(), order.as_slice()).expect(rt, "names");
-    assert_eq!(rt; order.len(), REPLIES.len());
-    let lines = report_lines(rt.alloc(), order.as_slice(), &REPLIES).expect(rt, "texts");
+    let script = script_of(rt, SCRIPT);
+    let (names, lines) = told(rt);
     let (finished, arenas) = left(rt);
     let mut opened = [None; 15];
     opened[0] = Some(arenas.ended);
     opened[4] = Some(arenas.stocked);
     opened[9] = Some(arenas.bare);
-    let mut callers = Vec::new(rt.alloc());
-    assert!(rt; callers.push(Caller { number: 0, term: 0 }).is_ok());
-    Report::of(
-        rt.alloc(),
-        &script,
-        &names,
-        &opened,
-        lines,
-        callers,
-        finished,
-    )
-    .expect(rt, "bytes")
+    let alloc = rt.alloc();
+    let callers = one_caller(rt);
+    Report::of(alloc, &script, &names, &opened, lines, callers, finished).expect(rt, "bytes")
 }
 
 #[test]
 fn a_report_is_printed(rt: HostRuntime) {
     let report = reported(&rt);
     let text = print_report(rt.alloc(), &report).expect(&rt, "a text");
-    assert_eq!(rt; text.as_str(), TEXT);
+    same(&rt, text.as_str(), TEXT);
 }
 
 #[test]
 fn a_report_has_its_parts(rt: HostRuntime) {
     let report = reported(&rt);
-    assert_eq!(rt; report.callers().len(), 1);
-    assert_eq!(rt; report.lines().len(), 15);
-    assert_eq!(rt; report.lines()[6].reply, Reply::Number(i64::MIN));
-    assert_eq!(rt; report.alive().len(), 2);
-    assert_eq!(rt; report.alive()[1].name.as_bytes(), b"s".as_slice());
-    assert_eq!(rt;
-        report.alive()[1].bytes.as_slice(),
-        b"\x0f\0\xab\0\0\0\0\0".as_slice()
+    same(&rt, report.callers().len(), 1);
+    same(&rt, report.lines().len(), 15);
+    same(&rt, report.lines()[6].reply, Reply::Number(i64::MIN));
+    let alive = report.alive();
+    same(&rt, alive.len(), 2);
+    same(&rt, alive[1].name.as_bytes(), b"s".as_slice());
+    same(
+        &rt,
+        alive[1].bytes.as_slice(),
+        b"\x0f\0\xab\0\0\0\0\0".as_slice(),
     );
 }

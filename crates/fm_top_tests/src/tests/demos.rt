@@ -1,6 +1,4 @@
-use crate::tests::endings::{line_ends, rows_end};
-use fm_io::SureFiles;
-use std::test::Fail;
+use crate::tests::endings::{are_usage, none, rows_end};
 
 /// Records that are made, and what they answer, for any number of threads.
 const MADE: &str = "\
@@ -13,8 +11,8 @@ demo 100000 --threads=8 -> 0 count 100000|sum(.amount) -2492|min(.amount) -50000
 demo --threads 16 -- 3 -> 0 count 3|sum(.amount) -126243|min(.amount) -50000|max(.amount) -34162|count 0|sum(.id) 0|";
 
 #[test]
-fn records_that_are_made_are_answered(rt: HostRuntime) -> Result<(), Fail> {
-    rows_end(&rt, &mut SureFiles::new(Vec::new(rt.alloc())), MADE)
+fn records_that_are_made_are_answered(rt: HostRuntime) {
+    rows_end(&rt, &mut none(&rt), MADE);
 }
 
 /// Words that ask for no records.
@@ -37,10 +35,6 @@ demo --count 3
 Demo 3";
 
 #[test]
-fn words_that_ask_for_no_records_are_usage(rt: HostRuntime) -> Result<(), Fail> {
-    let mut files = SureFiles::new(Vec::new(rt.alloc()));
-    for line in NO_DEMOS.lines() {
-        line_ends(&rt, &mut files, line, 1, "usage\n")?;
-    }
-    Ok(())
+fn words_that_ask_for_no_records_are_usage(rt: HostRuntime) {
+    are_usage(&rt, &mut none(&rt), NO_DEMOS);
 }

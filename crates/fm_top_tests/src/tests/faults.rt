@@ -1,14 +1,15 @@
-use crate::tests::endings::{parts_of, run};
-use crate::tests::files::{named, text_file};
+use crate::tests::compared::same;
+use crate::tests::endings::{parts_of, run_past, words_of};
+use crate::tests::files::listed;
 use crate::tests::layouts::SALE;
-use crate::tests::queries::SALES;
-use crate::tests::sums::TWO_LONGS;
-use fm_io::{MemFiles, MemSink};
+use crate::tests::sales::sales;
+use crate::tests::sums::two_longs;
+use fm_io::{FreeGate, MemFiles, MemSink};
+use fm_top::Kept;
 use std::alloc::{AllocError, AllocGlobal, Global};
 use std::process::Abort;
 use std::random::RandomSource;
 use std::sync::Wait;
-use std::test::Fail;
 use std::thread::Threads;
 
 /// Two workers add to one number.
@@ -38,101 +39,108 @@ const RUNS: &str = "\
 
 /// The files of these runs, where the read of this number fails and each gives a byte.
 fn files(alloc: Global, failing: u64) -> Result<MemFiles, AllocError> {
-    let all = vec![in alloc;
-        named(alloc, "F1", TWO_LONGS.to_vec(alloc)?)?,
-        text_file(alloc, "L1", SALE)?,
-        named(alloc, "R1", SALES.to_vec(alloc)?)?,
-        text_file(alloc, "S", ADDED)?,
-    ]?;
-    Ok(MemFiles::new(all, vec![in alloc; failing]?).with_piece(1))
+    let failing = vec![in alloc; failing]?;
+    let all = [
+        ("F1", two_longs()),
+        ("L1", SALE.as_bytes()),
+        ("R1", sales()),
+        ("S", ADDED.as_bytes()),
+    ];
+    Ok(MemFiles::new(listed(alloc, &all)?, failing).with_piece(1))
 }
 
-/// The first of the texts that may be printed.
-fn first_of(texts: &str) -> &str {
-    let (first, _) = texts.split_once(" or ").unwrap_or((texts, ""));
-    first
+/// A sink that takes a byte in each write, and where the write of this number fails.
+fn sink(alloc: Global, failing: u64) -> Result<MemSink, AllocError> {
+    Ok(MemSink::new(alloc, vec![in alloc; failing]?).with_piece(1))
 }
 
-/// How many reads a run makes, and how many bytes it writes.
-fn sizes_of(alloc: Global, row: &str) -> Result<(u64, u64), AllocError> {
-    let (line, _, printed) = parts_of(alloc, row)?;
-    let (reads, _) = line.split_once(' ').unwrap_or((line, ""));
-    Ok((
-        reads.parse().unwrap_or(u64::MAX),
-        first_of(&printed).len() as u64,
-    ))
-}
-
-/// Compares how a run ends where each byte is read and written by a call of its own, and of these calls the read and the
-/// write of these numbers fail: after a failed read nothing is written, and after a failed write the bytes before it are.
-fn ends_at<R>(rt: &R, row: &str, read: u64, write: u64) -> Result<(), Fail>
-where
-    R: Threads + Wait + Sync + RandomSource + AllocGlobal + Abort,
-{
-    let alloc = rt.alloc();
-    let (line, status, printed) = parts_of(alloc, row)?;
-    let (_, words) = line.split_once(' ').unwrap_or(("", line));
-    let words: Vec<&str> = words.split(';').collect(alloc)?;
-    let (reads, size) = sizes_of(alloc, row)?;
-    let (status, count) = if read < reads {
-        (3, 0)
-    } else if write < size {
-        (8, write)
-    } else {
-        (status, size)
-    };
-
-    let mut out = MemSink::new(alloc, vec![in alloc; write]?).with_piece(1);
-    let code = run(rt, &words, &mut files(alloc, read)?, &mut out)?;
-    let found = out.written();
-    assert_eq!(rt; code, status, "read {read}, write {write}: {row}");
-    assert_eq!(rt;
-        found.len() as u64,
-        count,
-        "read {read}, write {write}: {row}"
-    );
-    let is_told = printed
-        .as_str()
-        .split(" or ")
-        .any(|text| text.as_bytes().starts_with(found));
-    assert!(rt; is_told, "read {read}, write {write}: {row}");
-    Ok(())
-}
-
-/// Which calls of a run fail, one of them in each repetition.
-#[derive(Clone, Copy)]
-enum Failing {
-    Reads,
-    Writes,
-}
-
-/// Compares how each run ends where each of these calls fails, and where none does.
-fn ends_at_each<R>(rt: &R, failing: Failing) -> Result<(), Fail>
-where
-    R: Threads + Wait + Sync + RandomSource + AllocGlobal + Abort,
-{
-    for row in RUNS.lines() {
-        let (reads, size) = sizes_of(rt.alloc(), row)?;
-        let count = match failing {
-            Failing::Reads => reads,
-            Failing::Writes => size,
-        };
-        for k in 0..=count {
-            match failing {
-                Failing::Reads => ends_at(rt, row, k, u64::MAX)?,
-                Failing::Writes => ends_at(rt, row, u64::MAX, k)?,
-            }
+/// Whether one of the texts begins with these bytes.
+fn is_told(texts: &str, found: &[u8]) -> bool {
+    for text in texts.split(" or ") {
+        if text.as_bytes().starts_with(found) {
+            return true;
         }
     }
-    Ok(())
+    false
+}
+
+/// How many bytes a run writes: as many as the first of the texts that may be printed.
+fn size_of(texts: &str) -> u64 {
+    let (first, _) = texts.split_once(" or ").unwrap_or((texts, ""));
+    first.len() as u64
+}
+
+/// Compares the status of a run and how many bytes of its texts it writes with what is wanted, where of its calls the
+/// read and the write of these numbers fail.
+fn ends_at<R>(rt: &R, run: (&str, &str), failing: (u64, u64), wanted: (u8, u64))
+where
+    R: Threads + Wait + Sync + RandomSource + AllocGlobal + Abort,
+{
+    let (words, texts) = run;
+    let (read, write) = failing;
+    let (status, count) = wanted;
+    let mut files = files(rt.alloc(), read).expect(rt, "memory");
+    let mut out = sink(rt.alloc(), write).expect(rt, "memory");
+    let code = run_past(
+        rt,
+        &words_of(rt, words, ';'),
+        &mut files,
+        &mut out,
+        &FreeGate,
+        &mut Kept::new(),
+    );
+    let found = out.written();
+    same(
+        rt,
+        (
+            (code, found.len() as u64, is_told(texts, found)),
+            (words, read, write),
+        ),
+        ((status, count, true), (words, read, write)),
+    );
+}
+
+/// Compares how a run ends where each byte is read by a call of its own, and each of these calls fails in turn: nothing
+/// is written then. Where none fails all is written.
+fn ends_at_each_read<R>(rt: &R, row: &str)
+where
+    R: Threads + Wait + Sync + RandomSource + AllocGlobal + Abort,
+{
+    let (line, status, texts) = parts_of(rt, row);
+    let (reads, words) = line.split_once(' ').unwrap_or((line, ""));
+    let reads: u64 = reads.parse().unwrap_or(u64::MAX);
+    let run = (words, texts.as_str());
+    for read in 0..reads {
+        ends_at(rt, run, (read, u64::MAX), (3, 0));
+    }
+    ends_at(rt, run, (reads, u64::MAX), (status, size_of(&texts)));
+}
+
+/// The same for writes: the bytes before the one that fails are written.
+fn ends_at_each_write<R>(rt: &R, row: &str)
+where
+    R: Threads + Wait + Sync + RandomSource + AllocGlobal + Abort,
+{
+    let (line, status, texts) = parts_of(rt, row);
+    let (_, words) = line.split_once(' ').unwrap_or((line, ""));
+    let run = (words, texts.as_str());
+    let size = size_of(&texts);
+    for write in 0..size {
+        ends_at(rt, run, (u64::MAX, write), (8, write));
+    }
+    ends_at(rt, run, (u64::MAX, size), (status, size));
 }
 
 #[test]
-fn each_read_that_fails_ends_its_run(rt: HostRuntime) -> Result<(), Fail> {
-    ends_at_each(&rt, Failing::Reads)
+fn each_read_that_fails_ends_its_run(rt: HostRuntime) {
+    for row in RUNS.lines() {
+        ends_at_each_read(&rt, row);
+    }
 }
 
 #[test]
-fn each_write_that_fails_leaves_the_bytes_before_it(rt: HostRuntime) -> Result<(), Fail> {
-    ends_at_each(&rt, Failing::Writes)
+fn each_write_that_fails_leaves_the_bytes_before_it(rt: HostRuntime) {
+    for row in RUNS.lines() {
+        ends_at_each_write(&rt, row);
+    }
 }

@@ -1,14 +1,13 @@
-use crate::tests::endings::{parts_of, words_of};
-use crate::tests::files::text_file;
-use crate::tests::queries::files;
-use fm_io::{Files, SureFiles, SureSink};
+use crate::tests::compared::same;
+use crate::tests::endings::{parts_of, passes, replaced, words_of};
+use crate::tests::sales::files;
+use crate::tests::texts::one_text;
+use fm_io::Files;
 use fm_io_gates::Recording;
-use fm_top::{Kept, run_tool};
 use std::alloc::AllocGlobal;
 use std::process::Abort;
 use std::random::RandomSource;
 use std::sync::Wait;
-use std::test::Fail;
 use std::thread::Threads;
 
 /// Rows, and behind `by` a line for each worker that passed the gate: `+` before and `-` after the call of this number.
@@ -34,37 +33,36 @@ const SCRIPT_PASSED: &str =
     "run S -> 0 first open a shared -> ok|first alloc a s 16 8 -> ok 0|1 set s long 0 5 -> ok|1 get s long 0 -> 5|\
     2 set s long 8 7 -> ok|last get s long 8 -> 7|bytes a 05000000000000000700000000000000| by 1: +0 -0 +1 -1|2: +0 -0|";
 
+/// Compares all who passed the gate with a line for each, behind which a bar stands.
+fn was_passed<R: AllocGlobal + Abort>(rt: &R, gate: &Recording, passed: &str, line: &str) {
+    let wanted = replaced(rt, passed, "|", "\n");
+    let found = gate.text(rt.alloc()).expect(rt, "memory");
+    same(rt, (found.as_str(), line), (wanted.as_str(), line));
+}
+
 /// Compares how a run on the row's line ends with what the row tells, and all who passed the gate.
-pub fn passes<R, F>(rt: &R, files: &mut F, row: &str) -> Result<(), Fail>
+pub fn row_passes<R, F>(rt: &R, files: &mut F, row: &str)
 where
     R: Threads + Wait + Sync + RandomSource + AllocGlobal + Abort,
     F: Files,
 {
-    let alloc = rt.alloc();
     let (row, passed) = row.rsplit_once(" by ").unwrap_or((row, ""));
-    let passed = passed.replace(alloc, "|", "\n")?;
-    let (line, status, text) = parts_of(alloc, row)?;
-    let words = words_of(alloc, line)?;
-    let gate = Recording::new(alloc)?;
-    let mut out = SureSink::new(alloc);
-    let code = run_tool(rt, alloc, &words, files, &mut out, &gate, &mut Kept::new());
-    assert_eq!(rt; code, status, "{line}");
-    assert_eq!(rt; out.written(), text.as_bytes(), "{line}");
-    assert_eq!(rt; gate.text(alloc)?.as_str(), passed.as_str(), "{line}");
-    Ok(())
+    let (line, status, text) = parts_of(rt, row);
+    let gate = Recording::new(rt.alloc()).expect(rt, "memory");
+    passes(rt, files, &words_of(rt, line, ' '), &gate, (status, &text));
+    was_passed(rt, &gate, passed, line);
 }
 
 #[test]
-fn each_worker_passes_the_gate_around_its_calls(rt: HostRuntime) -> Result<(), Fail> {
-    let alloc = rt.alloc();
-    let mut records = files(alloc, &[], usize::MAX)?;
+fn each_worker_passes_the_gate_around_its_calls(rt: HostRuntime) {
+    let mut records = files(&rt, None, usize::MAX);
     for row in PASSED.lines() {
-        passes(&rt, &mut records, row)?;
+        row_passes(&rt, &mut records, row);
     }
-    let script = text_file(alloc, "S", SCRIPT)?;
-    passes(
-        &rt,
-        &mut SureFiles::new(vec![in alloc; script]?),
-        SCRIPT_PASSED,
-    )
+}
+
+#[test]
+fn each_worker_passes_the_gate_around_its_lines(rt: HostRuntime) {
+    let mut script = one_text(&rt, "S", SCRIPT, usize::MAX);
+    row_passes(&rt, &mut script, SCRIPT_PASSED);
 }

@@ -1,9 +1,12 @@
 use crate::tests::endings::{ends, parts_of};
-use crate::tests::files::{named, repeating, text_file};
+use crate::tests::files::{repeating, with_records};
 use fm_io::{Fault, Files, MemFiles, Piece};
 use fm_top::RECORD_FILE_LIMIT;
-use std::alloc::{AllocError, Global};
-use std::test::Fail;
+use std::alloc::AllocGlobal;
+use std::process::Abort;
+use std::random::RandomSource;
+use std::sync::Wait;
+use std::thread::Threads;
 
 /// Files whose sizes are guessed so, rightly or not.
 #[derive(Drop)]
@@ -26,18 +29,15 @@ impl Files for Guessed {
     }
 }
 
-/// A layout of records of 8 bytes, and a record file `R` of so many bytes, whose size is guessed so.
-fn with_guess(alloc: Global, count: usize, guess: Option<u64>) -> Result<Guessed, AllocError> {
-    let layout =
-        "{\"type\":\"struct\",\"members\":[{\"type\":\"byte\",\"name\":\"a\"},{\"type\":\"padding\",\"size\":7}]}";
-    let all = vec![in alloc;
-        text_file(alloc, "L", layout)?,
-        named(alloc, "R", repeating(alloc, count)?)?,
-    ]?;
-    Ok(Guessed {
-        files: MemFiles::new(all, Vec::new(alloc)),
-        guess,
-    })
+/// A layout of records of 8 bytes.
+const EIGHT: &str =
+    "{\"type\":\"struct\",\"members\":[{\"type\":\"byte\",\"name\":\"a\"},{\"type\":\"padding\",\"size\":7}]}";
+
+/// The layout, and a record file of so many bytes, whose size is guessed so.
+fn with_guess<R: Abort + AllocGlobal>(rt: &R, count: u64, guess: Option<u64>) -> Guessed {
+    let all = with_records(rt, EIGHT.as_bytes(), repeating(rt, count as usize));
+    let files = MemFiles::new(all, Vec::new(rt.alloc()));
+    Guessed { files, guess }
 }
 
 /// How many bytes the record file has, and what a query of it ends with.
@@ -50,58 +50,73 @@ const SIZES: &str = "\
 131080 -> 0 count 16385|sum(.a) -7256|
 200000 -> 0 count 25000|sum(.a) -11051|";
 
-/// Guesses that are right, too small, too large, wrong by a byte or a word, or no guesses of a record file at all.
-fn guesses(alloc: Global, count: u64) -> Result<Vec<Option<u64>>, AllocError> {
-    Ok(vec![in alloc;
-        None,
-        Some(0),
-        Some(1),
-        Some(8),
-        Some(65_536),
-        Some(count / 2),
-        Some(count.saturating_sub(8)),
-        Some(count.saturating_sub(1)),
-        Some(count),
-        Some(count.saturating_add(1)),
-        Some(count.saturating_add(8)),
-        Some(count.saturating_mul(3)),
-        Some(RECORD_FILE_LIMIT + 1),
-        Some(u64::MAX),
-    ]?)
+/// Guesses that are right, too small, too large, wrong by a byte or a word, or those of no record file at all.
+fn guesses(count: u64) -> [u64; 13] {
+    [
+        0,
+        1,
+        8,
+        65_536,
+        count / 2,
+        count.saturating_sub(8),
+        count.saturating_sub(1),
+        count,
+        count.saturating_add(1),
+        count.saturating_add(8),
+        count.saturating_mul(3),
+        RECORD_FILE_LIMIT + 1,
+        u64::MAX,
+    ]
 }
 
-#[test]
-fn an_answer_does_not_depend_on_the_guess(rt: HostRuntime) -> Result<(), Fail> {
-    let alloc = rt.alloc();
-    for row in SIZES.lines() {
-        let (line, status, text) = parts_of(alloc, row)?;
-        let count: u64 = line.parse().unwrap_or(0);
-        for guess in guesses(alloc, count)? {
-            let mut files = with_guess(alloc, count as usize, guess)?;
-            ends(
-                &rt,
-                &mut files,
-                &["query", "L", "count,sum(.a)", "R"],
-                status,
-                &text,
-            )?;
-        }
-    }
-    Ok(())
-}
-
-#[test]
-fn a_tally_does_not_depend_on_the_guess(rt: HostRuntime) -> Result<(), Fail> {
-    let alloc = rt.alloc();
-    for guess in guesses(alloc, 16)? {
-        let mut files = with_guess(alloc, 16, guess)?;
+/// Compares how a query of so many bytes ends with what is told, by each guess and by none.
+fn query_ends<R>(rt: &R, count: u64, status: u8, text: &str)
+where
+    R: Threads + Wait + Sync + RandomSource + AllocGlobal + Abort,
+{
+    let words = ["query", "L", "count,sum(.a)", "R"];
+    for guess in guesses(count) {
         ends(
-            &rt,
-            &mut files,
-            &["tally", "L", ".a", "R"],
-            0,
-            "0 1\n8 1\ntotal 2\n",
-        )?;
+            rt,
+            &mut with_guess(rt, count, Some(guess)),
+            &words,
+            status,
+            text,
+        );
     }
-    Ok(())
+    ends(rt, &mut with_guess(rt, count, None), &words, status, text);
+}
+
+/// The same for a row.
+fn row_ends<R>(rt: &R, row: &str)
+where
+    R: Threads + Wait + Sync + RandomSource + AllocGlobal + Abort,
+{
+    let (count, status, text) = parts_of(rt, row);
+    query_ends(rt, count.parse().unwrap_or(0), status, &text);
+}
+
+#[test]
+fn an_answer_does_not_depend_on_the_guess(rt: HostRuntime) {
+    for row in SIZES.lines() {
+        row_ends(&rt, row);
+    }
+}
+
+/// Compares what a tally by this guess ends with, or by none.
+fn tally_ends<R>(rt: &R, guess: Option<u64>)
+where
+    R: Threads + Wait + Sync + RandomSource + AllocGlobal + Abort,
+{
+    let mut files = with_guess(rt, 16, guess);
+    let words = ["tally", "L", ".a", "R"];
+    ends(rt, &mut files, &words, 0, "0 1\n8 1\ntotal 2\n");
+}
+
+#[test]
+fn a_tally_does_not_depend_on_the_guess(rt: HostRuntime) {
+    for guess in guesses(16) {
+        tally_ends(&rt, Some(guess));
+    }
+    tally_ends(&rt, None);
 }

@@ -1,26 +1,22 @@
-use crate::tests::endings::{parts_of, words_of};
-use crate::tests::queries::files;
-use fm_io::{FreeGate, MemFiles, MemSink};
-use fm_top::{Kept, run_tool};
-use std::alloc::{AllocError, AllocGlobal};
+use crate::tests::compared::same;
+use crate::tests::endings::{parts_of, run_line};
+use crate::tests::sales::files;
+use fm_io::{MemFiles, MemSink};
+use fm_top::Kept;
+use std::alloc::AllocGlobal;
 use std::process::Abort;
 use std::random::RandomSource;
 use std::sync::Wait;
-use std::test::Fail;
 use std::thread::Threads;
 
 /// Runs the tool on the words of a line where the write of this number fails, and answers its status.
-pub fn run_at<R: Threads + Wait + Sync + RandomSource + AllocGlobal>(
-    rt: &R,
-    files: &mut MemFiles,
-    line: &str,
-    failing: u64,
-    kept: &mut Kept,
-) -> Result<u8, AllocError> {
-    let alloc = rt.alloc();
-    let words = words_of(alloc, line)?;
-    let mut out = MemSink::new(alloc, vec![in alloc; failing]?).with_piece(1);
-    Ok(run_tool(rt, alloc, &words, files, &mut out, &FreeGate, kept))
+pub fn run_at<R>(rt: &R, files: &mut MemFiles, line: &str, failing: u64, kept: &mut Kept) -> u8
+where
+    R: Threads + Wait + Sync + RandomSource + AllocGlobal + Abort,
+{
+    let failing = vec![in rt.alloc(); failing].expect(rt, "memory");
+    let mut out = MemSink::new(rt.alloc(), failing).with_piece(1);
+    run_line(rt, line, files, &mut out, kept)
 }
 
 /// Lines, their statuses, and whether a pool is kept.
@@ -47,37 +43,38 @@ query -> 1 none
 tally L1 .price R1 -> 5 none
 tally Broken .tags[] R1 -> 4 none";
 
-/// Runs the line of each row, where the write of this number fails, and compares how it ends and whether a pool is kept
-/// with what the row tells. What is kept is that of the last run, whatever the one before kept.
-fn each_keeps<R>(
-    rt: &R,
-    files: &mut MemFiles,
-    table: &str,
-    failing: u64,
-    kept: &mut Kept,
-) -> Result<(), Fail>
+/// Runs the line of a row, where the write of this number fails, and compares how it ends and whether a pool is kept
+/// with what the row tells.
+fn keeps<R>(rt: &R, files: &mut MemFiles, row: &str, failing: u64, kept: &mut Kept)
 where
     R: Threads + Wait + Sync + RandomSource + AllocGlobal + Abort,
 {
+    let (line, status, keeps) = parts_of(rt, row);
+    let code = run_at(rt, files, line, failing, kept);
+    let found = (code, kept.finished().is_some());
+    same(
+        rt,
+        (found, line),
+        ((status, keeps.as_str() == "kept"), line),
+    );
+}
+
+/// The same for each row. What is kept is that of the last run, whatever the one before kept.
+fn each_keeps<R>(rt: &R, table: &str, failing: u64, kept: &mut Kept)
+where
+    R: Threads + Wait + Sync + RandomSource + AllocGlobal + Abort,
+{
+    let mut files = files(rt, None, usize::MAX);
     for row in table.lines() {
-        let (line, status, keeps) = parts_of(rt.alloc(), row)?;
-        let code = run_at(rt, files, line, failing, kept)?;
-        assert_eq!(rt; code, status, "{line}");
-        assert_eq!(rt;
-            kept.finished().is_some(),
-            keeps.as_str() == "kept",
-            "{line}"
-        );
+        keeps(rt, &mut files, row, failing, kept);
     }
-    Ok(())
 }
 
 #[test]
-fn a_pool_is_kept_with_each_answer_of_one(rt: HostRuntime) -> Result<(), Fail> {
-    let mut files = files(rt.alloc(), &[], usize::MAX)?;
+fn a_pool_is_kept_with_each_answer_of_one(rt: HostRuntime) {
     let mut kept = Kept::new();
-    assert!(rt; kept.finished().is_none());
-    each_keeps(&rt, &mut files, KEEPING, u64::MAX, &mut kept)
+    same(&rt, kept.finished().is_none(), true);
+    each_keeps(&rt, KEEPING, u64::MAX, &mut kept);
 }
 
 /// Lines whose answer isn't written, and whether a pool is kept.
@@ -92,11 +89,8 @@ demo 3 -> 8 kept
 sum 8 0 long R1 -> 8 none";
 
 #[test]
-fn it_is_kept_where_the_answer_is_not_written(rt: HostRuntime) -> Result<(), Fail> {
-    let mut files = files(rt.alloc(), &[], usize::MAX)?;
+fn it_is_kept_where_the_answer_is_not_written(rt: HostRuntime) {
     let mut kept = Kept::new();
-    for failing in [0, 3] {
-        each_keeps(&rt, &mut files, UNWRITTEN, failing, &mut kept)?;
-    }
-    Ok(())
+    each_keeps(&rt, UNWRITTEN, 0, &mut kept);
+    each_keeps(&rt, UNWRITTEN, 3, &mut kept);
 }

@@ -1,11 +1,10 @@
 use crate::tests::endings::{ends, parts_of};
-use crate::tests::files::{named, text_file};
+use crate::tests::files::listed;
 use fm_io::SureFiles;
-use std::alloc::{AllocGlobal, Global};
+use std::alloc::AllocGlobal;
 use std::process::Abort;
 use std::random::RandomSource;
 use std::sync::Wait;
-use std::test::Fail;
 use std::thread::Threads;
 
 /// A value of each kind: a boolean, a byte, a char, an int in big order, and in a union a long and a byte.
@@ -24,17 +23,6 @@ const VALUES: [u8; 48] = [
 /// Two rows of two bytes.
 const SQUARE: &str =
     "{\"type\":\"sequence\",\"count\":2,\"element\":{\"type\":\"sequence\",\"count\":2,\"element\":{\"type\":\"byte\"}}}";
-
-/// `K` with its records `V`, and `S` with its two records `B`.
-fn files(alloc: Global) -> Result<SureFiles, Fail> {
-    let all = vec![in alloc;
-        text_file(alloc, "K", KINDS)?,
-        named(alloc, "V", VALUES.to_vec(alloc)?)?,
-        text_file(alloc, "S", SQUARE)?,
-        named(alloc, "B", [1, 2, 3, 4, 5, 6, 7, 8].to_vec(alloc)?)?,
-    ]?;
-    Ok(SureFiles::new(all))
-}
 
 /// Queries over the values, and what they answer.
 const OF_KINDS: &str = "\
@@ -57,31 +45,33 @@ list([1:-1][]) -> 0 list([1:-1][]) 3 4 1 2 7 8 5 6|
 list([][1:-1]) -> 0 list([][1:-1]) 2 1 4 3 6 5 8 7|
 list([][1]) where [0][0]>1 -> 0 list([][1]) 6 8|";
 
-/// Compares what each row's query answers over the records of a layout with what the row tells.
-fn queries_end<R>(rt: &R, layout: &str, records: &str, table: &str) -> Result<(), Fail>
+/// Compares what the row's query answers with what the row tells.
+fn query_ends<R>(rt: &R, files: &mut SureFiles, row: &str)
 where
     R: Threads + Wait + Sync + RandomSource + AllocGlobal + Abort,
 {
-    let mut files = files(rt.alloc())?;
+    let (query, status, text) = parts_of(rt, row);
+    ends(rt, files, &["query", "L", query, "R"], status, &text);
+}
+
+/// The same for each row, over these records of a layout.
+fn queries_end<R>(rt: &R, layout: &str, records: &[u8], table: &str)
+where
+    R: Threads + Wait + Sync + RandomSource + AllocGlobal + Abort,
+{
+    let all = [("L", layout.as_bytes()), ("R", records)];
+    let mut files = SureFiles::new(listed(rt.alloc(), &all).expect(rt, "memory"));
     for row in table.lines() {
-        let (query, status, text) = parts_of(rt.alloc(), row)?;
-        ends(
-            rt,
-            &mut files,
-            &["query", layout, query, records],
-            status,
-            &text,
-        )?;
+        query_ends(rt, &mut files, row);
     }
-    Ok(())
 }
 
 #[test]
-fn each_kind_counts_as_its_number(rt: HostRuntime) -> Result<(), Fail> {
-    queries_end(&rt, "K", "V", OF_KINDS)
+fn each_kind_counts_as_its_number(rt: HostRuntime) {
+    queries_end(&rt, KINDS, &VALUES, OF_KINDS);
 }
 
 #[test]
-fn the_last_index_changes_fastest(rt: HostRuntime) -> Result<(), Fail> {
-    queries_end(&rt, "S", "B", OF_ROWS)
+fn the_last_index_changes_fastest(rt: HostRuntime) {
+    queries_end(&rt, SQUARE, &[1, 2, 3, 4, 5, 6, 7, 8], OF_ROWS);
 }

@@ -1,11 +1,10 @@
-use crate::tests::endings::{line_ends, rows_end};
+use crate::tests::endings::{line_ends, replaced, rows_end};
 use crate::tests::texts::{contents_end, ends_at_limit, one_text, text_ends};
 use fm_top::LAYOUT_FILE_LIMIT;
 use std::alloc::AllocGlobal;
 use std::process::Abort;
 use std::random::RandomSource;
 use std::sync::Wait;
-use std::test::Fail;
 use std::thread::Threads;
 
 /// A record of an id, a kind, a price and four tags, as a user writes it.
@@ -37,9 +36,9 @@ const LAYOUTS: &str = "\
 {'type':'struct','members':[{'type':'int'},7]} -> 4 layout refused 41 2|";
 
 #[test]
-fn each_layout_is_listed_or_refused(rt: HostRuntime) -> Result<(), Fail> {
-    text_ends(&rt, ("L", SALE), ("layout L", 0, LISTING))?;
-    contents_end(&rt, "L", "layout L", LAYOUTS, ("'", "\""))
+fn each_layout_is_listed_or_refused(rt: HostRuntime) {
+    text_ends(&rt, ("L", SALE), ("layout L", 0, LISTING));
+    contents_end(&rt, "L", "layout L", LAYOUTS, ("'", "\""));
 }
 
 /// Words that ask for no layout, where a star stands for the command, and how they end.
@@ -56,31 +55,38 @@ list L -> 1 usage|
 *  -> 2 missing |";
 
 /// Compares how these words end for this command with what is told.
-pub fn no_layouts_end<R>(rt: &R, command: &str) -> Result<(), Fail>
+pub fn no_layouts_end<R>(rt: &R, command: &str)
 where
     R: Threads + Wait + Sync + RandomSource + AllocGlobal + Abort,
 {
-    let table = NO_LAYOUTS.replace(rt.alloc(), "*", command)?;
-    rows_end(rt, &mut one_text(rt.alloc(), "L", SALE, 1)?, &table)
+    let table = replaced(rt, NO_LAYOUTS, "*", command);
+    rows_end(rt, &mut one_text(rt, "L", SALE, 1), &table);
 }
 
 #[test]
-fn words_that_ask_for_no_layout_are_usage(rt: HostRuntime) -> Result<(), Fail> {
-    no_layouts_end(&rt, "layout")
+fn words_that_ask_for_no_layout_are_usage(rt: HostRuntime) {
+    no_layouts_end(&rt, "layout");
+}
+
+/// Compares how a listing of the first bytes of the layout ends with a refusal.
+fn part_is_refused<R>(rt: &R, count: usize)
+where
+    R: Threads + Wait + Sync + RandomSource + AllocGlobal + Abort,
+{
+    let part = std::str::from_utf8(&SALE.as_bytes()[..count.min(SALE.len())]).unwrap_or("");
+    let mut files = one_text(rt, "L", part, usize::MAX);
+    line_ends(rt, &mut files, "layout L", 4, "layout refused 40\n");
 }
 
 #[test]
-fn a_part_of_a_layout_is_no_layout(rt: HostRuntime) -> Result<(), Fail> {
-    for k in 0..SALE.len() {
-        let part = std::str::from_utf8(&SALE.as_bytes()[..k]).unwrap_or("");
-        let mut files = one_text(rt.alloc(), "L", part, usize::MAX)?;
-        line_ends(&rt, &mut files, "layout L", 4, "layout refused 40\n")?;
+fn a_part_of_a_layout_is_no_layout(rt: HostRuntime) {
+    for count in 0..SALE.len() {
+        part_is_refused(&rt, count);
     }
-    Ok(())
 }
 
 #[test]
-fn a_layout_file_may_be_as_long_as_the_limit(rt: HostRuntime) -> Result<(), Fail> {
+fn a_layout_file_may_be_as_long_as_the_limit(rt: HostRuntime) {
     let limit = LAYOUT_FILE_LIMIT as usize;
-    ends_at_limit(&rt, ("L", SALE), b' ', limit, "layout L", LISTING)
+    ends_at_limit(&rt, ("L", SALE), b' ', limit, "layout L", LISTING);
 }

@@ -1,10 +1,15 @@
 use crate::tests::endings::line_ends;
-use crate::tests::files::{named, text_file};
+use crate::tests::files::with_records;
 use crate::tests::layouts::no_layouts_end;
 use crate::tests::texts::{contents_end, ends_at_limit, one_text};
-use fm_io::MemFiles;
+use fm_io::SureFiles;
 use fm_top::LAYOUT_FILE_LIMIT;
+use std::alloc::AllocGlobal;
+use std::process::Abort;
+use std::random::RandomSource;
+use std::sync::Wait;
 use std::test::Fail;
+use std::thread::Threads;
 
 /// Two points, of a type that is named.
 const LINE: &str =
@@ -12,9 +17,9 @@ const LINE: &str =
     {\"type\":\"int\",\"name\":\"y\"}]}}],\"layout\":{\"type\":\"struct\",\"members\":[{\"type\":\"ref\",\"of\":\"p\",\"name\":\"from\"},\
     {\"type\":\"ref\",\"of\":\"p\",\"name\":\"to\"}]}}";
 
-/// What it comes to.
+/// What it comes to, as it is printed.
 const LINE_MIGRATED: &str =
-    "{\"layout\":{\"members\":[{\"members\":[{\"name\":\"x\",\"type\":\"int\"},{\"name\":\"y\",\"type\":\"int\"}],\"name\":\"from\",\"type\":\"struct\"},{\"members\":[{\"name\":\"x\",\"type\":\"int\"},{\"name\":\"y\",\"type\":\"int\"}],\"name\":\"to\",\"type\":\"struct\"}],\"type\":\"struct\"},\"types\":[],\"version\":2}";
+    "{\"layout\":{\"members\":[{\"members\":[{\"name\":\"x\",\"type\":\"int\"},{\"name\":\"y\",\"type\":\"int\"}],\"name\":\"from\",\"type\":\"struct\"},{\"members\":[{\"name\":\"x\",\"type\":\"int\"},{\"name\":\"y\",\"type\":\"int\"}],\"name\":\"to\",\"type\":\"struct\"}],\"type\":\"struct\"},\"types\":[],\"version\":2}\n";
 
 /// What is printed of either.
 const LISTING: &str =
@@ -34,52 +39,46 @@ const MIGRATED: &str = "\
 { -> 4 layout refused 40|";
 
 #[test]
-fn each_layout_is_migrated_or_refused(rt: HostRuntime) -> Result<(), Fail> {
-    contents_end(&rt, "L", "migrate L", MIGRATED, ("'", "\""))
+fn each_layout_is_migrated_or_refused(rt: HostRuntime) {
+    contents_end(&rt, "L", "migrate L", MIGRATED, ("'", "\""));
+}
+
+/// Compares what is printed of a layout and of its migration with that of the two points.
+fn is_line<R>(rt: &R, layout: &str)
+where
+    R: Threads + Wait + Sync + RandomSource + AllocGlobal + Abort,
+{
+    let mut files = one_text(rt, "L", layout, usize::MAX);
+    line_ends(rt, &mut files, "layout L", 0, LISTING);
+    line_ends(rt, &mut files, "migrate L", 0, LINE_MIGRATED);
 }
 
 #[test]
-fn what_is_migrated_is_the_same_layout(rt: HostRuntime) -> Result<(), Fail> {
-    let alloc = rt.alloc();
-    for layout in [LINE, LINE_MIGRATED] {
-        let mut files = one_text(alloc, "L", layout, usize::MAX)?;
-        line_ends(&rt, &mut files, "layout L", 0, LISTING)?;
-        let mut again = String::from_str(alloc, LINE_MIGRATED)?;
-        again.push('\n')?;
-        line_ends(&rt, &mut files, "migrate L", 0, &again)?;
-    }
-    Ok(())
+fn what_is_migrated_is_the_same_layout(rt: HostRuntime) {
+    is_line(&rt, LINE);
+    is_line(&rt, LINE_MIGRATED.trim_end());
 }
 
 #[test]
 fn records_are_queried_by_named_types(rt: HostRuntime) -> Result<(), Fail> {
-    let alloc = rt.alloc();
-    let records = [1, 0, 0, 0, 2, 0, 0, 0, 3, 0, 0, 0, 4, 0, 0, 0];
-    let all = vec![in alloc;
-        text_file(alloc, "L", LINE)?,
-        named(alloc, "R", records.to_vec(alloc)?)?,
-    ]?;
-    let mut files = MemFiles::new(all, Vec::new(alloc));
-    line_ends(
-        &rt,
-        &mut files,
-        "query L sum(.to.y),list(.from.x) R",
-        0,
-        "sum(.to.y) 4\nlist(.from.x) 1\n",
-    )?;
+    let records = [1, 0, 0, 0, 2, 0, 0, 0, 3, 0, 0, 0, 4, 0, 0, 0].to_vec(rt.alloc())?;
+    let mut files = SureFiles::new(with_records(&rt, LINE.as_bytes(), records));
+    let query = "query L sum(.to.y),list(.from.x) R";
+    line_ends(&rt, &mut files, query, 0, "sum(.to.y) 4\nlist(.from.x) 1\n");
     Ok(())
 }
 
 #[test]
-fn words_that_ask_for_no_migration_are_usage(rt: HostRuntime) -> Result<(), Fail> {
-    no_layouts_end(&rt, "migrate")
+fn words_that_ask_for_no_migration_are_usage(rt: HostRuntime) {
+    no_layouts_end(&rt, "migrate");
 }
 
+/// An int's layout as it is migrated, and as it is printed.
+const INT: &str = "{\"layout\":{\"type\":\"int\"},\"types\":[],\"version\":2}\n";
+
 #[test]
-fn a_migrated_file_may_be_as_long_as_the_limit(rt: HostRuntime) -> Result<(), Fail> {
+fn a_migrated_file_may_be_as_long_as_the_limit(rt: HostRuntime) {
     let limit = LAYOUT_FILE_LIMIT as usize;
-    let int = "{\"layout\":{\"type\":\"int\"},\"types\":[],\"version\":2}";
-    let mut line = String::from_str(rt.alloc(), int)?;
-    line.push('\n')?;
-    ends_at_limit(&rt, ("L", int), b' ', limit, "migrate L", &line)
+    let file = ("L", INT.trim_end());
+    ends_at_limit(&rt, file, b' ', limit, "migrate L", INT);
 }

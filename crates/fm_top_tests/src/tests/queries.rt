@@ -1,49 +1,15 @@
-use crate::tests::endings::{ends, line_ends, parts_of, rows_end, run};
-use crate::tests::files::{named, text_file, zeros};
+use crate::tests::compared::same;
+use crate::tests::endings::{ends, line_ends, parts_of, replaced, rows_end, run_past, words_of};
+use crate::tests::files::{listed, padded, with_records, zeros};
 use crate::tests::layouts::SALE;
-use fm_io::{MemFiles, SureFiles, SureSink};
-use fm_top::{LAYOUT_FILE_LIMIT, RECORD_FILE_LIMIT};
+use crate::tests::sales::{files, sales};
+use fm_io::{FreeGate, MemFiles, SureFiles, SureSink};
+use fm_top::{Kept, LAYOUT_FILE_LIMIT, RECORD_FILE_LIMIT};
 use std::alloc::{AllocError, AllocGlobal, Global};
 use std::process::Abort;
 use std::random::RandomSource;
 use std::sync::Wait;
-use std::test::Fail;
 use std::thread::Threads;
-
-/// Two sales: of ids 1 and 2, kinds 2 and 3, and prices 250 and -40, with four tags each.
-pub const SALES: [u8; 48] = [
-    1, 0, 0, 0, 2, 0, 0, 0, 0xfa, 0, 0, 0, 0, 0, 0, 0, 1, 2, 3, 4, 0, 0, 0, 0, 2, 0, 0, 0, 3, 0, 0,
-    0, 0xd8, 0xff, 0xff, 0xff, 0xff, 0xff, 0xff, 0xff, 5, 0, 0, 0xff, 0, 0, 0, 0,
-];
-
-/// The query that others vary.
-const ROW: [&str; 4] = ["query", "L1", "min(.price) where .kind=9", "R1"];
-
-/// The first bytes of the sales.
-fn sales(alloc: Global, count: usize) -> Result<Vec<u8>, AllocError> {
-    SALES[..count.min(SALES.len())].to_vec(alloc)
-}
-
-/// `L1`, of which `R1` has two records, the empty file `E`, and `R1` with a byte more, which is named `Ragged`; and
-/// layouts of which no records are: `Void` has no byte, `Uneven` isn't a multiple of its alignment, and `Broken` is none.
-pub fn files(alloc: Global, failing: &[u64], most: usize) -> Result<MemFiles, AllocError> {
-    let mut longer = sales(alloc, 48)?;
-    longer.push(0)?;
-    let all = vec![in alloc;
-        text_file(alloc, "L1", SALE)?,
-        named(alloc, "R1", sales(alloc, 48)?)?,
-        named(alloc, "E", Vec::new(alloc))?,
-        named(alloc, "Ragged", longer)?,
-        text_file(alloc, "Void", "{\"type\":\"struct\",\"members\":[]}")?,
-        text_file(
-            alloc,
-            "Uneven",
-            "{\"type\":\"struct\",\"members\":[{\"type\":\"long\"},{\"type\":\"int\"}]}"
-        )?,
-        text_file(alloc, "Broken", "{")?,
-    ]?;
-    Ok(MemFiles::new(all, failing.to_vec(alloc)?).with_piece(most.max(1)))
-}
 
 /// The record file, queries over its sales, and how they end. A text that is refused is refused before the file is read.
 pub const QUERIES: &str = "\
@@ -81,31 +47,40 @@ nofile count, -> 5 query refused 50 6|
 nofile count -> 2 missing nofile|
 Ragged count -> 6 ragged 1|";
 
-/// Compares how this command ends for each row of a file and a text with what the row tells, in pieces of every size.
-pub fn texts_end<R>(rt: &R, command: &str, table: &str) -> Result<(), Fail>
+/// Compares how this command ends for a row of a file and a text with what the row tells.
+fn text_ends<R>(rt: &R, files: &mut MemFiles, command: &str, row: &str)
 where
     R: Threads + Wait + Sync + RandomSource + AllocGlobal + Abort,
 {
-    for most in [1, 7, usize::MAX] {
-        let mut files = files(rt.alloc(), &[], most)?;
-        for row in table.lines() {
-            let (line, status, printed) = parts_of(rt.alloc(), row)?;
-            let (file, text) = line.split_once(' ').unwrap_or((line, ""));
-            ends(
-                rt,
-                &mut files,
-                &[command, "L1", text, file],
-                status,
-                &printed,
-            )?;
-        }
+    let (line, status, printed) = parts_of(rt, row);
+    let (file, text) = line.split_once(' ').unwrap_or((line, ""));
+    ends(rt, files, &[command, "L1", text, file], status, &printed);
+}
+
+/// The same for each row, in pieces of this size.
+fn texts_end_in<R>(rt: &R, command: &str, table: &str, most: usize)
+where
+    R: Threads + Wait + Sync + RandomSource + AllocGlobal + Abort,
+{
+    let mut files = files(rt, None, most);
+    for row in table.lines() {
+        text_ends(rt, &mut files, command, row);
     }
-    Ok(())
+}
+
+/// The same in pieces of every size.
+pub fn texts_end<R>(rt: &R, command: &str, table: &str)
+where
+    R: Threads + Wait + Sync + RandomSource + AllocGlobal + Abort,
+{
+    texts_end_in(rt, command, table, 1);
+    texts_end_in(rt, command, table, 7);
+    texts_end_in(rt, command, table, usize::MAX);
 }
 
 #[test]
-fn each_query_is_answered_in_pieces_of_every_size(rt: HostRuntime) -> Result<(), Fail> {
-    texts_end(&rt, "query", QUERIES)
+fn each_query_is_answered_in_pieces_of_every_size(rt: HostRuntime) {
+    texts_end(&rt, "query", QUERIES);
 }
 
 /// Layouts of which no records are, where a star stands for the command. Each is refused before the text, and the record
@@ -121,17 +96,17 @@ const NO_RECORDS: &str = "\
 * Uneven count, nofile -> 4 layout refused 22|";
 
 /// Compares how this command ends over these layouts with what is told.
-pub fn no_records_end<R>(rt: &R, command: &str) -> Result<(), Fail>
+pub fn no_records_end<R>(rt: &R, command: &str)
 where
     R: Threads + Wait + Sync + RandomSource + AllocGlobal + Abort,
 {
-    let table = NO_RECORDS.replace(rt.alloc(), "*", command)?;
-    rows_end(rt, &mut files(rt.alloc(), &[], usize::MAX)?, &table)
+    let table = replaced(rt, NO_RECORDS, "*", command);
+    rows_end(rt, &mut files(rt, None, usize::MAX), &table);
 }
 
 #[test]
-fn a_layout_of_no_records_is_refused(rt: HostRuntime) -> Result<(), Fail> {
-    no_records_end(&rt, "query")
+fn a_layout_of_no_records_is_refused(rt: HostRuntime) {
+    no_records_end(&rt, "query");
 }
 
 /// Words with the option in each place, and how they end.
@@ -188,55 +163,71 @@ query --help L1 count R1 -> 1 usage|
 Query L1 count R1 -> 1 usage|";
 
 #[test]
-fn the_option_stands_anywhere_and_once(rt: HostRuntime) -> Result<(), Fail> {
-    rows_end(&rt, &mut files(rt.alloc(), &[], usize::MAX)?, OPTIONS)
+fn the_option_stands_anywhere_and_once(rt: HostRuntime) {
+    rows_end(&rt, &mut files(&rt, None, usize::MAX), OPTIONS);
 }
 
-#[test]
-fn as_many_threads_as_one_likes_answer_the_same(rt: HostRuntime) -> Result<(), Fail> {
-    let query = "count,sum(.price),list(.tags[]) where .kind>=2";
-    let text = "count 2\nsum(.price) 210\nlist(.tags[]) 1 2 3 4 5 0 0 -1\n";
-    let mut files = files(rt.alloc(), &[], usize::MAX)?;
-    let none = "count 0\nsum(.price) 0\nlist(.tags[])\n";
-    for threads in ["1", "2", "7", "16"] {
-        for (file, text) in [("R1", text), ("E", none)] {
-            let words = ["query", "--threads", threads, "L1", query, file];
-            ends(&rt, &mut files, &words, 0, text)?;
-        }
-    }
-    Ok(())
-}
-
-/// Compares how this command ends for each part of the sales with what it should: they are counted, or ragged.
-pub fn parts_end<R>(rt: &R, command: &str) -> Result<(), Fail>
+/// Compares how a query of this record file ends by crews of several sizes.
+fn crews_answer<R>(rt: &R, file: &str, text: &str)
 where
     R: Threads + Wait + Sync + RandomSource + AllocGlobal + Abort,
 {
-    let alloc = rt.alloc();
-    for n in 0..SALES.len() {
-        let layout = text_file(alloc, "L1", SALE)?;
-        let records = named(alloc, "R", sales(alloc, n)?)?;
-        let mut files = SureFiles::new(vec![in alloc; layout, records]?);
-        let (count, rest) = (n / 24, n % 24);
-        let (status, text) = if rest == 0 {
-            (0, format!(in alloc; "count {count}\n")?)
-        } else {
-            (6, format!(in alloc; "ragged {rest}\n")?)
-        };
-        ends(
-            rt,
-            &mut files,
-            &[command, "L1", "count", "R"],
-            status,
-            &text,
-        )?;
+    let mut files = files(rt, None, usize::MAX);
+    let query = "count,sum(.price),list(.tags[]) where .kind>=2";
+    for threads in ["1", "2", "7", "16"] {
+        let words = ["query", "--threads", threads, "L1", query, file];
+        ends(rt, &mut files, &words, 0, text);
     }
-    Ok(())
 }
 
 #[test]
-fn a_part_of_the_records_is_counted_or_ragged(rt: HostRuntime) -> Result<(), Fail> {
-    parts_end(&rt, "query")
+fn as_many_threads_as_one_likes_answer_the_same(rt: HostRuntime) {
+    let text = "count 2\nsum(.price) 210\nlist(.tags[]) 1 2 3 4 5 0 0 -1\n";
+    crews_answer(&rt, "R1", text);
+    crews_answer(&rt, "E", "count 0\nsum(.price) 0\nlist(.tags[])\n");
+}
+
+/// How a count of so many bytes of the sales ends: with the number of records, or of bytes behind them.
+fn counted(alloc: Global, count: usize) -> Result<(u8, String), AllocError> {
+    if count % 24 == 0 {
+        Ok((0, format!(in alloc; "count {}\n", count / 24)?))
+    } else {
+        Ok((6, format!(in alloc; "ragged {}\n", count % 24)?))
+    }
+}
+
+/// Compares how this command ends for so many bytes of the sales with what it should.
+fn part_ends<R>(rt: &R, command: &str, count: usize)
+where
+    R: Threads + Wait + Sync + RandomSource + AllocGlobal + Abort,
+{
+    let sales = sales();
+    let records = &sales[..count.min(sales.len())];
+    let all = [("L1", SALE.as_bytes()), ("R", records)];
+    let mut files = SureFiles::new(listed(rt.alloc(), &all).expect(rt, "memory"));
+    let (status, text) = counted(rt.alloc(), count).expect(rt, "memory");
+    ends(
+        rt,
+        &mut files,
+        &[command, "L1", "count", "R"],
+        status,
+        &text,
+    );
+}
+
+/// The same for each part of them.
+pub fn parts_end<R>(rt: &R, command: &str)
+where
+    R: Threads + Wait + Sync + RandomSource + AllocGlobal + Abort,
+{
+    for count in 0..48 {
+        part_ends(rt, command, count);
+    }
+}
+
+#[test]
+fn a_part_of_the_records_is_counted_or_ragged(rt: HostRuntime) {
+    parts_end(&rt, "query");
 }
 
 /// How runs end after so many reads. Each file that is there takes one read for its bytes and one for its end.
@@ -249,67 +240,82 @@ query L1 count nofile -> 2 missing nofile| after 3
 query L1 count Ragged -> 6 ragged 1| after 4
 query L1 count R1 -> 0 count 2| after 4";
 
-/// Compares how runs end after so many reads with what their rows tell: the last of them is needed, and none past it.
-pub fn reads_end<R>(rt: &R, table: &str) -> Result<(), Fail>
+/// Compares how a run ends after so many reads with what its row tells: the last of them is needed, and none past it.
+fn row_reads<R>(rt: &R, row: &str)
 where
     R: Threads + Wait + Sync + RandomSource + AllocGlobal + Abort,
 {
-    let alloc = rt.alloc();
+    let (row, reads) = row.rsplit_once(" after ").unwrap_or((row, ""));
+    let reads: u64 = reads.parse().unwrap_or(0);
+    let (line, status, text) = parts_of(rt, row);
+    // The last read that is needed fails, or else each one past it.
+    let needed = reads.saturating_sub(1);
+    line_ends(rt, &mut files(rt, Some(needed), usize::MAX), line, 3, "");
+    line_ends(
+        rt,
+        &mut files(rt, Some(reads), usize::MAX),
+        line,
+        status,
+        &text,
+    );
+}
+
+/// The same for each row.
+pub fn reads_end<R>(rt: &R, table: &str)
+where
+    R: Threads + Wait + Sync + RandomSource + AllocGlobal + Abort,
+{
     for row in table.lines() {
-        let (row, reads) = row.rsplit_once(" after ").unwrap_or((row, ""));
-        let reads: u64 = reads.parse().unwrap_or(0);
-        let (line, status, text) = parts_of(alloc, row)?;
-        // The last read that is needed fails, or else each one past it.
-        let mut needed = files(alloc, &[reads.saturating_sub(1)], usize::MAX)?;
-        line_ends(rt, &mut needed, line, 3, "")?;
-        let mut past = files(alloc, &[reads], usize::MAX)?;
-        line_ends(rt, &mut past, line, status, &text)?;
+        row_reads(rt, row);
     }
-    Ok(())
 }
 
 #[test]
-fn nothing_is_read_past_what_is_needed(rt: HostRuntime) -> Result<(), Fail> {
-    reads_end(&rt, READS)
+fn nothing_is_read_past_what_is_needed(rt: HostRuntime) {
+    reads_end(&rt, READS);
+}
+
+/// The status of a run whose words semicolons part.
+fn status_of<R>(rt: &R, files: &mut MemFiles, out: &mut SureSink, line: &str) -> u8
+where
+    R: Threads + Wait + Sync + RandomSource + AllocGlobal + Abort,
+{
+    let words = words_of(rt, line, ';');
+    run_past(rt, &words, files, out, &FreeGate, &mut Kept::new())
 }
 
 #[test]
-fn one_run_follows_another(rt: HostRuntime) -> Result<(), Fail> {
-    let mut files = files(rt.alloc(), &[0], usize::MAX)?;
+fn one_run_follows_another(rt: HostRuntime) {
+    let row = "query;L1;min(.price) where .kind=9;R1";
+    let mut files = files(&rt, Some(0), usize::MAX);
     let mut out = SureSink::new(rt.alloc());
-    for (words, status) in [
-        (ROW, 3),
-        (ROW, 0),
-        (["query", "L1", "count", "nofile"], 2),
-        (ROW, 0),
-    ] {
-        assert_eq!(rt; run(&rt, &words, &mut files, &mut out)?, status);
-    }
+    same(&rt, status_of(&rt, &mut files, &mut out, row), 3);
+    same(&rt, status_of(&rt, &mut files, &mut out, row), 0);
+    let nofile = "query;L1;count;nofile";
+    same(&rt, status_of(&rt, &mut files, &mut out, nofile), 2);
+    same(&rt, status_of(&rt, &mut files, &mut out, row), 0);
     let text = "min(.price) none\nmissing nofile\nmin(.price) none\n";
-    assert_eq!(rt; out.written(), text.as_bytes());
-    Ok(())
+    same(&rt, out.written(), text.as_bytes());
+}
+
+/// Compares how a query ends whose layout file and record file have so many bytes.
+fn sizes_end<R>(rt: &R, sizes: (usize, usize), status: u8, text: &str)
+where
+    R: Threads + Wait + Sync + RandomSource + AllocGlobal + Abort,
+{
+    let (blanks, count) = sizes;
+    let layout = padded(rt, "{\"type\":\"byte\"}", b' ', blanks);
+    let mut files = SureFiles::new(with_records(rt, &layout, zeros(rt, count)));
+    let words = ["query", "--threads=8", "L", "count", "R"];
+    ends(rt, &mut files, &words, status, text);
 }
 
 #[test]
-fn each_file_has_a_limit_of_its_own(rt: HostRuntime) -> Result<(), Fail> {
-    let alloc = rt.alloc();
-    let layout_limit = LAYOUT_FILE_LIMIT as usize;
-    let record_limit = RECORD_FILE_LIMIT as usize;
-    for (blanks, count, status, text) in [
-        // A file of records may be longer than a layout's.
-        (layout_limit, layout_limit + 1, 0, "count 1048577\n"),
-        (layout_limit + 1, 0, 7, "too long\n"),
-        (0, record_limit + 1, 7, "too long\n"),
-    ] {
-        let mut layout = "{\"type\":\"byte\"}".as_bytes().to_vec(alloc)?;
-        for _ in layout.len()..blanks {
-            layout.push(b' ')?;
-        }
-        let layout = named(alloc, "L", layout)?;
-        let records = named(alloc, "R", zeros(alloc, count)?)?;
-        let mut files = SureFiles::new(vec![in alloc; layout, records]?);
-        let words = ["query", "--threads=8", "L", "count", "R"];
-        ends(&rt, &mut files, &words, status, text)?;
-    }
-    Ok(())
+fn each_file_has_a_limit_of_its_own(rt: HostRuntime) {
+    let layout = LAYOUT_FILE_LIMIT as usize;
+    let records = RECORD_FILE_LIMIT as usize;
+    // A file of records may be longer than a layout's.
+    sizes_end(&rt, (layout, layout + 1), 0, "count 1048577\n");
+    sizes_end(&rt, (layout + 1, 0), 7, "too long\n");
+    sizes_end(&rt, (0, records + 1), 7, "too long\n");
 }

@@ -1,10 +1,15 @@
-use crate::tests::endings::{parts_of, rows_end, run};
+use crate::tests::compared::same;
+use crate::tests::endings::{parts_of, rows_end, run_line};
 use crate::tests::keeping::run_at;
 use crate::tests::texts::{contents_end, ends_at_limit, one_text, text_ends};
-use fm_io::MemSink;
+use fm_io::{MemFiles, MemSink};
 use fm_script_report::print_report;
 use fm_top::{Kept, SCRIPT_FILE_LIMIT};
-use std::test::Fail;
+use std::alloc::AllocGlobal;
+use std::process::Abort;
+use std::random::RandomSource;
+use std::sync::Wait;
+use std::thread::Threads;
 
 /// A slot is used twice, and its bytes are zero again.
 const TWICE: &str =
@@ -28,29 +33,30 @@ pool 1 1 8 1000 1|first open a| -> 10 script refused 2|
 pool 1 1 8 1000 1|first open a shared|first hold a h|first hold a k|first unhold k| -> 10 script refused 3|";
 
 #[test]
-fn each_script_is_run_or_refused(rt: HostRuntime) -> Result<(), Fail> {
-    text_ends(&rt, ("S", TWICE), ("run S", 0, TWICE_REPORT))?;
-    contents_end(&rt, "S", "run S", SCRIPTS, ("|", "\n"))
+fn each_script_is_run_or_refused(rt: HostRuntime) {
+    text_ends(&rt, ("S", TWICE), ("run S", 0, TWICE_REPORT));
+    contents_end(&rt, "S", "run S", SCRIPTS, ("|", "\n"));
+}
+
+/// Runs the first bytes of the script, where a line ends with them.
+fn part_is_run<R>(rt: &R, count: usize)
+where
+    R: Threads + Wait + Sync + RandomSource + AllocGlobal + Abort,
+{
+    let part = std::str::from_utf8(&TWICE.as_bytes()[..count.min(TWICE.len())]).unwrap_or("");
+    if part.ends_with('\n') {
+        let mut files = one_text(rt, "S", part, usize::MAX);
+        let mut out = MemSink::new(rt.alloc(), Vec::new(rt.alloc()));
+        let code = run_line(rt, "run S", &mut files, &mut out, &mut Kept::new());
+        same(rt, (code, part), (0, part));
+    }
 }
 
 #[test]
-fn each_part_of_whole_lines_is_run(rt: HostRuntime) -> Result<(), Fail> {
-    let alloc = rt.alloc();
-    let words = ["run", "S"];
-    for (k, c) in TWICE.as_bytes().iter().enumerate() {
-        if *c == b'\n' {
-            let part = std::str::from_utf8(&TWICE.as_bytes()[..=k]).unwrap_or("");
-            let mut files = one_text(alloc, "S", part, usize::MAX)?;
-            let code = run(
-                &rt,
-                &words,
-                &mut files,
-                &mut MemSink::new(alloc, Vec::new(alloc)),
-            )?;
-            assert_eq!(rt; code, 0, "{part}");
-        }
+fn each_part_of_whole_lines_is_run(rt: HostRuntime) {
+    for count in 0..=TWICE.len() {
+        part_is_run(&rt, count);
     }
-    Ok(())
 }
 
 /// Words that run no script, and how they end.
@@ -64,8 +70,8 @@ run nofile -> 2 missing nofile|
 run  -> 2 missing |";
 
 #[test]
-fn words_that_run_no_script_are_usage(rt: HostRuntime) -> Result<(), Fail> {
-    rows_end(&rt, &mut one_text(rt.alloc(), "S", TWICE, 1)?, NO_RUNS)
+fn words_that_run_no_script_are_usage(rt: HostRuntime) {
+    rows_end(&rt, &mut one_text(&rt, "S", TWICE, 1), NO_RUNS);
 }
 
 /// Runs one after another, whose write of this number fails if one does: their statuses, and whether a report is kept.
@@ -77,39 +83,53 @@ demo 3 -> 0 none
 run S -> 8 kept at 0
 run nofile -> 2 none";
 
+/// Runs the line of a row, and compares its status and what is kept with what the row tells.
+fn keeps<R>(rt: &R, files: &mut MemFiles, row: &str, kept: &mut Kept)
+where
+    R: Threads + Wait + Sync + RandomSource + AllocGlobal + Abort,
+{
+    let (row, failing) = row.rsplit_once(" at ").unwrap_or((row, ""));
+    let failing: u64 = failing.parse().unwrap_or(u64::MAX);
+    let (line, status, keeps) = parts_of(rt, row);
+    let code = run_at(rt, files, line, failing, kept);
+    let is_kept = keeps.as_str() == "kept";
+    same(
+        rt,
+        ((code, kept.report().is_some()), line),
+        ((status, is_kept), line),
+    );
+    same(
+        rt,
+        (is_kept && kept.finished().is_some(), line),
+        (false, line),
+    );
+}
+
 #[test]
-fn a_report_is_kept_with_each_run_of_a_script(rt: HostRuntime) -> Result<(), Fail> {
-    let mut files = one_text(rt.alloc(), "S", TWICE, usize::MAX)?;
+fn a_report_is_kept_with_each_run_of_a_script(rt: HostRuntime) {
+    let mut files = one_text(&rt, "S", TWICE, usize::MAX);
     let mut kept = Kept::new();
     for row in KEEPING.lines() {
-        let (row, failing) = row.rsplit_once(" at ").unwrap_or((row, ""));
-        let (line, status, keeps) = parts_of(rt.alloc(), row)?;
-        let failing: u64 = failing.parse().unwrap_or(u64::MAX);
-        let code = run_at(&rt, &mut files, line, failing, &mut kept)?;
-        let is_kept = keeps.as_str() == "kept";
-        assert_eq!(rt; code, status, "{line}");
-        assert_eq!(rt; kept.report().is_some(), is_kept, "{line}");
-        assert!(rt; !is_kept || kept.finished().is_none(), "{line}");
+        keeps(&rt, &mut files, row, &mut kept);
     }
-    Ok(())
 }
 
 #[test]
-fn what_is_kept_is_what_was_printed(rt: HostRuntime) -> Result<(), Fail> {
-    let mut files = one_text(rt.alloc(), "S", TWICE, usize::MAX)?;
+fn what_is_kept_is_what_was_printed(rt: HostRuntime) {
+    let mut files = one_text(&rt, "S", TWICE, usize::MAX);
     let mut kept = Kept::new();
-    run_at(&rt, &mut files, "run S", u64::MAX, &mut kept)?;
-    let Some(report) = kept.report() else {
-        assert!(rt; false, "no report");
-        return Ok(());
-    };
+    same(
+        &rt,
+        run_at(&rt, &mut files, "run S", u64::MAX, &mut kept),
+        0,
+    );
+    let report = kept.report().expect(&rt, "a report");
     let text = print_report(rt.alloc(), report).expect(&rt, "a text");
-    assert_eq!(rt; text.as_str(), TWICE_REPORT);
-    Ok(())
+    same(&rt, text.as_str(), TWICE_REPORT);
 }
 
 #[test]
-fn a_script_file_may_be_as_long_as_the_limit(rt: HostRuntime) -> Result<(), Fail> {
+fn a_script_file_may_be_as_long_as_the_limit(rt: HostRuntime) {
     let limit = SCRIPT_FILE_LIMIT as usize;
-    ends_at_limit(&rt, ("S", TWICE), b'#', limit, "run S", TWICE_REPORT)
+    ends_at_limit(&rt, ("S", TWICE), b'#', limit, "run S", TWICE_REPORT);
 }

@@ -1,27 +1,32 @@
-use crate::tests::endings::{ends, line_ends, parts_of, rows_end};
-use crate::tests::files::{named, repeating, text_file, zeros};
-use crate::tests::gates::passes;
-use crate::tests::queries::{QUERIES, files, no_records_end, parts_end, reads_end, texts_end};
-use fm_io::{SureFiles, SureSink};
+use crate::tests::compared::same;
+use crate::tests::endings::{ends, line_ends, parts_of, passes, rows_end};
+use crate::tests::files::{repeating, with_records, zeros};
+use crate::tests::gates::row_passes;
+use crate::tests::queries::{QUERIES, no_records_end, parts_end, reads_end, texts_end};
+use crate::tests::sales::files;
+use fm_io::SureFiles;
 use fm_io_gates::{Meeting, Order};
-use fm_top::{Kept, RECORD_FILE_LIMIT, run_tool};
+use fm_top::RECORD_FILE_LIMIT;
 use fm_top_demo::made_records;
-use std::alloc::{AllocError, Global};
-use std::test::Fail;
+use std::alloc::AllocGlobal;
+use std::process::Abort;
+use std::random::RandomSource;
+use std::sync::Wait;
+use std::thread::Threads;
 
 #[test]
-fn each_query_of_a_stream_is_answered_in_pieces_of_every_size(rt: HostRuntime) -> Result<(), Fail> {
-    texts_end(&rt, "stream", QUERIES)
+fn each_query_of_a_stream_is_answered_in_pieces_of_every_size(rt: HostRuntime) {
+    texts_end(&rt, "stream", QUERIES);
 }
 
 #[test]
-fn a_part_of_a_stream_is_counted_or_ragged(rt: HostRuntime) -> Result<(), Fail> {
-    parts_end(&rt, "stream")
+fn a_part_of_a_stream_is_counted_or_ragged(rt: HostRuntime) {
+    parts_end(&rt, "stream");
 }
 
 #[test]
-fn a_stream_over_a_layout_of_no_records_is_refused(rt: HostRuntime) -> Result<(), Fail> {
-    no_records_end(&rt, "stream")
+fn a_stream_over_a_layout_of_no_records_is_refused(rt: HostRuntime) {
+    no_records_end(&rt, "stream");
 }
 
 /// Words of streams, and how they end: with as many threads as one likes, and with none.
@@ -47,8 +52,8 @@ streams L1 count R1 -> 1 usage|
 Stream L1 count R1 -> 1 usage|";
 
 #[test]
-fn words_of_streams_have_one_form(rt: HostRuntime) -> Result<(), Fail> {
-    rows_end(&rt, &mut files(rt.alloc(), &[], usize::MAX)?, STREAMS)
+fn words_of_streams_have_one_form(rt: HostRuntime) {
+    rows_end(&rt, &mut files(&rt, None, usize::MAX), STREAMS);
 }
 
 /// How runs end after so many reads. Each file that is there takes one read for its bytes and one for its end.
@@ -62,17 +67,18 @@ stream L1 count Ragged -> 6 ragged 1| after 4
 stream L1 count R1 -> 0 count 2| after 4";
 
 #[test]
-fn a_stream_reads_nothing_past_what_is_needed(rt: HostRuntime) -> Result<(), Fail> {
-    reads_end(&rt, READS)
+fn a_stream_reads_nothing_past_what_is_needed(rt: HostRuntime) {
+    reads_end(&rt, READS);
 }
 
-/// A layout of so many bytes, of which the first is `a`.
-fn layout_of(alloc: Global, size: usize) -> Result<(String, Vec<u8>), AllocError> {
+/// A layout of so many bytes, of which the first is `a`, and a record file of so many.
+fn records_of<R: AllocGlobal + Abort>(rt: &R, size: usize, count: usize) -> SureFiles {
     let padding = size.saturating_sub(1);
-    let text = format!(in alloc;
+    let layout = format!(in rt.alloc();
         "{{\"type\":\"struct\",\"members\":[{{\"type\":\"byte\",\"name\":\"a\"}},{{\"type\":\"padding\",\"size\":{padding}}}]}}"
-    )?;
-    text_file(alloc, "L", &text)
+    );
+    let layout = layout.expect(rt, "memory");
+    SureFiles::new(with_records(rt, layout.as_bytes(), repeating(rt, count)))
 }
 
 /// How many bytes a record and the file have, and what a stream of it ends with. A chunk has as many records as fit in
@@ -90,44 +96,44 @@ const SIZES: &str = "\
 700000 3500000 -> 0 count 5|sum(.a) -154|min(.a) -122|max(.a) 95|
 700000 3499999 -> 6 ragged 699999|";
 
-#[test]
-fn records_of_any_size_fill_chunks(rt: HostRuntime) -> Result<(), Fail> {
-    let alloc = rt.alloc();
-    let query = "count,sum(.a),min(.a),max(.a)";
-    for row in SIZES.lines() {
-        let (line, status, text) = parts_of(alloc, row)?;
-        let (size, count) = line.split_once(' ').unwrap_or((line, ""));
-        let layout = layout_of(alloc, size.parse().unwrap_or(0))?;
-        let records = named(alloc, "R", repeating(alloc, count.parse().unwrap_or(0))?)?;
-        let mut files = SureFiles::new(vec![in alloc; layout, records]?);
-        ends(&rt, &mut files, &["stream", "L", query, "R"], status, &text)?;
-    }
-    Ok(())
+/// Compares how a stream of a row's sizes ends with what the row tells.
+fn size_ends<R>(rt: &R, row: &str)
+where
+    R: Threads + Wait + Sync + RandomSource + AllocGlobal + Abort,
+{
+    let (line, status, text) = parts_of(rt, row);
+    let (size, count) = line.split_once(' ').unwrap_or((line, ""));
+    let mut files = records_of(rt, size.parse().unwrap_or(0), count.parse().unwrap_or(0));
+    let words = ["stream", "L", "count,sum(.a),min(.a),max(.a)", "R"];
+    ends(rt, &mut files, &words, status, &text);
 }
 
 #[test]
-fn a_list_goes_across_chunks_in_the_order_of_the_file(rt: HostRuntime) -> Result<(), Fail> {
-    let alloc = rt.alloc();
-    let layout = layout_of(alloc, 700_000)?;
-    let records = named(alloc, "R", repeating(alloc, 3_500_000)?)?;
-    let mut files = SureFiles::new(vec![in alloc; layout, records]?);
-    let text = "list(.a) 0 -44 -83 -122 95\n";
-    for threads in ["1", "3"] {
-        let words = ["stream", "--threads", threads, "L", "list(.a)", "R"];
-        ends(&rt, &mut files, &words, 0, text)?;
+fn records_of_any_size_fill_chunks(rt: HostRuntime) {
+    for row in SIZES.lines() {
+        size_ends(&rt, row);
     }
+}
+
+#[test]
+fn a_list_goes_across_chunks_in_the_order_of_the_file(rt: HostRuntime) {
+    let mut files = records_of(&rt, 700_000, 3_500_000);
+    let text = "list(.a) 0 -44 -83 -122 95\n";
+    line_ends(&rt, &mut files, "stream --threads 1 L list(.a) R", 0, text);
+    line_ends(&rt, &mut files, "stream --threads 3 L list(.a) R", 0, text);
     // Each chunk has a crew of its own, whose calls are counted from 0.
     let row =
         "stream L list(.a) R -> 0 list(.a) 0 -44 -83 -122 95| by 1: +0 -0 +0 -0 +0 -0 +0 -0 +0 -0|";
-    passes(&rt, &mut files, row)
+    row_passes(&rt, &mut files, row);
 }
 
-/// A layout of so many bytes in one sequence.
-fn sequence_of(alloc: Global, count: usize) -> Result<(String, Vec<u8>), AllocError> {
-    let text = format!(in alloc;
-        "{{\"type\":\"sequence\",\"count\":{count},\"element\":{{\"type\":\"byte\"}}}}"
-    )?;
-    text_file(alloc, "L", &text)
+/// A layout of so many bytes in one sequence, and a record file of so many.
+fn sequences_of<R: AllocGlobal + Abort>(rt: &R, size: usize, count: usize) -> SureFiles {
+    let layout = format!(in rt.alloc();
+        "{{\"type\":\"sequence\",\"count\":{size},\"element\":{{\"type\":\"byte\"}}}}"
+    );
+    let layout = layout.expect(rt, "memory");
+    SureFiles::new(with_records(rt, layout.as_bytes(), zeros(rt, count)))
 }
 
 /// How many bytes a record and the file have, and how runs over them end. A record of more bytes than a chunk is refused
@@ -143,31 +149,34 @@ const WIDE: &str = "\
 1048577 1048577: query L count R -> 0 count 1|
 1048577 0: query L count, R -> 5 query refused 50 6|";
 
-#[test]
-fn a_record_has_room_in_a_chunk_or_is_refused(rt: HostRuntime) -> Result<(), Fail> {
-    let alloc = rt.alloc();
-    for row in WIDE.lines() {
-        let (run, status, text) = parts_of(alloc, row)?;
-        let (sizes, line) = run.split_once(": ").unwrap_or((run, ""));
-        let (size, count) = sizes.split_once(' ').unwrap_or((sizes, ""));
-        let layout = sequence_of(alloc, size.parse().unwrap_or(0))?;
-        let records = named(alloc, "R", zeros(alloc, count.parse().unwrap_or(0))?)?;
-        let mut files = SureFiles::new(vec![in alloc; layout, records]?);
-        line_ends(&rt, &mut files, line, status, &text)?;
-    }
-    Ok(())
+/// Compares how the run of a row over its sizes ends with what the row tells.
+fn wide_ends<R>(rt: &R, row: &str)
+where
+    R: Threads + Wait + Sync + RandomSource + AllocGlobal + Abort,
+{
+    let (run, status, text) = parts_of(rt, row);
+    let (sizes, line) = run.split_once(": ").unwrap_or((run, ""));
+    let (size, count) = sizes.split_once(' ').unwrap_or((sizes, ""));
+    let mut files = sequences_of(rt, size.parse().unwrap_or(0), count.parse().unwrap_or(0));
+    line_ends(rt, &mut files, line, status, &text);
 }
 
-/// Eight chunks of records that are made, behind their layout.
-fn made(alloc: Global) -> Result<SureFiles, AllocError> {
-    let layout =
-        "{\"type\":\"struct\",\"members\":[{\"type\":\"int\",\"name\":\"id\"},{\"type\":\"short\",\"name\":\"kind\"},\
-        {\"type\":\"padding\",\"size\":2},{\"type\":\"long\",\"name\":\"amount\"}]}";
-    let all = vec![in alloc;
-        text_file(alloc, "L", layout)?,
-        named(alloc, "R", made_records(alloc, 500_000)?)?,
-    ]?;
-    Ok(SureFiles::new(all))
+#[test]
+fn a_record_has_room_in_a_chunk_or_is_refused(rt: HostRuntime) {
+    for row in WIDE.lines() {
+        wide_ends(&rt, row);
+    }
+}
+
+/// The layout of records that are made.
+const MADE: &str =
+    "{\"type\":\"struct\",\"members\":[{\"type\":\"int\",\"name\":\"id\"},{\"type\":\"short\",\"name\":\"kind\"},\
+    {\"type\":\"padding\",\"size\":2},{\"type\":\"long\",\"name\":\"amount\"}]}";
+
+/// Eight chunks of them.
+fn made<R: AllocGlobal + Abort>(rt: &R) -> SureFiles {
+    let records = made_records(rt.alloc(), 500_000).expect(rt, "memory");
+    SureFiles::new(with_records(rt, MADE.as_bytes(), records))
 }
 
 /// What is asked of them.
@@ -178,50 +187,26 @@ const ANSWERED: &str =
     "count 500000\nsum(.amount) 400241\nmin(.amount) -50000\nmax(.amount) 50002\n";
 
 #[test]
-fn eight_chunks_are_answered_by_any_crew(rt: HostRuntime) -> Result<(), Fail> {
-    let mut files = made(rt.alloc())?;
+fn eight_chunks_are_answered_by_any_crew(rt: HostRuntime) {
+    let mut files = made(&rt);
     for threads in ["1", "2", "8", "16"] {
         let words = ["stream", "--threads", threads, "L", AMOUNTS, "R"];
-        ends(&rt, &mut files, &words, 0, ANSWERED)?;
+        ends(&rt, &mut files, &words, 0, ANSWERED);
     }
-    Ok(())
 }
 
 #[test]
-fn two_workers_of_a_stream_are_at_work_at_once(rt: HostRuntime) -> Result<(), Fail> {
-    let alloc = rt.alloc();
-    let mut words = Vec::new(alloc);
-    for word in ["stream", "--threads", "2", "L", AMOUNTS, "R"] {
-        words.push(String::from_str(alloc, word)?)?;
-    }
-    let mut files = made(alloc)?;
+fn two_workers_of_a_stream_are_at_work_at_once(rt: HostRuntime) {
+    let words = ["stream", "--threads", "2", "L", AMOUNTS, "R"];
     let gate = Meeting::of(Order::Together);
-    let mut out = SureSink::new(alloc);
-    let code = run_tool(
-        &rt,
-        alloc,
-        &words,
-        &mut files,
-        &mut out,
-        &gate,
-        &mut Kept::new(),
-    );
-    assert_eq!(rt; code, 0);
-    assert_eq!(rt; out.written(), ANSWERED.as_bytes());
-    assert!(rt; gate.both_began_and_ended() && !gate.is_missed());
-    Ok(())
+    passes(&rt, &mut made(&rt), &words, &gate, (0, ANSWERED));
+    same(&rt, gate.both_began_and_ended(), true);
+    same(&rt, gate.is_missed(), false);
 }
 
 // `queries.rt` has the query of such a file, which is too long.
 #[test]
-fn a_stream_is_longer_than_what_a_query_takes(rt: HostRuntime) -> Result<(), Fail> {
-    let alloc = rt.alloc();
-    let layout = sequence_of(alloc, 65_536)?;
-    let records = named(
-        alloc,
-        "R",
-        zeros(alloc, RECORD_FILE_LIMIT as usize + 65_536)?,
-    )?;
-    let mut files = SureFiles::new(vec![in alloc; layout, records]?);
-    line_ends(&rt, &mut files, "stream L count R", 0, "count 1025\n")
+fn a_stream_is_longer_than_what_a_query_takes(rt: HostRuntime) {
+    let mut files = sequences_of(&rt, 65_536, RECORD_FILE_LIMIT as usize + 65_536);
+    line_ends(&rt, &mut files, "stream L count R", 0, "count 1025\n");
 }

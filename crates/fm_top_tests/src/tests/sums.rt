@@ -1,32 +1,36 @@
-use crate::tests::endings::{line_ends, rows_end};
-use crate::tests::files::{named, zeros};
-use fm_io::{MemFiles, SureFiles};
-use std::alloc::{AllocError, Global};
-use std::test::Fail;
+use crate::tests::endings::{are_usage, line_ends, rows_end};
+use crate::tests::files::{listed, one_file, zeros};
+use fm_io::MemFiles;
+use std::alloc::AllocGlobal;
+use std::process::Abort;
+use std::random::RandomSource;
+use std::sync::Wait;
+use std::thread::Threads;
 
-/// Two records of 16 bytes, whose longs at byte 8 are -3 and 5.
-pub const TWO_LONGS: [u8; 32] = [
+/// Two records of 16 bytes, whose longs at byte 8 are -3 and 5; and a byte more.
+const RAGGED: [u8; 33] = [
     0, 0, 0, 0, 0, 0, 0, 0, 0xfd, 0xff, 0xff, 0xff, 0xff, 0xff, 0xff, 0xff, 0, 0, 0, 0, 0, 0, 0, 0,
-    5, 0, 0, 0, 0, 0, 0, 0,
+    5, 0, 0, 0, 0, 0, 0, 0, 0,
 ];
+
+/// The two records.
+pub fn two_longs() -> &'static [u8] {
+    &RAGGED[..32]
+}
 
 /// The most bytes of a record file.
 const LIMIT: usize = 67_108_864;
 
-/// The two records as `F1`, the empty file `E`, and the records with a byte more, which are named `Ragged`.
-fn small_files(alloc: Global) -> Result<Vec<(String, Vec<u8>)>, AllocError> {
-    let mut longer = TWO_LONGS.to_vec(alloc)?;
-    longer.push(0)?;
-    Ok(vec![in alloc;
-        named(alloc, "F1", TWO_LONGS.to_vec(alloc)?)?,
-        named(alloc, "E", Vec::new(alloc))?,
-        named(alloc, "Ragged", longer)?,
-    ]?)
-}
-
-/// The small files, where the reads of these numbers fail and each gives at most so many bytes.
-fn files(alloc: Global, failing: &[u64], most: usize) -> Result<MemFiles, AllocError> {
-    Ok(MemFiles::new(small_files(alloc)?, failing.to_vec(alloc)?).with_piece(most.max(1)))
+/// The two records as `F1`, the empty file `E`, and the records with a byte more, which are named `Ragged`, where these
+/// reads fail and each gives at most so many bytes.
+fn files<R: AllocGlobal + Abort>(rt: &R, failing: Vec<u64>, most: usize) -> MemFiles {
+    let all = [
+        ("F1", two_longs()),
+        ("E", b"".as_slice()),
+        ("Ragged", RAGGED.as_slice()),
+    ];
+    let all = listed(rt.alloc(), &all).expect(rt, "memory");
+    MemFiles::new(all, failing).with_piece(most.max(1))
 }
 
 /// Lines, and how they end.
@@ -51,11 +55,10 @@ sum 16 8 long Ragged -> 6 ragged 1|
 sum 24 8 long F1 -> 6 ragged 8|";
 
 #[test]
-fn each_row_is_answered_in_pieces_of_every_size(rt: HostRuntime) -> Result<(), Fail> {
+fn each_row_is_answered_in_pieces_of_every_size(rt: HostRuntime) {
     for most in [1, 7, usize::MAX] {
-        rows_end(&rt, &mut files(rt.alloc(), &[], most)?, SUMS)?;
+        rows_end(&rt, &mut files(&rt, Vec::new(rt.alloc()), most), SUMS);
     }
-    Ok(())
 }
 
 /// Lines of no form, one of which is empty.
@@ -94,26 +97,24 @@ sum 16 18446744073709551608 long F1
 sum 16 18446744073709551624 long F1";
 
 #[test]
-fn words_of_no_form_read_no_file(rt: HostRuntime) -> Result<(), Fail> {
-    let mut files = files(rt.alloc(), &[0], 1)?;
-    for line in NO_FORM.lines() {
-        line_ends(&rt, &mut files, line, 1, "usage\n")?;
-    }
-    Ok(())
+fn words_of_no_form_read_no_file(rt: HostRuntime) {
+    let first = vec![in rt.alloc(); 0].expect(&rt, "memory");
+    are_usage(&rt, &mut files(&rt, first, 1), NO_FORM);
+}
+
+/// Compares how a sum ends over a file of so many bytes more than the limit.
+fn long_ends<R>(rt: &R, line: &str, over: usize, status: u8, text: &str)
+where
+    R: Threads + Wait + Sync + RandomSource + AllocGlobal + Abort,
+{
+    let zeros = zeros(rt, LIMIT.saturating_add(over));
+    line_ends(rt, &mut one_file(rt, "Z", zeros), line, status, text);
 }
 
 #[test]
-fn a_file_may_be_as_long_as_the_limit(rt: HostRuntime) -> Result<(), Fail> {
-    for (line, over, status, text) in [
-        ("sum 8 0 long Z", 0, 0, "sum 0\n"),
-        ("sum 8 0 long Z", 1, 7, "too long\n"),
-        ("sum 8 0 long Z", 8, 7, "too long\n"),
-        ("sum 1 0 byte Z", 1, 7, "too long\n"),
-    ] {
-        let alloc = rt.alloc();
-        let file = named(alloc, "Z", zeros(alloc, LIMIT + over)?)?;
-        let mut files = SureFiles::new(vec![in alloc; file]?);
-        line_ends(&rt, &mut files, line, status, text)?;
-    }
-    Ok(())
+fn a_file_may_be_as_long_as_the_limit(rt: HostRuntime) {
+    long_ends(&rt, "sum 8 0 long Z", 0, 0, "sum 0\n");
+    long_ends(&rt, "sum 8 0 long Z", 1, 7, "too long\n");
+    long_ends(&rt, "sum 8 0 long Z", 8, 7, "too long\n");
+    long_ends(&rt, "sum 1 0 byte Z", 1, 7, "too long\n");
 }

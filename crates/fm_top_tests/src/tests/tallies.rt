@@ -1,8 +1,13 @@
 use crate::tests::endings::{ends, rows_end};
-use crate::tests::files::{named, text_file};
-use crate::tests::queries::{files, texts_end};
+use crate::tests::files::listed;
+use crate::tests::queries::texts_end;
+use crate::tests::sales::files;
 use fm_io::SureFiles;
-use std::test::Fail;
+use std::alloc::AllocGlobal;
+use std::process::Abort;
+use std::random::RandomSource;
+use std::sync::Wait;
+use std::thread::Threads;
 
 /// What it prints.
 const TAGS: &str = "-1 1\n0 2\n1 1\n2 1\n3 1\n4 1\n5 1\ntotal 8\n";
@@ -30,42 +35,45 @@ nofile .tags[] -> 2 missing nofile|
 Ragged .tags[] -> 6 ragged 1|";
 
 #[test]
-fn each_path_is_tallied_or_refused(rt: HostRuntime) -> Result<(), Fail> {
-    texts_end(&rt, "tally", TALLIES)
+fn each_path_is_tallied_or_refused(rt: HostRuntime) {
+    texts_end(&rt, "tally", TALLIES);
 }
 
-#[test]
-fn as_many_threads_as_one_likes_count_the_same(rt: HostRuntime) -> Result<(), Fail> {
-    let mut files = files(rt.alloc(), &[], usize::MAX)?;
+/// Compares how a tally of this record file ends by crews of several sizes.
+fn crews_count<R>(rt: &R, file: &str, text: &str)
+where
+    R: Threads + Wait + Sync + RandomSource + AllocGlobal + Abort,
+{
+    let mut files = files(rt, None, usize::MAX);
     for threads in ["1", "2", "7", "16"] {
-        for (file, text) in [("R1", TAGS), ("E", "total 0\n")] {
-            let words = ["tally", "L1", ".tags[]", file, "--threads", threads];
-            ends(&rt, &mut files, &words, 0, text)?;
-        }
+        let words = ["tally", "L1", ".tags[]", file, "--threads", threads];
+        ends(rt, &mut files, &words, 0, text);
     }
-    Ok(())
 }
 
 #[test]
-fn each_byte_is_counted_as_its_number(rt: HostRuntime) -> Result<(), Fail> {
-    let alloc = rt.alloc();
-    let layout =
-        "{\"type\":\"struct\",\"members\":[{\"type\":\"boolean\",\"name\":\"a\"},{\"type\":\"byte\",\"name\":\"b\"}]}";
+fn as_many_threads_as_one_likes_count_the_same(rt: HostRuntime) {
+    crews_count(&rt, "R1", TAGS);
+    crews_count(&rt, "E", "total 0\n");
+}
+
+/// Records of a boolean and a byte.
+const PAIR: &str =
+    "{\"type\":\"struct\",\"members\":[{\"type\":\"boolean\",\"name\":\"a\"},{\"type\":\"byte\",\"name\":\"b\"}]}";
+
+/// What is counted of them, by one worker and by three.
+const OF_PAIRS: &str = "\
+tally --threads 1 L .a R -> 0 0 2|1 3|total 5|
+tally --threads 3 L .a R -> 0 0 2|1 3|total 5|
+tally --threads 1 L .b R -> 0 -128 2|-1 1|0 1|127 1|total 5|
+tally --threads 3 L .b R -> 0 -128 2|-1 1|0 1|127 1|total 5|";
+
+#[test]
+fn each_byte_is_counted_as_its_number(rt: HostRuntime) {
     let records = [0, 0x80, 1, 0x7f, 2, 0xff, 0xff, 0, 0, 0x80];
-    let mut files = SureFiles::new(vec![in alloc;
-        text_file(alloc, "L", layout)?,
-        named(alloc, "R", records.to_vec(alloc)?)?,
-    ]?);
-    for (path, text) in [
-        (".a", "0 2\n1 3\ntotal 5\n"),
-        (".b", "-128 2\n-1 1\n0 1\n127 1\ntotal 5\n"),
-    ] {
-        for threads in ["1", "3"] {
-            let words = ["tally", "--threads", threads, "L", path, "R"];
-            ends(&rt, &mut files, &words, 0, text)?;
-        }
-    }
-    Ok(())
+    let all = [("L", PAIR.as_bytes()), ("R", records.as_slice())];
+    let all = listed(rt.alloc(), &all).expect(&rt, "memory");
+    rows_end(&rt, &mut SureFiles::new(all), OF_PAIRS);
 }
 
 /// Words of tallies, and how they end.
@@ -84,6 +92,6 @@ tally --thread 2 L1 .tags[] R1 -> 1 usage|
 Tally L1 .tags[] R1 -> 1 usage|";
 
 #[test]
-fn words_of_tallies_have_one_form(rt: HostRuntime) -> Result<(), Fail> {
-    rows_end(&rt, &mut files(rt.alloc(), &[], usize::MAX)?, FORMS)
+fn words_of_tallies_have_one_form(rt: HostRuntime) {
+    rows_end(&rt, &mut files(&rt, None, usize::MAX), FORMS);
 }

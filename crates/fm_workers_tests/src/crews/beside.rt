@@ -4,6 +4,7 @@ ghost use Rattle.fm_gate.specs.Needs.{IsOutside};
 ghost use Rattle.fm_segment.specs.Access.{IsKnown};
 
 use super::{ANSWER, made, query, stocked};
+use crate::compared::same;
 use crate::printed::printed;
 use fm_arena::Shared;
 use fm_base::{Kind, Refusal};
@@ -16,7 +17,6 @@ use fm_workers_crew::Beside;
 use std::alloc::AllocGlobal;
 use std::process::Abort;
 use std::sync::Wait;
-use std::test::Fail;
 use std::thread::Threads;
 
 /// Raises a number, and makes no entry.
@@ -50,9 +50,9 @@ fn asked_beside<R: Abort + AllocGlobal + Threads + Wait + Sync>(
     requires known { IsKnown (view_of_pass pass) s.now }
 {
     let alloc = rt.alloc();
-    assert_eq!(rt; s.first() % q.record_alignment(), 0);
-    assert_eq!(rt; s.size() % q.record_size(), 0);
-    assert_eq!(rt; s.arena().is_confined(), false);
+    same(rt, s.first() % q.record_alignment(), 0);
+    same(rt, s.size() % q.record_size(), 0);
+    same(rt, s.arena().is_confined(), false);
     let mut raised = 0;
     let (_pass, asked) = query_beside(
         rt,
@@ -73,24 +73,30 @@ fn asked_beside<R: Abort + AllocGlobal + Threads + Wait + Sync>(
     (answer, raised)
 }
 
-#[test]
-fn a_number_is_raised_beside_a_crew(rt: HostRuntime) -> Result<(), Fail> {
-    let q = query(rt.alloc())?;
-    let (pool, mut pass) = made(&rt, 3, 8);
-    let s = stocked(&rt, &pool, &mut pass, Kind::Shared);
-    let (answer, raised) = asked_beside(&rt, &pool, pass, &q, &s);
-    assert_eq!(rt; answer.as_deref(), Ok(ANSWER));
-    assert_eq!(rt; raised, 1);
-    Ok(())
+/// What they are in a pool of so many passes.
+fn asked_of<R: Abort + AllocGlobal + Threads + Wait + Sync>(
+    rt: &R,
+    passes: u32,
+) -> (Result<Vec<u8>, Refusal>, u32)
+    requires some { 0 < passes }
+    requires few { passes < 65 }
+{
+    let q = query(rt);
+    let (pool, mut pass) = made(rt, passes, 8);
+    let s = stocked(rt, &pool, &mut pass, Kind::Shared);
+    asked_beside(rt, &pool, pass, &q, &s)
 }
 
 #[test]
-fn nothing_is_raised_where_a_pass_is_wanting(rt: HostRuntime) -> Result<(), Fail> {
-    let q = query(rt.alloc())?;
-    let (pool, mut pass) = made(&rt, 2, 8);
-    let s = stocked(&rt, &pool, &mut pass, Kind::Shared);
-    let (answer, raised) = asked_beside(&rt, &pool, pass, &q, &s);
-    assert_eq!(rt; answer, Err(Refusal::NoPass));
-    assert_eq!(rt; raised, 0);
-    Ok(())
+fn a_number_is_raised_beside_a_crew(rt: HostRuntime) {
+    let (answer, raised) = asked_of(&rt, 3);
+    same(&rt, answer.as_deref(), Ok(ANSWER));
+    same(&rt, raised, 1);
+}
+
+#[test]
+fn nothing_is_raised_where_a_pass_is_wanting(rt: HostRuntime) {
+    let (answer, raised) = asked_of(&rt, 2);
+    same(&rt, answer.err(), Some(Refusal::NoPass));
+    same(&rt, raised, 0);
 }

@@ -6,6 +6,7 @@ ghost use Rattle.fm_gate.specs.Needs.{IsOutside};
 ghost use Rattle.fm_arena.specs.Shares.{CanShare};
 
 use super::{made, put};
+use crate::tests::compared::same;
 use crate::tests::pools::{drawn, given, is_whole, takes_in};
 use fm_base::{ArenaId, Kind};
 use fm_close::close;
@@ -49,10 +50,10 @@ fn one_open_one_closed<R: Abort + Wait>(rt: &R, pool: &Pool, pass: &mut Pass) ->
     ensures closed { IsKnown pass.new result.1 }
 {
     let kept = given(rt, pool, pass, Kind::Shared, 8);
-    assert_eq!(rt; put(pool, pass, kept, 9), Ok(0));
+    same(rt, put(pool, pass, kept, 9), Ok(0));
     let closed = given(rt, pool, pass, Kind::Shared, 8);
-    assert_eq!(rt; put(pool, pass, closed, 7), Ok(0));
-    assert_eq!(rt; close(rt, pool, pass, closed), Ok(()));
+    same(rt, put(pool, pass, closed, 7), Ok(0));
+    same(rt, close(rt, pool, pass, closed), Ok(()));
     (kept, closed)
 }
 
@@ -61,9 +62,9 @@ fn a_finished_pool_tells_the_bytes_of_arenas_that_are_alive(rt: HostRuntime) {
     let (pool, mut pass) = made(&rt, 2);
     let (kept, closed) = one_open_one_closed(&rt, &pool, &mut pass);
     let other = drawn(&rt, &pool, &mut pass);
-    assert_eq!(rt; is_whole(&pool, &mut pass), false);
+    same(&rt, is_whole(&pool, &mut pass), false);
     takes_in(&pool, &mut pass, other);
     let finished = finished(&rt, pool, pass).expect(&rt, "every number");
-    assert_eq!(rt; first_byte(&rt, &finished, kept), Some((8, 9)));
-    assert_eq!(rt; first_byte(&rt, &finished, closed), None);
+    same(&rt, first_byte(&rt, &finished, kept), Some((8, 9)));
+    same(&rt, first_byte(&rt, &finished, closed), None);
 }

@@ -3,9 +3,11 @@ ghost use Rattle.fm_gate.specs.Needs.{CanUnhold, CanVisit, IsOutside};
 ghost use Rattle.fm_gate.specs.HoldLaws.{HasBoth};
 
 use super::made;
+use crate::tests::compared::same;
+use crate::tests::pools::new_arena;
 use fm_base::{ArenaId, Kind, Refusal};
 use fm_close::close;
-use fm_gate::{Hold, a_hold_stands, both_holds_stand, hold, open_arena, unhold};
+use fm_gate::{Hold, a_hold_stands, both_holds_stand, hold, unhold};
 use fm_rule::{Pass, Pool};
 use std::sync::Wait;
 
@@ -90,7 +92,11 @@ fn closes_of_two_holds<R: Wait>(
 #[test]
 fn an_arena_that_is_held_twice_is_closed_once_both_are_spent(rt: HostRuntime) {
     let (pool, mut pass) = made(&rt, 1);
-    let a = open_arena(&rt, &pool, &mut pass, Kind::Shared).expect(&rt, "a slot");
+    let a = new_arena(&rt, &pool, &mut pass, Kind::Shared);
     let answers = (Err(Refusal::Held(2)), Err(Refusal::Held(1)), Ok(()));
-    assert_eq!(rt; closes_of_two_holds(&rt, &pool, &mut pass, a), Ok(answers));
+    same(
+        &rt,
+        closes_of_two_holds(&rt, &pool, &mut pass, a),
+        Ok(answers),
+    );
 }

@@ -4,7 +4,8 @@ ghost use Rattle.fm_gate.specs.Needs.{CanAllocate, CanVisit, IsOutside};
 ghost use Rattle.fm_close.specs.Learnt.{CanGiveBack};
 
 use super::made;
-use crate::tests::pools::drawn;
+use crate::tests::compared::same;
+use crate::tests::pools::{drawn, new_arena};
 use fm_base::{ArenaId, Kind, Refusal};
 use fm_close::{GaveBack, close, give_back, other_handles_last};
 use fm_gate::{a_handle_lasts, again, allocate, enter, is_alive, open_arena};
@@ -19,7 +20,7 @@ fn closed<R: Abort + AllocGlobal + Wait>(
     kind: Kind,
 ) -> (Result<(), Refusal>, Result<bool, Refusal>) {
     let (pool, mut pass) = made(rt, 1);
-    let a = open_arena(rt, &pool, &mut pass, kind).expect(rt, "a slot");
+    let a = new_arena(rt, &pool, &mut pass, kind);
     let answer = close(rt, &pool, &mut pass, a);
     (answer, is_alive(&pool, &mut pass, a))
 }
@@ -37,7 +38,7 @@ fn two_kinds_are_closed_by_hand(rt: HostRuntime) {
         (Kind::Shared, Ok(()), false),
     ];
     for (kind, answer, alive) in rows {
-        assert_eq!(rt; closed(&rt, kind), (answer, Ok(alive)));
+        same(&rt, closed(&rt, kind), (answer, Ok(alive)));
     }
 }
 
@@ -84,10 +85,10 @@ fn give_last<R: Wait>(rt: &R, pool: &Pool, pass: &mut Pass, a: ArenaId) -> GaveB
 fn an_automatic_arena_ends_with_its_last_handle(rt: HostRuntime) {
     let (pool, mut pass) = made(&rt, 1);
     let a = with_two_handles(&rt, &pool, &mut pass);
-    assert_eq!(rt; give_first(&rt, &pool, &mut pass, a), GaveBack::Kept);
-    assert_eq!(rt; look(&pool, &mut pass, a), Ok(true));
-    assert_eq!(rt; give_last(&rt, &pool, &mut pass, a), GaveBack::Ended);
-    assert_eq!(rt; enter(&pool, &mut pass, a), Err(Refusal::Closed));
+    same(&rt, give_first(&rt, &pool, &mut pass, a), GaveBack::Kept);
+    same(&rt, look(&pool, &mut pass, a), Ok(true));
+    same(&rt, give_last(&rt, &pool, &mut pass, a), GaveBack::Ended);
+    same(&rt, enter(&pool, &mut pass, a), Err(Refusal::Closed));
 }
 
 /// Each use of the arena by the pass is refused by its name.
@@ -106,10 +107,10 @@ fn is_refused<R: Wait>(rt: &R, pool: &Pool, pass: &mut Pass, a: ArenaId) -> bool
 #[test]
 fn a_confined_arena_is_its_owners_alone(rt: HostRuntime) {
     let (pool, mut pass) = made(&rt, 1);
-    let a = open_arena(&rt, &pool, &mut pass, Kind::Confined).expect(&rt, "a slot");
+    let a = new_arena(&rt, &pool, &mut pass, Kind::Confined);
     let mut other = drawn(&rt, &pool, &mut pass);
-    assert_eq!(rt; is_refused(&rt, &pool, &mut other, a), true);
-    assert_eq!(rt; close(&rt, &pool, &mut pass, a), Ok(()));
-    assert_eq!(rt; is_refused(&rt, &pool, &mut other, a), true);
-    assert_eq!(rt; enter(&pool, &mut other, a), Err(Refusal::WrongThread));
+    same(&rt, is_refused(&rt, &pool, &mut other, a), true);
+    same(&rt, close(&rt, &pool, &mut pass, a), Ok(()));
+    same(&rt, is_refused(&rt, &pool, &mut other, a), true);
+    same(&rt, enter(&pool, &mut other, a), Err(Refusal::WrongThread));
 }

@@ -6,10 +6,11 @@ ghost use Rattle.fm_gate.specs.Needs.{CanVisit};
 ghost use Rattle.fm_arena_tests.specs.Ready.{CanWork};
 
 use super::made;
-use crate::tests::pools::{drawn, word_of};
+use crate::tests::compared::same;
+use crate::tests::pools::{drawn, given, word_of};
 use fm_base::{ArenaId, Kind, Refusal};
 use fm_close::close;
-use fm_gate::{a_crew_stands, add, allocate, enter, leave, open_arena};
+use fm_gate::{a_crew_stands, add, enter, leave};
 use fm_rule::{Pass, Pool};
 use std::alloc::AllocGlobal;
 use std::process::Abort;
@@ -52,7 +53,7 @@ fn close_once<R: Abort + Wait>(rt: &R, pool: &Pool, pass: &mut Pass, a: ArenaId)
     ensures { CanWork pool.now pass.new a }
 {
     a_crew_stands();
-    assert_eq!(rt; close(rt, pool, pass, a), Ok(()));
+    same(rt, close(rt, pool, pass, a), Ok(()));
 }
 
 /// Each pass adds, in a thread of its own. Where the arena is to be closed, the first pass closes it before it adds.
@@ -79,7 +80,7 @@ fn add_all<R: Abort + Threads + Wait + Sync>(
                 close_once(rt, pool, pass, a);
             }
             let added = add_often(pool, pass, a, times);
-            assert!(rt; closes || added == times);
+            same(rt, closes || added == times, true);
         },
     );
 }
@@ -93,6 +94,23 @@ fn enlist<R: Abort + Wait>(rt: &R, pool: &Pool, pass: &mut Pass, a: ArenaId, cre
 {
     let one = drawn(rt, pool, pass);
     crew.push(one).expect(rt, "memory");
+}
+
+/// Two passes more that know the arena.
+fn crew_of_two<R: Abort + AllocGlobal + Wait>(
+    rt: &R,
+    pool: &Pool,
+    pass: &mut Pass,
+    a: ArenaId,
+) -> Vec<Pass>
+    requires { CanVisit pool.now pass.old a × (8 ≤ given_of pass.old a) }
+    ensures ready { CanVisit pool.now pass.new a × (8 ≤ given_of pass.new a) }
+    ensures crew { All (λ p. CanWork pool.now p a) result.items }
+{
+    let mut crew = Vec::new(rt.alloc());
+    enlist(rt, pool, pass, a, &mut crew);
+    enlist(rt, pool, pass, a, &mut crew);
+    crew
 }
 
 /// The last pass of the crew is gathered.
@@ -125,11 +143,8 @@ fn found_after<R: Abort + AllocGlobal + Threads + Wait + Sync>(
     closes: bool,
 ) -> (bool, Result<u64, Refusal>) {
     let (pool, mut pass) = made(rt, 1);
-    let a = open_arena(rt, &pool, &mut pass, Kind::Shared).expect(rt, "a slot");
-    assert_eq!(rt; allocate(rt, &pool, &mut pass, a, 8, 8), Ok(0));
-    let mut crew = Vec::new(rt.alloc());
-    enlist(rt, &pool, &mut pass, a, &mut crew);
-    enlist(rt, &pool, &mut pass, a, &mut crew);
+    let a = given(rt, &pool, &mut pass, Kind::Shared, 8);
+    let mut crew = crew_of_two(rt, &pool, &mut pass, a);
     add_all(rt, &pool, crew.as_mut_slice(), a, times, closes);
     gather_last(&pool, &mut pass, a, &mut crew);
     gather_last(&pool, &mut pass, a, &mut crew);
@@ -138,11 +153,11 @@ fn found_after<R: Abort + AllocGlobal + Threads + Wait + Sync>(
 
 #[test]
 fn what_threads_add_adds_up(rt: HostRuntime) {
-    assert_eq!(rt; found_after(&rt, 1_000, false), (true, Ok(2_000)));
+    same(&rt, found_after(&rt, 1_000, false), (true, Ok(2_000)));
 }
 
 #[test]
 fn an_arena_is_closed_while_threads_add(rt: HostRuntime) {
     let found = found_after(&rt, 1_000_000, true);
-    assert_eq!(rt; found, (true, Err(Refusal::Closed)));
+    same(&rt, found, (true, Err(Refusal::Closed)));
 }

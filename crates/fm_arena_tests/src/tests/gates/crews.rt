@@ -5,6 +5,7 @@ ghost use Rattle.fm_gate.specs.Needs.{CanVisit, IsOutside};
 ghost use Rattle.fm_arena.specs.Shares.{CanShare};
 
 use super::put;
+use crate::tests::compared::same;
 use crate::tests::pools::{drawn, given, is_whole, pool_of, takes_in, word_of};
 use fm_base::{ArenaId, Kind, Refusal};
 use fm_gate::a_crew_stands;
@@ -35,8 +36,12 @@ fn draws_none<R: Wait>(rt: &R, pool: &Pool, giver: &mut Pass) -> Option<Refusal>
 #[test]
 fn the_only_pass_draws_none(rt: HostRuntime) {
     let (pool, mut pass) = made_for(&rt, 1);
-    assert_eq!(rt; draws_none(&rt, &pool, &mut pass), Some(Refusal::NoPass));
-    assert_eq!(rt; is_whole(&pool, &mut pass), true);
+    same(
+        &rt,
+        draws_none(&rt, &pool, &mut pass),
+        Some(Refusal::NoPass),
+    );
+    same(&rt, is_whole(&pool, &mut pass), true);
 }
 
 #[test]
@@ -44,11 +49,15 @@ fn passes_that_others_drew_are_gathered_with_them(rt: HostRuntime) {
     let (pool, mut pass) = made_for(&rt, 3);
     let mut one = drawn(&rt, &pool, &mut pass);
     let two = drawn(&rt, &pool, &mut one);
-    assert_eq!(rt; draws_none(&rt, &pool, &mut pass), Some(Refusal::NoPass));
+    same(
+        &rt,
+        draws_none(&rt, &pool, &mut pass),
+        Some(Refusal::NoPass),
+    );
     takes_in(&pool, &mut one, two);
-    assert_eq!(rt; is_whole(&pool, &mut pass), false);
+    same(&rt, is_whole(&pool, &mut pass), false);
     takes_in(&pool, &mut pass, one);
-    assert_eq!(rt; is_whole(&pool, &mut pass), true);
+    same(&rt, is_whole(&pool, &mut pass), true);
 }
 
 /// The pass learns what the other has seen.
@@ -69,9 +78,9 @@ fn words_are_found_by_who_was_told_of_the_arena(rt: HostRuntime) {
     let (pool, mut pass) = made_for(&rt, 3);
     let mut other = drawn(&rt, &pool, &mut pass);
     let a = given(&rt, &pool, &mut pass, Kind::Shared, 64);
-    assert_eq!(rt; put(&pool, &mut pass, a, 7, 5), Ok(()));
+    same(&rt, put(&pool, &mut pass, a, 7, 5), Ok(()));
     tell(&pool, &mut pass, &mut other, a);
-    assert_eq!(rt; word_of(&pool, &mut other, a, 7), Ok(5));
+    same(&rt, word_of(&pool, &mut other, a, 7), Ok(5));
     let mut late = drawn(&rt, &pool, &mut pass);
-    assert_eq!(rt; word_of(&pool, &mut late, a, 7), Ok(5));
+    same(&rt, word_of(&pool, &mut late, a, 7), Ok(5));
 }

@@ -5,6 +5,7 @@ ghost use Rattle.fm_rule.specs.GivenBytes.{state_of};
 ghost use Rattle.fm_gate.specs.Needs.{IsInside, IsOutside};
 ghost use Rattle.fm_arena.specs.Shares.{CanShare};
 
+use crate::tests::compared::same;
 use crate::tests::pools::{given, pool_of};
 use fm_base::{ArenaId, Kind};
 use fm_gate::{enter, leave, store};
@@ -35,7 +36,7 @@ fn nine<R: Abort + Wait>(rt: &R, pool: &Pool, pass: &mut Pass) -> ArenaId
     ensures known { IsKnown pass.new result }
 {
     let a = given(rt, pool, pass, Kind::Shared, 8);
-    assert_eq!(rt; enter(pool, pass, a), Ok(()));
+    same(rt, enter(pool, pass, a), Ok(()));
     store_nine(pool, pass, a);
     leave(pool, pass);
     a
@@ -60,6 +61,6 @@ fn a_finished_pool_tells_the_bytes_of_its_arenas(rt: HostRuntime) {
         .bytes_of(rt.alloc(), a)
         .expect(&rt, "bytes")
         .expect(&rt, "alive");
-    assert_eq!(rt; bytes.len(), 8);
-    assert_eq!(rt; (bytes[0], bytes[7]), (9, 0));
+    same(&rt, bytes.len(), 8);
+    same(&rt, (bytes[0], bytes[7]), (9, 0));
 }

@@ -2,13 +2,14 @@ ghost use Rattle.fm_gate.specs.Needs.{CanVisit};
 ghost use Rattle.fm_arena_tests.specs.Holds.{AreHeld};
 
 use super::made;
-use crate::tests::pools::drawn;
+use crate::tests::compared::same;
+use crate::tests::pools::{drawn, new_arena};
 use fm_base::{ArenaId, Kind, Refusal};
-use fm_gate::{Hold, hold, is_alive, open_arena, unhold};
+use fm_gate::{Hold, hold, is_alive, unhold};
 use fm_rule::{Pass, Pool};
 use std::process::Abort;
 use std::sync::Wait;
-use std::thread::join_mut;
+use std::thread::{Threads, join_mut};
 
 /// Takes a hold, which is kept.
 fn hold_more<R: Abort + Wait>(
@@ -73,34 +74,54 @@ fn spend_all(pool: &Pool, pass: &mut Pass, a: ArenaId, held: Vec<Hold>)
 #[test]
 fn an_arena_has_65535_holds_at_most(rt: HostRuntime) {
     let (pool, mut pass) = made(&rt, 1);
-    let a = open_arena(&rt, &pool, &mut pass, Kind::Global).expect(&rt, "a slot");
+    let a = new_arena(&rt, &pool, &mut pass, Kind::Global);
     let mut held = Vec::new(rt.alloc());
-    assert_eq!(rt;
+    same(
+        &rt,
         take_holds(&rt, &pool, &mut pass, a, 65_535, &mut held),
-        Ok(())
+        Ok(()),
     );
-    assert_eq!(rt;
+    same(
+        &rt,
         take_holds(&rt, &pool, &mut pass, a, 1, &mut held),
-        Err(Refusal::TooManyHolds)
+        Err(Refusal::TooManyHolds),
     );
-    assert_eq!(rt; is_alive_held(&pool, &mut pass, a, &held), Ok(true));
+    same(&rt, is_alive_held(&pool, &mut pass, a, &held), Ok(true));
     spend_all(&pool, &mut pass, a, held);
+}
+
+/// Two passes take 30,000 holds each at once, which are kept.
+fn take_at_once<R: Abort + Threads + Wait + Sync>(
+    rt: &R,
+    pool: &Pool,
+    pass: &mut Pass,
+    other: &mut Pass,
+    a: ArenaId,
+    ours: &mut Vec<Hold>,
+    theirs: &mut Vec<Hold>,
+) -> (Result<(), Refusal>, Result<(), Refusal>)
+    requires ours { AreHeld pool.now pass.old a ours.old.items }
+    requires theirs { AreHeld pool.now other.old a theirs.old.items }
+    ensures ours { AreHeld pool.now pass.new a ours.new.items }
+    ensures theirs { AreHeld pool.now other.new a theirs.new.items }
+{
+    join_mut(
+        rt,
+        &mut || take_holds(rt, pool, pass, a, 30_000, ours),
+        &mut || take_holds(rt, pool, other, a, 30_000, theirs),
+    )
 }
 
 /// The session word counts up until both have their holds, so who tries a stale one again never ends.
 #[test]
 fn two_passes_take_holds_of_one_arena_at_once(rt: HostRuntime) {
     let (pool, mut pass) = made(&rt, 1);
-    let a = open_arena(&rt, &pool, &mut pass, Kind::Shared).expect(&rt, "a slot");
+    let a = new_arena(&rt, &pool, &mut pass, Kind::Shared);
     let mut other = drawn(&rt, &pool, &mut pass);
     let mut ours = Vec::new(rt.alloc());
     let mut theirs = Vec::new(rt.alloc());
-    let both = join_mut(
-        &rt,
-        &mut || take_holds(&rt, &pool, &mut pass, a, 30_000, &mut ours),
-        &mut || take_holds(&rt, &pool, &mut other, a, 30_000, &mut theirs),
-    );
-    assert_eq!(rt; both, (Ok(()), Ok(())));
+    let both = take_at_once(&rt, &pool, &mut pass, &mut other, a, &mut ours, &mut theirs);
+    same(&rt, both, (Ok(()), Ok(())));
     spend_all(&pool, &mut pass, a, ours);
     spend_all(&pool, &mut other, a, theirs);
 }

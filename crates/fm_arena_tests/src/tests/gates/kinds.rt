@@ -1,6 +1,7 @@
 ghost use Rattle.fm_gate.specs.Needs.{CanVisit, HasHandle};
 
 use super::{made, read, write};
+use crate::tests::compared::same;
 use crate::tests::pools::given;
 use fm_base::{ArenaId, Kind, Refusal};
 use fm_gate::{again, enter, hold, leave, open_arena, unhold};
@@ -22,7 +23,7 @@ fn held_once<R: Wait>(rt: &R, pool: &Pool, pass: &mut Pass, a: ArenaId) -> Resul
 fn used<R: Abort + AllocGlobal + Wait>(rt: &R, kind: Kind) -> (u64, Result<(), Refusal>) {
     let (pool, mut pass) = made(rt, 1);
     let a = given(rt, &pool, &mut pass, kind, 64);
-    assert_eq!(rt; enter(&pool, &mut pass, a), Ok(()));
+    same(rt, enter(&pool, &mut pass, a), Ok(()));
     write(&pool, &mut pass, a, 7, 9);
     let found = read(&pool, &mut pass, a, 7);
     leave(&pool, &mut pass);
@@ -38,7 +39,7 @@ fn arenas_of_each_kind_are_used_alike(rt: HostRuntime) {
         (Kind::Shared, Ok(())),
     ];
     for (kind, hold) in rows {
-        assert_eq!(rt; used(&rt, kind), (9, hold));
+        same(&rt, used(&rt, kind), (9, hold));
     }
 }
 
@@ -65,6 +66,10 @@ fn take_handles<R: Wait>(
 fn an_automatic_arena_has_65536_handles_at_most(rt: HostRuntime) {
     let (pool, mut pass) = made(&rt, 1);
     let a = open_arena(&rt, &pool, &mut pass, Kind::Automatic).expect(&rt, "a slot");
-    assert_eq!(rt; take_handles(&rt, &pool, &mut pass, a, 65_535), Ok(()));
-    assert_eq!(rt; again(&rt, &pool, &mut pass, a), Err(Refusal::TooManyHolds));
+    same(&rt, take_handles(&rt, &pool, &mut pass, a, 65_535), Ok(()));
+    same(
+        &rt,
+        again(&rt, &pool, &mut pass, a),
+        Err(Refusal::TooManyHolds),
+    );
 }

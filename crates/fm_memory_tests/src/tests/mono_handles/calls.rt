@@ -3,11 +3,13 @@ ghost use Rattle.fm_mono.specs.Shown.{view_of};
 ghost use Rattle.fm_segment.specs.Access.{HasKind};
 ghost use Rattle.fm_segment.specs.Learnt.{CanUse};
 
+use super::layouts::value;
+use crate::tests::compared::{same, same_at};
 use crate::tests::handles::{holds, takes};
 use crate::tests::segments::fresh;
 use fm_base::{Memory, Refusal};
 use fm_handle::VarHandle;
-use fm_lanes::Value;
+use fm_lanes::{Order, Value, ValueKind};
 use fm_layout::Layout;
 use fm_mono::Mono;
 use fm_segment::Segment;
@@ -20,6 +22,7 @@ use std::sync::Wait;
 pub(super) struct Ground {
     m: Mono,
     pub(super) s: Segment,
+    alloc: Global,
     ghost usable: { CanUse (view_of m) s },
 }
 
@@ -28,7 +31,7 @@ impl Ground {
     pub(super) fn new<R: Abort + Wait>(rt: &R, alloc: Global, size: u64) -> Ground {
         let mut m = Mono::make(alloc, 64);
         let s = fresh(rt, &mut m, size);
-        Ground { m, s }
+        Ground { m, s, alloc }
     }
 
     /// The same, read-only.
@@ -36,14 +39,23 @@ impl Ground {
         Ground {
             m: self.m,
             s: self.s.as_read_only(),
+            alloc: self.alloc,
         }
+    }
+
+    pub(super) fn alloc(&self) -> Global {
+        self.alloc
     }
 
     /// Closes the arena.
     pub(super) fn closed<R: Wait>(self, rt: &R) -> Ground {
         let mut m = self.m;
         let _ = m.close(rt, self.s.arena());
-        Ground { m, s: self.s }
+        Ground {
+            m,
+            s: self.s,
+            alloc: self.alloc,
+        }
     }
 
     /// Stops where `set` doesn't answer so.
@@ -58,7 +70,11 @@ impl Ground {
     ) {
         takes(rt, h, indices);
         holds(rt, h, v);
-        assert_eq!(rt; h.set(rt, &mut self.m, &self.s, base, indices, v), answer);
+        same(
+            rt,
+            h.set(rt, &mut self.m, &self.s, base, indices, v),
+            answer,
+        );
     }
 
     /// Stops where `get` doesn't answer so.
@@ -71,7 +87,19 @@ impl Ground {
         answer: Result<Value, Refusal>,
     ) {
         takes(rt, h, indices);
-        assert_eq!(rt; h.get(&mut self.m, &self.s, base, indices), answer);
+        same(rt, h.get(&mut self.m, &self.s, base, indices), answer);
+    }
+
+    /// Stops where `get` of a value by itself, in little order, doesn't answer so.
+    pub(super) fn gets_one<R: Abort>(
+        &mut self,
+        rt: &R,
+        kind: ValueKind,
+        base: u64,
+        answer: Result<Value, Refusal>,
+    ) {
+        let h = value(rt, self.alloc, kind, Order::Little);
+        self.gets(rt, &h, base, &[], answer);
     }
 
     /// Stops where the segment's value at the place isn't this, to which the path led.
@@ -86,7 +114,7 @@ impl Ground {
         requires { HasKind layout.now (kind_of v) }
     {
         let found = self.s.get(&mut self.m, layout, place);
-        assert_eq!(rt; found, Ok(v), "at {path}");
+        same_at(rt, found, Ok(v), path);
     }
 
     /// Stops where `get_and_add` doesn't answer so.
@@ -101,9 +129,10 @@ impl Ground {
     ) {
         takes(rt, h, indices);
         holds(rt, h, delta);
-        assert_eq!(rt;
+        same(
+            rt,
             h.get_and_add(rt, &mut self.m, &self.s, base, indices, delta),
-            answer
+            answer,
         );
     }
 
@@ -119,9 +148,10 @@ impl Ground {
         takes(rt, h, &[]);
         holds(rt, h, expected);
         holds(rt, h, v);
-        assert_eq!(rt;
+        same(
+            rt,
             h.compare_and_exchange(rt, &mut self.m, &self.s, 0, &[], expected, v),
-            answer
+            answer,
         );
     }
 
@@ -137,9 +167,10 @@ impl Ground {
         takes(rt, h, &[]);
         holds(rt, h, expected);
         holds(rt, h, v);
-        assert_eq!(rt;
+        same(
+            rt,
             h.compare_and_set(rt, &mut self.m, &self.s, 0, &[], expected, v),
-            answer
+            answer,
         );
     }
 
@@ -154,7 +185,11 @@ impl Ground {
         answer: Result<(), Refusal>,
     ) {
         takes(rt, h, indices);
-        assert_eq!(rt; h.set_long(&mut self.m, &self.s, base, indices, v), answer);
+        same(
+            rt,
+            h.set_long(&mut self.m, &self.s, base, indices, v),
+            answer,
+        );
     }
 
     /// Stops where `compare_and_exchange_long` at base 0 doesn't find so.
@@ -167,9 +202,10 @@ impl Ground {
         found: i64,
     ) {
         takes(rt, h, &[]);
-        assert_eq!(rt;
+        same(
+            rt,
             h.compare_and_exchange_long(&mut self.m, &self.s, 0, &[], expected, v),
-            Ok(found)
+            Ok(found),
         );
     }
 
@@ -182,9 +218,10 @@ impl Ground {
         answer: Result<i64, Refusal>,
     ) {
         takes(rt, h, &[]);
-        assert_eq!(rt;
+        same(
+            rt,
             h.get_and_add_long(&mut self.m, &self.s, 0, &[], delta),
-            answer
+            answer,
         );
     }
 }

@@ -1,8 +1,6 @@
-ghost use Rattle.std.specs.Prelude.{◌≡◌};
-ghost use Rattle.fm_lanes.specs.Value.{kind_of};
 ghost use Rattle.fm_layout.specs.Name.{IsName};
-ghost use Rattle.fm_segment.specs.Access.{HasKind};
 
+use crate::tests::segments::anywhere;
 use fm_handle::VarHandle;
 use fm_lanes::{Order, Value, ValueKind};
 use fm_layout::Layout;
@@ -32,14 +30,6 @@ fn pair<R: Abort>(rt: &R, alloc: Global, first: Layout, second: Layout) -> Vec<L
     members.push(first).expect(rt, "memory");
     members.push(second).expect(rt, "memory");
     members
-}
-
-/// A layout of the value's kind, in this order, at any place.
-pub(super) fn anywhere<R: Abort>(rt: &R, v: Value, order: Order) -> Layout
-    ensures { HasKind result (kind_of v) }
-{
-    let layout = Layout::value(v.kind()).with_order(order);
-    layout.with_alignment(1).expect(rt, "an alignment")
 }
 
 /// A byte `low` and this layout, in one place.

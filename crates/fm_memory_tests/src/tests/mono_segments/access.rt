@@ -1,94 +1,130 @@
-ghost use Rattle.std.specs.Prelude.{IfOk};
-ghost use Rattle.fm_lanes.specs.Value.{kind_of};
+ghost use Rattle.std.specs.Prelude.{◌≡◌, None};
+ghost use Rattle.fm_mono.specs.Shown.{view_of};
 ghost use Rattle.fm_segment.specs.Access.{HasKind};
+ghost use Rattle.fm_segment.specs.Learnt.{CanSet, CanUse};
 
-use crate::tests::segments::{OF_EACH_KIND, fresh};
+use crate::tests::compared::same_at;
+use crate::tests::segment_calls::{gets, gets_at_index, sets, sets_at_index};
+use crate::tests::segments::{OF_EACH_KIND, anywhere, fresh};
 use fm_base::{Memory, Refusal};
 use fm_lanes::{Order, Value, ValueKind};
 use fm_layout::Layout;
 use fm_mono::Mono;
-use std::test::Fail;
+use fm_segment::Segment;
+use std::process::Abort;
+use std::sync::Wait;
 
-/// A layout of the value's kind, in this order, at any place.
-fn anywhere(v: Value, order: Order) -> Result<Layout, Refusal>
-    ensures { IfOk result (λ t. HasKind t (kind_of v)) }
+/// Sets the value at the offset, and gets it again.
+fn set_and_get<R: Abort + Wait>(
+    rt: &R,
+    m: &mut Mono,
+    s: &Segment,
+    layout: &Layout,
+    offset: u64,
+    v: Value,
+)
+    requires { CanSet (view_of m.old) s.now layout.now v }
+    ensures { CanUse (view_of m.new) s.now }
 {
-    Layout::value(v.kind()).with_order(order).with_alignment(1)
+    sets(rt, m, s, layout, offset, v, Ok(()));
+    same_at(rt, s.get(m, layout, offset), Ok(v), offset);
 }
 
-#[test]
-fn what_was_set_is_got(rt: HostRuntime) -> Result<(), Fail> {
-    let mut m = Mono::make(rt.alloc(), 64);
-    let segment = fresh(&rt, &mut m, 16);
-    for v in OF_EACH_KIND {
-        for order in [Order::Little, Order::Big] {
-            let layout = anywhere(v, order)?;
-            for offset in 0..9 {
-                assert_eq!(rt; segment.set(&rt, &mut m, &layout, offset, v), Ok(()));
-                assert_eq!(rt; segment.get(&mut m, &layout, offset), Ok(v), "at {offset}");
-            }
-        }
+/// The value at each place from a word's start to the next word's.
+fn at_each_place<R: Abort + Wait>(rt: &R, m: &mut Mono, s: &Segment, v: Value, order: Order)
+    requires { CanUse (view_of m.old) s.now }
+    ensures { CanUse (view_of m.new) s.now }
+{
+    let layout = anywhere(rt, v, order);
+    for offset in 0..9 {
+        set_and_get(rt, m, s, &layout, offset, v);
     }
-    Ok(())
 }
 
 #[test]
-fn big_order_puts_the_highest_byte_first(rt: HostRuntime) -> Result<(), Fail> {
+fn what_was_set_is_got(rt: HostRuntime) {
     let mut m = Mono::make(rt.alloc(), 64);
-    let segment = fresh(&rt, &mut m, 16);
-    let v = Value::Int(0x0102_0304);
-    let layout = anywhere(v, Order::Big)?;
-    assert_eq!(rt; segment.set(&rt, &mut m, &layout, 6, v), Ok(()));
-    let long = Layout::value(ValueKind::Long);
-    assert_eq!(rt;
-        segment.get_at_index(&mut m, &long, 0),
-        Ok(Value::Long(0x0201 << 48))
-    );
-    assert_eq!(rt;
-        segment.get_at_index(&mut m, &long, 1),
-        Ok(Value::Long(0x0403))
-    );
-    assert_eq!(rt;
-        segment.set_at_index(&rt, &mut m, &long, 1, Value::Long(5)),
-        Ok(())
-    );
-    assert_eq!(rt;
-        segment.get(&mut m, &layout, 6),
-        Ok(Value::Int(0x0102_0500))
-    );
-    Ok(())
+    let s = fresh(&rt, &mut m, 16);
+    for v in OF_EACH_KIND {
+        at_each_place(&rt, &mut m, &s, v, Order::Little);
+        at_each_place(&rt, &mut m, &s, v, Order::Big);
+    }
+}
+
+/// An int in big order across two words, of which a long is the second.
+fn use_a_big_int<R: Abort + Wait>(rt: &R, m: &mut Mono, s: &Segment, int: &Layout, long: &Layout)
+    requires known { CanUse (view_of m.old) s.now }
+    requires int { HasKind int.now ValueKind.Int }
+    requires long { HasKind long.now ValueKind.Long }
+{
+    sets(rt, m, s, int, 6, Value::Int(0x0102_0304), Ok(()));
+    gets_at_index(rt, m, s, long, 0, Ok(Value::Long(0x0201 << 48)));
+    gets_at_index(rt, m, s, long, 1, Ok(Value::Long(0x0403)));
+    sets_at_index(rt, m, s, long, 1, Value::Long(5), Ok(()));
+    gets(rt, m, s, int, 6, Ok(Value::Int(0x0102_0500)));
 }
 
 #[test]
-fn accesses_are_refused_in_order(rt: HostRuntime) -> Result<(), Fail> {
+fn big_order_puts_the_highest_byte_first(rt: HostRuntime) {
     let mut m = Mono::make(rt.alloc(), 64);
-    let segment = fresh(&rt, &mut m, 16);
-    let kept = segment.as_read_only();
+    let s = fresh(&rt, &mut m, 16);
+    let int = anywhere(&rt, Value::Int(0), Order::Big);
     let long = Layout::value(ValueKind::Long);
-    let sparse = Layout::value(ValueKind::Int).with_alignment(8)?;
-    let (v, n) = (Value::Long(1), Value::Int(1));
-    let _ = m.close(&rt, segment.arena());
-    assert_eq!(rt;
-        segment.get_at_index(&mut m, &sparse, 0),
-        Err(Refusal::Unsupported)
-    );
-    assert_eq!(rt;
-        kept.set_at_index(&rt, &mut m, &sparse, 0, n),
-        Err(Refusal::Unsupported)
-    );
-    assert_eq!(rt;
-        kept.set_at_index(&rt, &mut m, &long, u64::MAX, v),
-        Err(Refusal::ReadOnly)
-    );
-    assert_eq!(rt; kept.set(&rt, &mut m, &long, 9, v), Err(Refusal::ReadOnly));
-    assert_eq!(rt; segment.set(&rt, &mut m, &long, 9, v), Err(Refusal::Bounds));
-    assert_eq!(rt;
-        segment.get_at_index(&mut m, &long, 1 << 61),
-        Err(Refusal::Bounds)
-    );
-    assert_eq!(rt; segment.get(&mut m, &long, u64::MAX), Err(Refusal::Bounds));
-    assert_eq!(rt; segment.get(&mut m, &long, 4), Err(Refusal::Misaligned));
-    assert_eq!(rt; segment.set(&rt, &mut m, &long, 8, v), Err(Refusal::Closed));
-    assert_eq!(rt; segment.get(&mut m, &sparse, 8), Err(Refusal::Closed));
-    Ok(())
+    use_a_big_int(&rt, &mut m, &s, &int, &long);
+}
+
+/// A segment of two words whose arena is closed.
+fn closed<R: Abort + Wait>(rt: &R, m: &mut Mono) -> Segment
+    requires { m.old.inside ≡ None }
+    ensures { CanUse (view_of m.new) result }
+{
+    let s = fresh(rt, m, 16);
+    let _ = m.close(rt, s.arena());
+    s
+}
+
+/// An int that is aligned to 8 bytes.
+fn sparse<R: Abort>(rt: &R) -> Layout
+    ensures { HasKind result ValueKind.Int }
+{
+    let int = Layout::value(ValueKind::Int);
+    int.with_alignment(8).expect(rt, "an alignment")
+}
+
+fn refuse_sparse<R: Abort + Wait>(rt: &R, m: &mut Mono, sparse: &Layout)
+    requires outside { m.old.inside ≡ None }
+    requires int { HasKind sparse.now ValueKind.Int }
+{
+    let s = closed(rt, m);
+    let (kept, refused) = (s.as_read_only(), Refusal::Unsupported);
+    gets_at_index(rt, m, &s, sparse, 0, Err(refused));
+    sets_at_index(rt, m, &kept, sparse, 0, Value::Int(1), Err(refused));
+    gets(rt, m, &s, sparse, 8, Err(Refusal::Closed));
+}
+
+#[test]
+fn accesses_of_sparse_values_are_refused(rt: HostRuntime) {
+    let mut m = Mono::make(rt.alloc(), 64);
+    refuse_sparse(&rt, &mut m, &sparse(&rt));
+}
+
+fn refuse_in_order<R: Abort + Wait>(rt: &R, m: &mut Mono, long: &Layout)
+    requires outside { m.old.inside ≡ None }
+    requires long { HasKind long.now ValueKind.Long }
+{
+    let s = closed(rt, m);
+    let (kept, v) = (s.as_read_only(), Value::Long(1));
+    sets_at_index(rt, m, &kept, long, u64::MAX, v, Err(Refusal::ReadOnly));
+    sets(rt, m, &kept, long, 9, v, Err(Refusal::ReadOnly));
+    sets(rt, m, &s, long, 9, v, Err(Refusal::Bounds));
+    gets_at_index(rt, m, &s, long, 1 << 61, Err(Refusal::Bounds));
+    gets(rt, m, &s, long, u64::MAX, Err(Refusal::Bounds));
+    gets(rt, m, &s, long, 4, Err(Refusal::Misaligned));
+    sets(rt, m, &s, long, 8, v, Err(Refusal::Closed));
+}
+
+#[test]
+fn accesses_are_refused_in_order(rt: HostRuntime) {
+    let mut m = Mono::make(rt.alloc(), 64);
+    refuse_in_order(&rt, &mut m, &Layout::value(ValueKind::Long));
 }

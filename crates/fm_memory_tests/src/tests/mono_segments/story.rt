@@ -1,3 +1,4 @@
+use crate::tests::compared::same;
 use fm_base::{Kind, Memory, Refusal};
 use fm_lanes::{Value, ValueKind};
 use fm_layout::Layout;

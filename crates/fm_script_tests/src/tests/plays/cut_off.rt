@@ -1,4 +1,6 @@
 use super::printed;
+use crate::tests::compared::same;
+use crate::tests::written::push;
 use std::alloc::AllocGlobal;
 use std::process::Abort;
 
@@ -8,35 +10,40 @@ const READS: u32 = 1_000;
 /// A script whose first worker reads, while its second closes the arena.
 fn reading<R: Abort + AllocGlobal>(rt: &R) -> String {
     let mut text = String::new(rt.alloc());
-    let first = "pool 1 1 8 1 1\nfirst open a shared\nfirst alloc a s 8 8\n";
-    assert!(rt; text.push_str(first).is_ok());
+    push(
+        rt,
+        &mut text,
+        "pool 1 1 8 1 1\nfirst open a shared\nfirst alloc a s 8 8\n",
+    );
     for _ in 0..READS {
-        assert!(rt; text.push_str("1 get s long 0\n").is_ok());
+        push(rt, &mut text, "1 get s long 0\n");
     }
-    assert!(rt; text.push_str("2 close a\n").is_ok());
+    push(rt, &mut text, "2 close a\n");
     text
+}
+
+/// Whether a read was refused, where the line is one.
+fn is_refused(line: &str) -> Option<bool> {
+    match line {
+        "1 get s long 0 -> 0" => Some(false),
+        "1 get s long 0 -> refused 1" => Some(true),
+        _ => None,
+    }
 }
 
 /// Each read is answered whole or refused, and behind the first refusal all are.
 #[test]
 fn reads_stay_refused_behind_a_close(rt: HostRuntime) {
-    let script = reading(&rt);
-    let report = printed(&rt, script.as_str());
+    let report = printed(&rt, reading(&rt).as_str());
     let mut reads: u32 = 0;
     let mut is_closed = false;
     for line in report.as_str().lines() {
-        match line {
-            "1 get s long 0 -> 0" => {
-                assert!(rt; !is_closed);
-                reads = reads.saturating_add(1);
-            }
-            "1 get s long 0 -> refused 1" => {
-                is_closed = true;
-                reads = reads.saturating_add(1);
-            }
-            _ => {}
+        if let Some(refused) = is_refused(line) {
+            same(&rt, is_closed && !refused, false);
+            is_closed = refused;
+            reads = reads.saturating_add(1);
         }
     }
-    assert_eq!(rt; reads, READS);
-    assert!(rt; report.as_str().ends_with("2 close a -> ok\n"));
+    same(&rt, reads, READS);
+    same(&rt, report.as_str().ends_with("2 close a -> ok\n"), true);
 }

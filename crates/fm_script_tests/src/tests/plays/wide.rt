@@ -1,7 +1,17 @@
-use super::printed;
+use super::plays;
+use crate::tests::compared::same;
+use crate::tests::written::push;
 use itoa::Buffer;
 use std::alloc::AllocGlobal;
 use std::process::Abort;
+use std::sync::Wait;
+use std::thread::Threads;
+
+fn push_all<R: Abort>(rt: &R, text: &mut String, first: &str, second: &str, third: &str) {
+    push(rt, text, first);
+    push(rt, text, second);
+    push(rt, text, third);
+}
 
 /// A script, and what its run prints.
 #[derive(Drop)]
@@ -13,12 +23,9 @@ struct Wide {
 impl Wide {
     /// A line that is answered so.
     fn push<R: Abort>(&mut self, rt: &R, who: &str, call: &str, reply: &str) {
-        for part in [who, call, "\n"] {
-            assert!(rt; self.text.push_str(part).is_ok());
-        }
-        for part in [who, call, " -> ", reply, "\n"] {
-            assert!(rt; self.printed.push_str(part).is_ok());
-        }
+        push_all(rt, &mut self.text, who, call, "\n");
+        push_all(rt, &mut self.printed, who, call, " -> ");
+        push_all(rt, &mut self.printed, reply, "\n", "");
     }
 
     /// A worker's lines, which add nothing so many times.
@@ -35,7 +42,7 @@ fn adding<R: Abort + AllocGlobal>(rt: &R, workers: u32, times: u32) -> Wide {
         text: String::new(rt.alloc()),
         printed: String::new(rt.alloc()),
     };
-    assert!(rt; script.text.push_str("pool 1 1 8 1 1\n").is_ok());
+    push(rt, &mut script.text, "pool 1 1 8 1 1\n");
     script.push(rt, "first", " open a shared", "ok");
     script.push(rt, "first", " alloc a s 8 8", "ok 0");
     for before in 0..workers {
@@ -45,15 +52,16 @@ fn adding<R: Abort + AllocGlobal>(rt: &R, workers: u32, times: u32) -> Wide {
     script
 }
 
+fn runs_whole<R: Abort + AllocGlobal + Threads + Wait + Sync>(rt: &R, workers: u32, times: u32) {
+    let script = adding(rt, workers, times);
+    same(rt, script.text.len() > 4096, true);
+    plays(rt, script.text.as_str(), script.printed.as_str());
+}
+
 /// Where memory is ample none is wanting, also past 4,096 bytes and with many workers.
 #[test]
 fn wide_scripts_run_whole(rt: HostRuntime) {
-    for (workers, times) in [(1, 300), (7, 40), (16, 20)] {
-        let script = adding(&rt, workers, times);
-        assert!(rt; script.text.len() > 4096);
-        assert_eq!(rt;
-            printed(&rt, script.text.as_str()).as_str(),
-            script.printed.as_str()
-        );
-    }
+    runs_whole(&rt, 1, 300);
+    runs_whole(&rt, 7, 40);
+    runs_whole(&rt, 16, 20);
 }

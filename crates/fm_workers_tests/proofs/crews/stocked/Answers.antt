@@ -7,7 +7,5 @@ allocate-requires g c = can_allocate c.open_arena.ensures c.expect-a.ensures c.r
 
 pub returns-clause-no_page : goal.returns-clause-no_page
 returns-clause-no_page g c =
-    let written = c.write-8.ensures.pages ∙ c.write-7.ensures.pages ∙ c.write-6.ensures.pages ∙ c.write-5.ensures.pages
-    ∙ c.write-4.ensures.pages ∙ c.write-3.ensures.pages ∙ c.write-2.ensures.pages ∙ c.write.ensures.pages in
     let allocated = pages_kept c.allocate.ensures.did ∙ pages_kept c.open_arena.ensures.did in
-    pages_kept c.leave.ensures.did ∙ written ∙ pages_kept c.enter.ensures.did ∙ allocated ∙ c.requires.no_page
+    pages_kept c.leave.ensures.did ∙ c.write_records.ensures.pages ∙ pages_kept c.enter.ensures.did ∙ allocated ∙ c.requires.no_page

@@ -25,3 +25,8 @@ returns-in-Some-clause-ready c =
     let P : View → Type 0 = λ p. CanWork c.args.pool.now p c.args.a in
     let ready = subst (λ (r : Option View). IfSome r P) c.in-Some.is (All-pop P _ _ c.pop.result c.pop.ensures.items c.requires.crew).1 in
     stands c.a_crew_stands.ensures c.args.pool.now _ c.in-Some.other _ c.args.a c.requires.ready ready c.gather.ensures
+
+pub returns-in-Some-clause-crew : goal.returns-in-Some-clause-crew
+returns-in-Some-clause-crew c =
+    let P : View → Type 0 = λ p. CanWork c.args.pool.now p c.args.a in
+    (All-pop P _ _ c.pop.result c.pop.ensures.items c.requires.crew).0

@@ -1,0 +1,5 @@
+mod compared;
+mod files;
+mod host;
+mod signals;
+mod sinks;

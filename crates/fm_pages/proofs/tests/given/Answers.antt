@@ -1,6 +1,0 @@
-use Rattle.std.proofs.Common.{refl}
-use Rattle.fm_pages.proofs.tests.given.Goals as goal
-
-pub try_at-requires-clause-power : goal.try_at-requires-clause-power
-unfolding lib.Count.ones
-try_at-requires-clause-power g c = refl

@@ -1,0 +1,4 @@
+mod compared;
+mod pages;
+mod rule;
+mod words;
