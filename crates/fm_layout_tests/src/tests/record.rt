@@ -48,7 +48,7 @@ fn tags(alloc: Global) -> Result<Layout, Refusal> {
     Layout::sequence(alloc, 4, Layout::value(ValueKind::Byte))?.with_name(alloc, "tags")
 }
 
-/// The record of `fm_layout`'s documentation, of 24 bytes: an id, a kind, a price and four tags.
+/// A record of 24 bytes: an id, a kind, a price and four tags.
 pub(crate) fn sale(alloc: Global) -> Result<Layout, Refusal> {
     let id = named(alloc, ValueKind::Int, "id");
     let members = two(alloc, id, named(alloc, ValueKind::Short, "kind"));
