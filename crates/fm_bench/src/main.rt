@@ -117,6 +117,21 @@ fn run<R: Threads + Wait + Sync>(
         "nexts" => nexts(rt, alloc, count),
         "hops" => hops(rt, alloc, count),
         "closes" => closes(rt, alloc, count),
+        "loads" => return loads(alloc, count).ok(),
+        _ => return run_on_pages(rt, alloc, what, count, text),
+    };
+    joined.ok()
+}
+
+/// The same of the loops that open arenas and give their bytes, and of those behind them.
+fn run_on_pages<R: Threads + Wait + Sync>(
+    rt: &R,
+    alloc: Global,
+    what: &str,
+    count: u64,
+    text: &str,
+) -> Option<u64> {
+    let joined = match what {
         "opens" => opens(rt, alloc, count),
         "wipes" => wipes(rt, alloc, count),
         "grows" => grows(rt, alloc, count),
@@ -124,7 +139,20 @@ fn run<R: Threads + Wait + Sync>(
         "firsts" => firsts(rt, alloc, count),
         "lasts" => lasts(rt, alloc, count),
         "gives" => gives(rt, alloc, count),
-        "loads" => return loads(alloc, count).ok(),
+        _ => return run_updates(rt, alloc, what, count, text),
+    };
+    joined.ok()
+}
+
+/// The same of the loops that update words, and of those of crews.
+fn run_updates<R: Threads + Wait + Sync>(
+    rt: &R,
+    alloc: Global,
+    what: &str,
+    count: u64,
+    text: &str,
+) -> Option<u64> {
+    let joined = match what {
         "adds" => updates(rt, alloc, count, Update::Add),
         "swaps" => updates(rt, alloc, count, Update::Swap),
         "patches" => updates(rt, alloc, count, Update::Patch),
