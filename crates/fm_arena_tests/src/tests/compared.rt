@@ -3,8 +3,6 @@ ghost use Rattle.std.specs.Prelude.{◌≡◌, true};
 use std::fmt::Debug;
 use std::process::Abort;
 
-/// Stops a test where what it found isn't what it wanted. A call costs a prover far less than `assert_eq!`, which is
-/// written out where it stands.
 pub(crate) fn same<R: Abort, T: PartialEq + Debug + Drop>(rt: &R, found: T, wanted: T)
     ensures { T.eq found wanted ≡ true }
 {

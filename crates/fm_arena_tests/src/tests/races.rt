@@ -54,22 +54,43 @@ fn give_often<R: Wait>(
     times
 }
 
-/// How many bytes each of two passes gives of one arena at once.
+/// Gives so many bytes so often once the other came, and answers how often it did.
+fn give_once_met<R: Wait>(
+    rt: &R,
+    pool: &Pool,
+    pass: &mut Pass,
+    a: ArenaId,
+    many: (u64, u64),
+    mine: &AtomicBool,
+    other: &AtomicBool,
+) -> u64
+    requires { CanAllocate pool.now pass.old a }
+    ensures { CanAllocate pool.now pass.new a }
+{
+    meet(mine, other);
+    give_often(rt, pool, pass, a, many.0, many.1)
+}
+
+/// How often each of two passes gives so many bytes of one arena, when both do so at once.
 fn give_at_once<R: Threads + Wait + Sync>(
     rt: &R,
     pool: &Pool,
     pass: &mut Pass,
     other: &mut Pass,
     a: ArenaId,
+    many: (u64, u64),
 ) -> (u64, u64)
     requires pass { CanAllocate pool.now pass.old a }
     requires other { CanAllocate pool.now other.old a }
-    ensures { CanAllocate pool.now pass.new a }
+    ensures pass { CanAllocate pool.now pass.new a }
+    ensures other { CanAllocate pool.now other.new a }
 {
+    let first = AtomicBool::new(false);
+    let second = AtomicBool::new(false);
     join_mut(
         rt,
-        &mut || give_often(rt, pool, pass, a, 1, TIMES),
-        &mut || give_often(rt, pool, other, a, 1, TIMES),
+        &mut || give_once_met(rt, pool, pass, a, many, &first, &second),
+        &mut || give_once_met(rt, pool, other, a, many, &second, &first),
     )
 }
 
@@ -78,49 +99,12 @@ fn two_passes_allocate_at_once(rt: HostRuntime) {
     let (pool, mut pass) = pool_of(&rt, 2, 1, 8_192, 1);
     let a = new_arena(&rt, &pool, &mut pass, Kind::Shared);
     let mut other = drawn(&rt, &pool, &mut pass);
-    let both = give_at_once(&rt, &pool, &mut pass, &mut other, a);
+    let both = give_at_once(&rt, &pool, &mut pass, &mut other, a, (1, TIMES));
     same(&rt, both, (TIMES, TIMES));
     same(&rt, allocate(&rt, &pool, &mut pass, a, 0, 1), Ok(2 * TIMES));
 }
 
-/// Gives 30 words once the other came, each of which wants a page, and answers how many it gave.
-fn give_words<R: Wait>(
-    rt: &R,
-    pool: &Pool,
-    pass: &mut Pass,
-    a: ArenaId,
-    mine: &AtomicBool,
-    other: &AtomicBool,
-) -> u64
-    requires { CanAllocate pool.now pass.old a }
-    ensures { CanAllocate pool.now pass.new a }
-{
-    meet(mine, other);
-    give_often(rt, pool, pass, a, 8, 30)
-}
-
-/// How many words each of two passes gives of one arena at once.
-fn words_at_once<R: Threads + Wait + Sync>(
-    rt: &R,
-    pool: &Pool,
-    pass: &mut Pass,
-    other: &mut Pass,
-    a: ArenaId,
-) -> (u64, u64)
-    requires pass { CanAllocate pool.now pass.old a }
-    requires other { CanAllocate pool.now other.old a }
-    ensures { CanAllocate pool.now other.new a }
-{
-    let first = AtomicBool::new(false);
-    let second = AtomicBool::new(false);
-    join_mut(
-        rt,
-        &mut || give_words(rt, pool, pass, a, &first, &second),
-        &mut || give_words(rt, pool, other, a, &second, &first),
-    )
-}
-
-/// The same in a new pool. Another arena has the four pages that are left then, and this is what it is answered for one
+/// How many words each gives in a new pool. Another arena has the four pages that are left then, and this is what it is answered for one
 /// more.
 fn given_at_once<R: Abort + AllocGlobal + Threads + Wait + Sync>(
     rt: &R,
@@ -128,7 +112,7 @@ fn given_at_once<R: Abort + AllocGlobal + Threads + Wait + Sync>(
     let (pool, mut pass) = paged(rt, 2, 64, 1, 1);
     let a = new_arena(rt, &pool, &mut pass, Kind::Shared);
     let mut other = drawn(rt, &pool, &mut pass);
-    let (ours, theirs) = words_at_once(rt, &pool, &mut pass, &mut other, a);
+    let (ours, theirs) = give_at_once(rt, &pool, &mut pass, &mut other, a, (8, 30));
     let b = given(rt, &pool, &mut other, Kind::Shared, 32);
     (ours, theirs, allocate(rt, &pool, &mut other, b, 1, 1))
 }
@@ -161,7 +145,7 @@ fn close_amid_giving<R: Threads + Wait + Sync>(
     closed
 }
 
-/// The same in a new pool. Another arena has all pages then, whose bits stand in two words.
+/// How many words each gives in a new pool. Another arena has all pages then, whose bits stand in two words.
 fn closed_amid_giving<R: Abort + AllocGlobal + Threads + Wait + Sync>(
     rt: &R,
 ) -> Result<(), Refusal> {

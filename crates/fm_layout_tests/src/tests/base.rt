@@ -1,4 +1,4 @@
-use crate::tests::compared::{same, same_at};
+use crate::tests::compared::same;
 use crate::tests::told::refusal_told;
 use fm_base::{ArenaId, Caller, Kind, Refusal};
 use std::alloc::Global;
@@ -34,7 +34,7 @@ fn name(kind: Kind) -> ArenaId {
 
 /// Stops where the names are the same.
 fn differ<R: Abort>(rt: &R, a: ArenaId, other: ArenaId) {
-    same_at(rt, a != other, true, other);
+    same(rt, (a != other, other), (true, other));
 }
 
 #[test]
@@ -51,20 +51,18 @@ fn a_name_differs_in_each_part(rt: HostRuntime) {
 fn is_kind<R: Abort>(rt: &R, kind: Kind, closable: bool, open_to_all: bool) {
     let owner = Caller { number: 3, term: 4 };
     let a = name(kind);
-    same_at(rt, kind.is_closable(), closable, kind);
-    same_at(rt, a.is_confined(), !open_to_all, kind);
-    same_at(rt, a.may_be_used_by(owner), true, kind);
-    same_at(
+    same(rt, (kind.is_closable(), kind), (closable, kind));
+    same(rt, (a.is_confined(), kind), (!open_to_all, kind));
+    same(rt, (a.may_be_used_by(owner), kind), (true, kind));
+    same(
         rt,
-        a.may_be_used_by(Caller { number: 2, ..owner }),
-        open_to_all,
-        kind,
+        (a.may_be_used_by(Caller { number: 2, ..owner }), kind),
+        (open_to_all, kind),
     );
-    same_at(
+    same(
         rt,
-        a.may_be_used_by(Caller { term: 5, ..owner }),
-        open_to_all,
-        kind,
+        (a.may_be_used_by(Caller { term: 5, ..owner }), kind),
+        (open_to_all, kind),
     );
 }
 

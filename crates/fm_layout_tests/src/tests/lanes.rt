@@ -1,14 +1,14 @@
 ghost use Rattle.std.specs.Prelude.{◌≤◌};
 
-use crate::tests::compared::{same, same_at};
+use crate::tests::compared::same;
 use fm_lanes::{Order, Value, ValueKind, bits, decode, encode, mask, read, turned, words_of};
 use std::process::Abort;
 
 /// Stops where the value isn't coded so and read again, or isn't this number.
 fn is_coded<R: Abort>(rt: &R, value: Value, coded: u64, number: i64) {
-    same_at(rt, encode(value), coded, value);
-    same_at(rt, decode(value.kind(), coded), value, coded);
-    same_at(rt, value.number(), number, value);
+    same(rt, (encode(value), value), (coded, value));
+    same(rt, (decode(value.kind(), coded), coded), (value, coded));
+    same(rt, (value.number(), value), (number, value));
 }
 
 #[test]
@@ -28,11 +28,10 @@ fn values_are_coded_in_twos_complement(rt: HostRuntime) {
 
 /// Stops where the byte isn't read as this boolean.
 fn is_boolean<R: Abort>(rt: &R, byte: u64, wanted: bool) {
-    same_at(
+    same(
         rt,
-        decode(ValueKind::Boolean, byte),
-        Value::Boolean(wanted),
-        byte,
+        (decode(ValueKind::Boolean, byte), byte),
+        (Value::Boolean(wanted), byte),
     );
 }
 
@@ -50,9 +49,13 @@ fn is_turned<R: Abort>(rt: &R, width: u32, little: u64, big: u64)
     requires low { 1 ≤ width }
     requires high { width ≤ 8 }
 {
-    same_at(rt, turned(width, little, Order::Big), big, width);
-    same_at(rt, turned(width, big, Order::Big), little, width);
-    same_at(rt, turned(width, little, Order::Little), little, width);
+    same(rt, (turned(width, little, Order::Big), width), (big, width));
+    same(rt, (turned(width, big, Order::Big), width), (little, width));
+    same(
+        rt,
+        (turned(width, little, Order::Little), width),
+        (little, width),
+    );
 }
 
 #[test]
@@ -77,8 +80,12 @@ fn lanes_are_bytes_of_a_word(rt: HostRuntime) {
 
 /// Stops where the kind isn't so wide, or isn't the one of its name.
 fn is_kind<R: Abort>(rt: &R, kind: ValueKind, width: u32) {
-    same_at(rt, kind.width(), width, kind);
-    same_at(rt, ValueKind::named(kind.name()), Some(kind), kind);
+    same(rt, (kind.width(), kind), (width, kind));
+    same(
+        rt,
+        (ValueKind::named(kind.name()), kind),
+        (Some(kind), kind),
+    );
 }
 
 #[test]

@@ -1,4 +1,4 @@
-use crate::tests::compared::{same, same_at};
+use crate::tests::compared::same;
 use crate::tests::record::{Members, add, one, sale, structure, two};
 use crate::tests::rows::answers;
 use crate::tests::told::{told, whole};
@@ -61,7 +61,7 @@ fn has_member<R: Abort>(rt: &R, layout: &Layout, i: u64, wanted: &str) {
         Some(member) => member.name().unwrap_or("no name"),
         None => "no member",
     };
-    same_at(rt, name, wanted, i);
+    same(rt, (name, i), (wanted, i));
 }
 
 /// The size of the layout's element.
@@ -242,7 +242,7 @@ const TOO_LONG: &str = "abcdefghijklmnopqrstuvwxyz_ABCDEFGHIJKLMNOPQRSTUVWXYZ_01
 
 /// Stops where the text is a name, and isn't to be one, or the other way round.
 fn is_named<R: Abort>(rt: &R, text: &str, wanted: bool) {
-    same_at(rt, is_name(text), wanted, text);
+    same(rt, (is_name(text), text), (wanted, text));
 }
 
 /// An int that is named twice.

@@ -1,4 +1,4 @@
-use crate::tests::compared::{same, same_at};
+use crate::tests::compared::same;
 use crate::tests::layouts_read::{nested, read, read_told, wide};
 use crate::tests::layouts_written::{comes_back, is_back, is_so};
 use crate::tests::record::sale;
@@ -64,7 +64,7 @@ fn a_ref_stands_for_the_type_that_it_names(rt: HostRuntime) {
     for row in READ.lines() {
         let (document, written) = cut(row);
         let text = document_of(alloc, document);
-        same_at(&rt, is_read(alloc, &text, written), true, row);
+        same(&rt, (is_read(alloc, &text, written), row), (true, row));
     }
 }
 
@@ -196,7 +196,11 @@ fn nested_type(alloc: Global, inner: usize, outer: usize) -> Result<String, Allo
 /// Stops where t isn't read so, in so many sequences of one.
 fn is_nested<R: Abort>(rt: &R, alloc: Global, inner: usize, outer: usize, wanted: &str) {
     let text = whole(alloc, nested_type(alloc, inner, outer));
-    same_at(rt, read_told(alloc, &text).as_str(), wanted, (inner, outer));
+    same(
+        rt,
+        (read_told(alloc, &text).as_str(), (inner, outer)),
+        (wanted, (inner, outer)),
+    );
 }
 
 #[test]
@@ -231,7 +235,11 @@ fn wide_type(alloc: Global, refs: usize, bytes: usize) -> Result<String, AllocEr
 /// Stops where a struct of t, so many more of it, and of so many bytes isn't read so.
 fn is_wide<R: Abort>(rt: &R, alloc: Global, refs: usize, bytes: usize, wanted: &str) {
     let text = whole(alloc, wide_type(alloc, refs, bytes));
-    same_at(rt, read_told(alloc, &text).as_str(), wanted, (refs, bytes));
+    same(
+        rt,
+        (read_told(alloc, &text).as_str(), (refs, bytes)),
+        (wanted, (refs, bytes)),
+    );
 }
 
 #[test]

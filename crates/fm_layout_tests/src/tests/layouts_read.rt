@@ -1,4 +1,4 @@
-use crate::tests::compared::same_at;
+use crate::tests::compared::same;
 use crate::tests::record::sale;
 use crate::tests::rows::answers;
 use crate::tests::told::{told, whole};
@@ -36,7 +36,7 @@ fn is_sale(alloc: Global, text: &str) -> bool {
 #[test]
 fn reads_a_record(rt: HostRuntime) {
     for text in SALES {
-        same_at(&rt, is_sale(rt.alloc(), text), true, text);
+        same(&rt, (is_sale(rt.alloc(), text), text), (true, text));
     }
 }
 
@@ -86,9 +86,13 @@ fn is_no_json(alloc: Global, bytes: &[u8]) -> bool {
 fn refuses_what_is_no_json(rt: HostRuntime) {
     let alloc = rt.alloc();
     answers(&rt, alloc, read_told, NO_JSON);
-    same_at(&rt, is_no_json(alloc, b"\"\xff\""), true, 0);
-    same_at(&rt, is_no_json(alloc, b"{\"type\":\"int\"\xc3}"), true, 1);
-    same_at(&rt, is_no_json(alloc, b"\xef\xbb\xbf{}"), true, 2);
+    same(&rt, (is_no_json(alloc, b"\"\xff\""), 0), (true, 0));
+    same(
+        &rt,
+        (is_no_json(alloc, b"{\"type\":\"int\"\xc3}"), 1),
+        (true, 1),
+    );
+    same(&rt, (is_no_json(alloc, b"\xef\xbb\xbf{}"), 2), (true, 2));
 }
 
 /// Texts of which a node breaks a rule, and that node's number behind the refusal's.
@@ -172,7 +176,11 @@ pub(crate) fn nested(alloc: Global, levels: usize) -> Result<String, AllocError>
 /// Stops where an int in so many sequences of one isn't read so.
 fn is_nested<R: Abort>(rt: &R, alloc: Global, levels: usize, wanted: &str) {
     let text = whole(alloc, nested(alloc, levels));
-    same_at(rt, read_told(alloc, &text).as_str(), wanted, levels);
+    same(
+        rt,
+        (read_told(alloc, &text).as_str(), levels),
+        (wanted, levels),
+    );
 }
 
 #[test]
@@ -194,7 +202,7 @@ pub(crate) fn wide(alloc: Global, more: usize) -> Result<String, AllocError> {
 /// Stops where a struct of so many bytes, and one, isn't read so.
 fn is_wide<R: Abort>(rt: &R, alloc: Global, more: usize, wanted: &str) {
     let text = whole(alloc, wide(alloc, more));
-    same_at(rt, read_told(alloc, &text).as_str(), wanted, more);
+    same(rt, (read_told(alloc, &text).as_str(), more), (wanted, more));
 }
 
 #[test]

@@ -1,4 +1,4 @@
-use crate::tests::compared::{same, same_at};
+use crate::tests::compared::same;
 use crate::tests::rows::answers;
 use crate::tests::told::{refusal_told, whole};
 use fm_path_text::{NameText, PathStep, parse_path};
@@ -99,6 +99,6 @@ fn takes_names_of_up_to_64_bytes(rt: HostRuntime) {
     same(&rt, name_length("_9"), Some(2));
     same(&rt, name_length(NAME_OF_64), Some(64));
     for text in ["", "9a", "a.b", "\u{e9}", NAME_OF_65] {
-        same_at(&rt, name_length(text), None, text);
+        same(&rt, (name_length(text), text), (None, text));
     }
 }

@@ -1,6 +1,6 @@
 ghost use Rattle.std.specs.Prelude.{◌≡◌};
 
-use crate::tests::compared::same_at;
+use crate::tests::compared::same;
 use std::alloc::Global;
 use std::process::Abort;
 
@@ -23,6 +23,6 @@ pub(crate) fn answers<R: Abort, F: Fn(Global, &str) -> String>(
     for row in rows.lines() {
         let (text, wanted) = cut(row);
         let found = ask(alloc, text);
-        same_at(rt, found.as_str(), wanted, text);
+        same(rt, (found.as_str(), text), (wanted, text));
     }
 }

@@ -4,7 +4,7 @@ mod access;
 mod ranges;
 mod story;
 
-use crate::tests::compared::{same, same_at};
+use crate::tests::compared::same;
 use fm_base::{ArenaId, Kind, Refusal};
 use fm_lanes::ValueKind;
 use fm_layout::Layout;
@@ -62,7 +62,11 @@ fn slices_stay_in_bounds(rt: HostRuntime) {
         (u64::MAX, 1, Err(Refusal::Bounds)),
         (1, u64::MAX, Err(Refusal::Bounds)),
     ] {
-        same_at(&rt, segment.as_slice(offset, size), slice, (offset, size));
+        same(
+            &rt,
+            (segment.as_slice(offset, size), (offset, size)),
+            (slice, (offset, size)),
+        );
     }
     for (offset, slice) in [
         (0, Ok(places(8, 32))),
@@ -70,7 +74,11 @@ fn slices_stay_in_bounds(rt: HostRuntime) {
         (24, Ok(places(32, 32))),
         (25, Err(Refusal::Bounds)),
     ] {
-        same_at(&rt, segment.as_slice_from(offset), slice, offset);
+        same(
+            &rt,
+            (segment.as_slice_from(offset), offset),
+            (slice, offset),
+        );
     }
 }
 
@@ -88,7 +96,11 @@ fn alignments_are_of_places(rt: HostRuntime) {
         (0, 0, 0, Err(Refusal::BadAlignment)),
     ] {
         let found = segment.as_slice_aligned(offset, size, align);
-        same_at(&rt, found, slice, (offset, size, align));
+        same(
+            &rt,
+            (found, (offset, size, align)),
+            (slice, (offset, size, align)),
+        );
     }
 }
 
@@ -133,17 +145,15 @@ fn shares<R: Abort>(rt: &R, first: u64, last: u64, start: u64, end: u64)
     requires low_end { end ≤ 2 ^ 40 }
 {
     let (segment, other) = (places(8, 24), places(first, last));
-    same_at(
+    same(
         rt,
-        segment.overlap(&other),
-        Some(places(start, end)),
-        (first, last),
+        (segment.overlap(&other), (first, last)),
+        (Some(places(start, end)), (first, last)),
     );
-    same_at(
+    same(
         rt,
-        other.overlap(&segment),
-        Some(places(start, end)),
-        (first, last),
+        (other.overlap(&segment), (first, last)),
+        (Some(places(start, end)), (first, last)),
     );
 }
 
@@ -219,7 +229,7 @@ fn refuses_elements<R: Abort>(rt: &R, layout: &Layout, first: u64, last: u64, re
     requires low { last ≤ 2 ^ 40 }
 {
     let found = places(first, last).elements(layout).err();
-    same_at(rt, found, Some(refusal), (first, last));
+    same(rt, (found, (first, last)), (Some(refusal), (first, last)));
 }
 
 #[test]

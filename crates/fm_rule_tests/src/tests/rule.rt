@@ -4,21 +4,13 @@ ghost use Rattle.fm_rule_facts.specs.Hands.{no_number};
 ghost use Rattle.fm_words.specs.Shapes.{IsValid};
 
 use crate::tests::compared::same;
+use crate::tests::words::{GREATEST, LEAST};
 use fm_base::{ArenaId, Kind};
 use fm_rule::{Pass, Pool, alive_holds, mark_of, step_give_page, step_take_page, step_unmark};
 use fm_words::Shape;
 use std::alloc::AllocGlobal;
 use std::process::Abort;
 use std::sync::Wait;
-
-const LEAST: Shape = Shape {
-    passes: 1,
-    slots: 1,
-    pages: 1,
-    page_words: 1,
-    reach: 1,
-    generations: 1,
-};
 
 const LARGER: Shape = Shape {
     passes: 3,
@@ -27,16 +19,6 @@ const LARGER: Shape = Shape {
     page_words: 8,
     reach: 2,
     generations: 5,
-};
-
-/// The most passes, slots, pages, parts and generations, and so the most words.
-const GREATEST: Shape = Shape {
-    passes: 4_096,
-    slots: 64,
-    pages: 4_096,
-    page_words: 4_096,
-    reach: 4_096,
-    generations: u32::MAX,
 };
 
 /// Pages of the most words, which are fewer.

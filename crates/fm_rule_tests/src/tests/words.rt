@@ -7,7 +7,7 @@ use fm_words::{
 };
 use std::process::Abort;
 
-const LEAST: Shape = Shape {
+pub(crate) const LEAST: Shape = Shape {
     passes: 1,
     slots: 1,
     pages: 1,
@@ -16,7 +16,8 @@ const LEAST: Shape = Shape {
     generations: 1,
 };
 
-const GREATEST: Shape = Shape {
+/// The most passes, slots, pages, parts and generations, and so the most words.
+pub(crate) const GREATEST: Shape = Shape {
     passes: 4_096,
     slots: 64,
     pages: 4_096,

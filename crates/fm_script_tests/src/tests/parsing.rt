@@ -1,4 +1,4 @@
-use crate::tests::compared::{same, same_at};
+use crate::tests::compared::same;
 use crate::tests::written::push;
 use fm_base::Refusal;
 use fm_script_text::parse_script;
@@ -26,7 +26,11 @@ fn barred<R: Abort + AllocGlobal>(rt: &R, head: &str, lines: &str) -> String {
 
 fn push_read<R: Abort + AllocGlobal>(rt: &R, text: &mut String, more: &str, at: Option<u64>) {
     push(rt, text, more);
-    same_at(rt, refused_at(rt.alloc(), text.as_str()), at, text.as_str());
+    same(
+        rt,
+        (refused_at(rt.alloc(), text.as_str()), text.as_str()),
+        (at, text.as_str()),
+    );
 }
 
 /// A row's first word, which is a line's number, and the rest.
@@ -38,7 +42,7 @@ fn split_row(row: &str) -> (Option<u64>, &str) {
 fn reads_row<R: Abort + AllocGlobal>(rt: &R, head: &str, row: &str) {
     let (at, lines) = split_row(row);
     let text = barred(rt, head, lines);
-    same_at(rt, refused_at(rt.alloc(), text.as_str()), at, row);
+    same(rt, (refused_at(rt.alloc(), text.as_str()), row), (at, row));
 }
 
 /// Where lines behind the head are refused, 0 where they are read; and the lines. One text, since a prover goes through
@@ -281,7 +285,7 @@ fn wants_last_word<R: Abort + AllocGlobal>(rt: &R, row: &str) {
     let (line, word) = row.split_once('/').unwrap_or((row, ""));
     let mut text = barred(rt, HEAD, line);
     let less = refused_at(rt.alloc(), text.as_str());
-    same_at(rt, less.unwrap_or(0) > 0, true, row);
+    same(rt, (less.unwrap_or(0) > 0, row), (true, row));
     push_read(rt, &mut text, word, Some(0));
     push_read(rt, &mut text, word, less);
 }

@@ -72,7 +72,7 @@ fn a_stream_reads_nothing_past_what_is_needed(rt: HostRuntime) {
 }
 
 /// A layout of so many bytes, of which the first is `a`, and a record file of so many.
-fn records_of<R: AllocGlobal + Abort>(rt: &R, size: usize, count: usize) -> SureFiles {
+fn records_of<R: AllocGlobal + Abort>(rt: &R, (size, count): (usize, usize)) -> SureFiles {
     let padding = size.saturating_sub(1);
     let layout = format!(in rt.alloc();
         "{{\"type\":\"struct\",\"members\":[{{\"type\":\"byte\",\"name\":\"a\"}},{{\"type\":\"padding\",\"size\":{padding}}}]}}"
@@ -96,14 +96,16 @@ const SIZES: &str = "\
 700000 3500000 -> 0 count 5|sum(.a) -154|min(.a) -122|max(.a) 95|
 700000 3499999 -> 6 ragged 699999|";
 
-/// Compares how a stream of a row's sizes ends with what the row tells.
-fn size_ends<R>(rt: &R, row: &str)
-where
-    R: Threads + Wait + Sync + RandomSource + AllocGlobal + Abort,
-{
-    let (line, status, text) = parts_of(rt, row);
+/// The size of a record and that of the file.
+fn sizes_of(line: &str) -> (usize, usize) {
     let (size, count) = line.split_once(' ').unwrap_or((line, ""));
-    let mut files = records_of(rt, size.parse().unwrap_or(0), count.parse().unwrap_or(0));
+    (size.parse().unwrap_or(0), count.parse().unwrap_or(0))
+}
+
+/// Compares how a stream of a row's sizes ends with what the row tells.
+fn size_ends<R: Threads + Wait + Sync + RandomSource + AllocGlobal + Abort>(rt: &R, row: &str) {
+    let (line, status, text) = parts_of(rt, row);
+    let mut files = records_of(rt, sizes_of(line));
     let words = ["stream", "L", "count,sum(.a),min(.a),max(.a)", "R"];
     ends(rt, &mut files, &words, status, &text);
 }
@@ -117,7 +119,7 @@ fn records_of_any_size_fill_chunks(rt: HostRuntime) {
 
 #[test]
 fn a_list_goes_across_chunks_in_the_order_of_the_file(rt: HostRuntime) {
-    let mut files = records_of(&rt, 700_000, 3_500_000);
+    let mut files = records_of(&rt, (700_000, 3_500_000));
     let text = "list(.a) 0 -44 -83 -122 95\n";
     line_ends(&rt, &mut files, "stream --threads 1 L list(.a) R", 0, text);
     line_ends(&rt, &mut files, "stream --threads 3 L list(.a) R", 0, text);

@@ -4,7 +4,7 @@ ghost use Rattle.fm_segment.specs.Access.{HasKind};
 ghost use Rattle.fm_segment.specs.Learnt.{CanUse};
 
 use super::layouts::value;
-use crate::tests::compared::{same, same_at};
+use crate::tests::compared::same;
 use crate::tests::handles::{holds, takes};
 use crate::tests::segments::fresh;
 use fm_base::{Memory, Refusal};
@@ -114,7 +114,7 @@ impl Ground {
         requires { HasKind layout.now (kind_of v) }
     {
         let found = self.s.get(&mut self.m, layout, place);
-        same_at(rt, found, Ok(v), path);
+        same(rt, (found, path), (Ok(v), path));
     }
 
     /// Stops where `get_and_add` doesn't answer so.

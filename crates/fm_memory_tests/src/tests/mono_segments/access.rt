@@ -3,7 +3,7 @@ ghost use Rattle.fm_mono.specs.Shown.{view_of};
 ghost use Rattle.fm_segment.specs.Access.{HasKind};
 ghost use Rattle.fm_segment.specs.Learnt.{CanSet, CanUse};
 
-use crate::tests::compared::same_at;
+use crate::tests::compared::same;
 use crate::tests::segment_calls::{gets, gets_at_index, sets, sets_at_index};
 use crate::tests::segments::{OF_EACH_KIND, anywhere, fresh};
 use fm_base::{Memory, Refusal};
@@ -27,7 +27,7 @@ fn set_and_get<R: Abort + Wait>(
     ensures { CanUse (view_of m.new) s.now }
 {
     sets(rt, m, s, layout, offset, v, Ok(()));
-    same_at(rt, s.get(m, layout, offset), Ok(v), offset);
+    same(rt, (s.get(m, layout, offset), offset), (Ok(v), offset));
 }
 
 /// The value at each place from a word's start to the next word's.
