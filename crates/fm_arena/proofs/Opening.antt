@@ -1,5 +1,5 @@
--- Where a pass finds no slot.
-use Rattle.std.proofs.Common.{◌≡◌, [], ◌∷◌, List, Result, refl, Ok, Err}
+-- Where a pass finds no slot, and what it learns of another handle.
+use Rattle.std.proofs.Common.{◌≡◌, ◌∙◌, [], ◌∷◌, List, Result, ap, refl, sym, Ok, Err}
 use Rattle.fm_base.specs.declared.arena_id.ArenaId.{ArenaId}
 use Rattle.fm_base.specs.declared.kind.Kind.{Kind}
 use Rattle.fm_base.specs.declared.kind.Kind.TheVariants.{Automatic}
@@ -9,8 +9,14 @@ use Rattle.fm_rule_facts.specs.Hands.{Hand, nothing}
 use Rattle.fm_rule_facts.specs.Views.{View}
 use Rattle.fm_rule.specs.declared.pool.Pool.{Pool}
 use Rattle.fm_rule_calls.specs.Kept.{slots_told}
+use Rattle.fm_base.specs.View.{inside_after}
+use Rattle.fm_base.specs.declared.refusal.Refusal.TheVariants.{TooManyHolds}
+use Rattle.fm_gate.specs.Makers.{Made, made_by_pass}
+use Rattle.fm_gate.proofs.Outside.{made_on}
+use Rattle.fm_gate.specs.Learnt as gate
+use Rattle.fm_arena.specs.declared.handle.AutoHandle.{AutoHandle}
 use Rattle.fm_gate.specs.Learnt.{AfterOpen}
-use Rattle.fm_arena.specs.Handles.{AfterStart}
+use Rattle.fm_arena.specs.Handles.{AfterAgain, AfterStart, HasHandle}
 use Rattle.fm_arena.specs.Opening.{HasNoSlot, OpensExactly}
 
 -- Where no slot is told, every arena that was ended is swept.
@@ -50,3 +56,36 @@ starts_not a = record {
   outside = a.outside.outside;
   lasts = a.lasts;
 }
+
+-- ---- another handle
+
+module _ {pool : Pool} {p q : View} (handle : AutoHandle) (has : HasHandle p handle) where
+  still_has : {result : Result (Unit {0}) Refusal} → gate.AfterAgain pool p q handle.arena result → HasHandle q handle
+  still_has a = record {
+    maker = has.maker ∙ sym (made_on a.did.goes);
+    handled = record { known = a.has.known; has = a.has.has; automatic = a.has.automatic };
+  }
+
+  -- What is learnt of one that was taken.
+  pub takes_again : (made : Made) → made ≡ made_by_pass q → gate.AfterAgain pool p q handle.arena (Ok tt)
+      → AfterAgain p q handle (Ok (record { arena = handle.arena; maker = made }))
+  takes_again made is a = record {
+    did = a.did;
+    same = refl;
+    has = still_has a;
+    other = record { maker = is; handled = (still_has a).handled };
+    inside = a.did.goes.inside ∙ ap (inside_after p.inside) a.did.does;
+    lasts = a.lasts;
+  }
+
+  -- And of one that was refused.
+  pub takes_none : (r : Refusal) → gate.AfterAgain pool p q handle.arena (Err r) → AfterAgain p q handle (Err r)
+  takes_none TooManyHolds a = record {
+    did = a.did;
+    same = tt;
+    has = still_has a;
+    other = tt;
+    inside = a.did.goes.inside ∙ ap (inside_after p.inside) a.did.does;
+    lasts = a.lasts;
+  }
+  takes_none r a = absurd a.did.does

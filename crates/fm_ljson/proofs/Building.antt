@@ -1,19 +1,19 @@
 -- Layouts are built one after the other.
-use Rattle.std.proofs.Common.{◌≡◌, ◌⊎◌, inl, inr, ℕ, zero, suc, ◌+◌, ◌-◌, ◌<◌, ◌≤◌, List, [], ◌∷◌, ◌++◌, map, length, drop, get_or, Option, Some, None, Result, Ok, Err, refl, sym, ap, subst, ◌∙◌, arith}
+use Rattle.std.proofs.Common.{◌≡◌, inl, inr, ℕ, zero, suc, ◌+◌, ◌-◌, ◌<◌, ◌≤◌, List, [], ◌∷◌, ◌++◌, map, length, drop, get_or, Option, Some, None, Result, Ok, Err, refl, sym, ap, subst, ◌∙◌, arith}
 use Rattle.std.proofs.lemmas.List.{drop_all, drop_more}
 use Rattle.serde_json.specs.Data.{Data}
 use Rattle.serde_json.specs.View.{view}
 use Rattle.serde_json.specs.declared.value.Value.{Value}
 use Rattle.fm_base.specs.declared.refusal.Refusal.{Refusal}
-use Rattle.fm_base.specs.declared.refusal.Refusal.TheVariants.{BadShape, Memory}
+use Rattle.fm_base.specs.declared.refusal.Refusal.TheVariants.{BadShape}
 use Rattle.fm_layout.specs.Tree.{Tree, Trees, NoMore, More}
 use Rattle.fm_layout.specs.Made.{made, sequence_of, struct_of, union_of}
 use Rattle.fm_layout.specs.Parts.{IsPadding}
 use Rattle.fm_layout.specs.Views.{trees}
 use Rattle.fm_ljson.specs.Node.{Content, Padding, Sequence, Struct, Union, Node, node_of}
 use Rattle.fm_ljson.specs.Node as said
-use Rattle.fm_ljson.specs.Built.{aligned, all_of, built, built_if_any, content_built, copied, copied_as, named, node_built, OrMemory, then}
-use Rattle.fm_ljson.specs.Refs.{Ref, ref_of}
+use Rattle.fm_ljson.specs.Built.{aligned, all_of, built, built_if_any, content_built, copied, named, node_built, OrMemory, then}
+use Rattle.fm_ljson.specs.Refs.{ref_of}
 use Rattle.fm_ljson.specs.Views.{IsPaddingContent, MayBeAligned}
 use Rattle.fm_ljson.proofs.Inside.{node_of-good}
 
@@ -34,11 +34,6 @@ followed_more : (xs : List Tree) (t : Tree) (ts : Trees) → followed (xs ++ t �
 followed_more [] t ts = refl
 followed_more (x ∷ xs) t ts = ap (More x) (followed_more xs t ts)
 
--- Nothing is there at first.
-pub building_start : (all : Result Trees Refusal) → IsBuilding [] all all
-building_start (Ok ts) = refl
-building_start (Err r) = refl
-
 building_next : (done : List Tree) (t : Tree) (rest : Result Trees Refusal)
     → then (λ ts. Ok (followed done ts)) (then (λ ts. Ok (More t ts)) rest) ≡ then (λ ts. Ok (followed (done ++ t ∷ []) ts)) rest
 building_next done t (Ok ts) = ap Ok (sym (followed_more done t ts))
@@ -50,12 +45,6 @@ pub building_more : (done : List Tree) (t : Tree) (all : Result Trees Refusal) (
 building_more done t all r rs h is =
     h ∙ ap (λ x. then (λ ts. Ok (followed done ts)) (then (λ u. then (λ ts. Ok (More u ts)) (all_of rs)) x)) (sym is)
     ∙ building_next done t (all_of rs)
-
--- The first refusal is that of all.
-pub building_refused : (done : List Tree) (e : Refusal) (all : Result Trees Refusal) (r : Result Tree Refusal) (rs : List (Result Tree Refusal))
-    → IsBuilding done all (all_of (r ∷ rs)) → Err e ≡ r → Err e ≡ all
-building_refused done e all r rs h is =
-    sym (h ∙ ap (λ x. then (λ ts. Ok (followed done ts)) (then (λ u. then (λ ts. Ok (More u ts)) (all_of rs)) x)) (sym is))
 
 -- All are there.
 pub building_end : (done : List Tree) (all : Result Trees Refusal) → IsBuilding done all (Ok NoMore) → Ok (trees done) ≡ all
@@ -111,11 +100,6 @@ built_refused known levels d x e deep is h =
     let whole = built_node known levels d x deep is in
     same_refused e _ _ (λ s. sym (whole ∙ ap (then (λ u. then (λ v. Ok (named x.name v)) (aligned x.align u))) (sym s))) h
 
--- An equal copy of the type that a ref names, under its name.
-pub copied_ref : (known : List ℕ → Option Tree) (d : Data) (x : Ref) (o : Option Tree) (r : Result Tree Refusal) → Some x ≡ ref_of d → o ≡ known x.of
-    → OrMemory r (copied_as x.name o) → OrMemory r (copied known (ref_of d))
-copied_ref known d x o r is found h = or_memory r _ _ (ap (copied_as x.name) found ∙ ap (copied known) is) h
-
 -- ---- padding
 
 made_as : (x t : Tree) (o : Option Refusal) → Ok t ≡ made x o → t ≡ x
@@ -167,15 +151,6 @@ pub building_done : (build : Data → Result Tree Refusal) (done : List Tree) (a
     → IsBuilding done all (all_of (map build (map view (drop i vs)))) → Ok (trees done) ≡ all
 building_done build done all vs i past h =
     building_end done all (subst (λ (ws : List Value). IsBuilding done all (all_of (map build (map view ws)))) (drop_all i vs past) h)
-
--- The refusal of the next is that of all, unless memory ran out.
-pub building_stopped : (build : Data
-    → Result Tree Refusal) (done : List Tree) (all : Result Trees Refusal) (vs : List Value) (i : ℕ) (v : Value) (e : Refusal) → i < length vs
-    → v ≡ get_or vs i v
-    → IsBuilding done all (all_of (map build (map view (drop i vs)))) → OrMemory (Err e) (build (view v)) → (e ≡ Memory) ⊎ (Err e ≡ all)
-building_stopped build done all vs i v e here is h (inl m) = inl (cc)
-building_stopped build done all vs i v e here is h (inr r) =
-    inr (building_refused done e all (build (view v)) (map build (map view (drop (i + 1) vs))) (building_item build done all vs i v here is h) r)
 
 -- The layout of the next value is there too.
 pub building_pushed : (build : Data

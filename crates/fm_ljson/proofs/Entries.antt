@@ -1,15 +1,15 @@
 -- What is known behind an entry.
-use Rattle.std.proofs.Common.{◌≡◌, inr, ℕ, ◌+◌, ◌<◌, ◌≤◌, Bool, true, false, cond, List, [], ◌∷◌, ◌++◌, length, map, drop, get_or, Option, Some, None, option_and_then, refl, sym, ap, subst, ◌∙◌, arith, append-nil}
+use Rattle.std.proofs.Common.{◌≡◌, inr, ℕ, ◌+◌, ◌<◌, Bool, true, false, cond, List, [], ◌∷◌, ◌++◌, length, map, drop, get_or, Option, Some, None, option_and_then, refl, sym, ap, subst, ◌∙◌}
 use Rattle.std.specs.Prelude.{nat_lt}
 use Rattle.std.proofs.Math.Path.{fun_ext}
-use Rattle.std.proofs.lemmas.List.{append_assoc, drop_all, drop_more}
+use Rattle.std.proofs.lemmas.List.{append_assoc, drop_more}
 use Rattle.std.proofs.lemmas.Option.{none-some}
 use Rattle.serde_json.specs.Data.{Data}
 use Rattle.serde_json.specs.View.{view}
 use Rattle.serde_json.specs.declared.value.Value.{Value}
 use Rattle.fm_base.specs.declared.refusal.Refusal.TheVariants.{BadShape}
 use Rattle.fm_ljson.specs.Documents.{Entry, Numbered, Parts, at_entry, before, behind, broken_at, entry, entry_of, first_broken_of, first_of, new_entry, numbered, parts_at, parts_from, unless_known}
-use Rattle.fm_ljson.specs.Loops.{AreParts, IsAt, IsBadShape, IsBrokenEntry, IsReading, IsSoundEntry, behind_all}
+use Rattle.fm_ljson.specs.Loops.{IsAt, IsBadShape, IsBrokenEntry, IsReading, IsSoundEntry, behind_all}
 use Rattle.fm_ljson.specs.Nodes.{most_written_nodes}
 use Rattle.fm_ljson.specs.Refs.{also_known, none_known}
 
@@ -29,21 +29,7 @@ by_number false known o e h = absurd (none-some e h)
 pub new_entry-says : (known : List ℕ → Bool) (n : ℕ) (d : Data) (e : Entry) → new_entry known n d ≡ Some e → entry_of d ≡ Some e
 new_entry-says known n d e h = by_number (nat_lt n most_written_nodes) known (entry_of d) e h
 
--- No entry may stand there.
-pub no_entry : (known : List ℕ → Bool) (n : ℕ) (d : Data) → None ≡ new_entry known n d → IsBrokenEntry known n d n
-no_entry known n d h rest = ap (λ o. at_entry n o (λ e. first_of (broken_at known (n + 1) e.layout) (rest e))) (sym h)
-
--- A node of its layout breaks a rule.
-pub broken_entry : (known : List ℕ → Bool) (n m : ℕ) (d : Data) (e : Entry) → Some e ≡ new_entry known n d → broken_at known (n + 1) e.layout ≡ Some m
-    → IsBrokenEntry known n d m
-broken_entry known n m d e is h rest =
-    ap (λ o. at_entry n o (λ e. first_of (broken_at known (n + 1) e.layout) (rest e))) (sym is) ∙ ap (λ o. first_of o (rest e)) h
-
 -- ---- through entries
-
--- Nothing is read at first.
-pub reading_start : (types : List Data) (layout : Data) → IsReading none_known [] 1 types types layout
-reading_start types layout = record { same = refl; parts = refl; few = omega arith }
 
 numbered_entry : (e : Numbered) (n : ℕ) → e.number ≡ n → numbered n (entry e.layout e.name) ≡ e
 numbered_entry e n is = ap (λ k. numbered k (entry e.layout e.name)) (sym is)
@@ -80,14 +66,6 @@ pub reading_broken : (known : List ℕ → Bool) (es : List Numbered) (n m : ℕ
 reading_broken known es n m types rest layout d r h =
     r.same ∙ h (λ e. first_broken_of (also_known e.name known) (behind (n + 1) e.layout) rest layout)
 
--- All entries are read, and the layout behind them.
-pub reading_end : (known : List ℕ → Bool) (es : List Numbered) (n : ℕ) (types : List Data) (layout : Data) → IsReading known es n types [] layout
-    → broken_at known n layout ≡ None → AreParts types layout (record { entries = es; number = n })
-reading_end known es n types layout r none = record {
-  none = r.same ∙ none;
-  same = sym (r.parts ∙ ap (λ xs. record { entries = xs; number = n }) (append-nil es));
-}
-
 -- A node that is refused.
 pub bad_at : (o : Option ℕ) (n : ℕ) → o ≡ Some n → IsBadShape o (BadShape n)
 bad_at o n is = inr (subst (λ p. IsAt p (BadShape n)) (sym is) refl)
@@ -102,9 +80,3 @@ pub reading_item : (known : List ℕ → Bool) (es : List Numbered) (n : ℕ) (t
 reading_item known es n types layout vs i v here is r =
     let next : drop i vs ≡ v ∷ drop (i + 1) vs = drop_more vs i v here ∙ ap (λ (w : Value). w ∷ drop (i + 1) vs) (sym is) in
     subst (λ (ws : List Value). IsReading known es n types (map view ws) layout) next r
-
--- None of the values is left.
-pub reading_done : (known : List ℕ → Bool) (es : List Numbered) (n : ℕ) (types : List Data) (layout : Data) (vs : List Value) (i : ℕ) → length vs ≤ i
-    → IsReading known es n types (map view (drop i vs)) layout → IsReading known es n types [] layout
-reading_done known es n types layout vs i past r =
-    subst (λ (ws : List Value). IsReading known es n types (map view ws) layout) (drop_all i vs past) r

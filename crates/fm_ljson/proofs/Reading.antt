@@ -1,5 +1,5 @@
 -- Bytes that have a reading, and bytes that have none; what is answered of a value that was read.
-use Rattle.std.proofs.Common.{◌≡◌, ℕ, Bool, true, false, cond, List, [], Option, Some, None, Result, Err, inl, inr, IsUtf8, refl, sym, ap, subst, ◌∙◌, true≢false}
+use Rattle.std.proofs.Common.{◌≡◌, ℕ, Bool, true, false, cond, List, [], Option, Some, None, Result, Err, inl, inr, IsUtf8, refl, sym, ap, ◌∙◌, true≢false}
 use Rattle.std.specs.Str.{is_utf8}
 use Rattle.std.proofs.lemmas.Str.{IsUtf8-from_is_utf8, is_utf8-from_IsUtf8}
 use Rattle.serde_json.specs.Data.{Data}
@@ -13,13 +13,12 @@ use Rattle.std.specs.Prelude.{String}
 use Rattle.std.specs.declared.alloc.Global.{Global}
 use Rattle.fm_base.specs.declared.refusal.Refusal.TheVariants.{BadJson, BadShape}
 use Rattle.fm_layout.specs.Tree.{Tree}
-use Rattle.fm_ljson.specs.Answer.{fault_in_document, layout_if_read, layout_of_data, layout_of_json, layout_of_text, shaped}
+use Rattle.fm_ljson.specs.Answer.{layout_if_read, layout_of_data, layout_of_json, layout_of_text, shaped}
 use Rattle.fm_ljson.specs.Causes.{IsJsonOf}
-use Rattle.fm_ljson.specs.Built.{OrMemory, built, built_behind, built_of}
+use Rattle.fm_ljson.specs.Built.{OrMemory, built}
 use Rattle.fm_ljson.specs.Counted.{AreSound}
-use Rattle.fm_ljson.specs.Documents.{One, Parts, Two, document, first_broken_of, first_of}
-use Rattle.fm_ljson.specs.Loops.{AreParts, IsAt, IsBadShape}
-use Rattle.fm_ljson.specs.Measured.{large_in, large_of}
+use Rattle.fm_ljson.specs.Documents.{One, first_of}
+use Rattle.fm_ljson.specs.Loops.{IsAt, IsBadShape}
 use Rattle.fm_ljson.specs.Nodes.{first_broken, most_levels, most_nodes, nodes}
 use Rattle.fm_ljson.specs.Refs.{none_known, unknown}
 use Rattle.fm_ljson.proofs.Building.{or_memory}
@@ -80,32 +79,3 @@ first_at (Some n) b r h = h
 refused_at : (o : Option ℕ) (r : Refusal) (made : Result Tree Refusal) → IsBadShape o r → OrMemory (Err r) (shaped o made)
 refused_at o r made (inl h) = inl (ap Err h)
 refused_at o r made (inr h) = inr (at_node o r made h)
-
-first_refused : (a b : Option ℕ) (r : Refusal) → IsBadShape a r → IsBadShape (first_of a b) r
-first_refused a b r (inl h) = inl h
-first_refused a b r (inr h) = inr (first_at a b r h)
-
-pub two_broken : (types : List Data) (layout : Data) (r : Refusal) → IsBadShape (first_broken_of none_known 1 types layout) r
-    → OrMemory (Err r) (layout_of_text (Two (document layout types)))
-two_broken types layout r h =
-    refused_at (fault_in_document (document layout types)) r (built_of (document layout types))
-    (first_refused (first_broken_of none_known 1 types layout) (large_of (document layout types)) r h)
-
--- where no written rule is broken, the first that is too large is refused
-two_measured : (types : List Data) (layout : Data) (parts : Parts) → AreParts types layout parts
-    → fault_in_document (document layout types) ≡ large_in parts layout
-two_measured types layout parts are =
-    ap (λ o. first_of o (large_of (document layout types))) are.none ∙ ap (λ (p : Parts). large_in p layout) (sym are.same)
-
-pub two_large : (types : List Data) (layout : Data) (parts : Parts) (r : Refusal) → AreParts types layout parts → IsBadShape (large_in parts layout) r
-    → OrMemory (Err r) (layout_of_text (Two (document layout types)))
-two_large types layout parts r are h =
-    refused_at (fault_in_document (document layout types)) r (built_of (document layout types))
-    (subst (λ o. IsBadShape o r) (sym (two_measured types layout parts are)) h)
-
-pub two_built : (types : List Data) (layout : Data) (parts : Parts) (r : Result Tree Refusal) → AreParts types layout parts → large_in parts layout ≡ None
-    → OrMemory r (built_behind unknown parts.entries layout) → OrMemory r (layout_of_text (Two (document layout types)))
-two_built types layout parts r are small h =
-    or_memory r _ _
-    (ap (λ (p : Parts). built_behind unknown p.entries layout) are.same
-    ∙ sym (ap (λ o. shaped o (built_of (document layout types))) (two_measured types layout parts are ∙ small))) h

@@ -1,6 +1,6 @@
 -- What a layout object says by itself, where it breaks no rule of its own.
-use Rattle.std.specs.Prelude.{ℕ, Bool, true, ◌&&◌, ◌||◌, false, Option, Some, None, List, [], ◌∷◌, length, codes, bytes_eq, nat_le, if◌then◌else◌, option_map, option_and_then, unwrap_or}
-use Rattle.std.specs.List.{list_all, list_any}
+use Rattle.std.specs.Prelude.{ℕ, Bool, true, ◌&&◌, ◌||◌, false, Option, Some, None, List, [], ◌∷◌, length, codes, nat_le, if◌then◌else◌, option_map, option_and_then, unwrap_or}
+use Rattle.std.specs.List.{list_all}
 use Rattle.serde_json.specs.Data.{Data, Items, no_items, item, Members, no_members, member}
 use Rattle.serde_json.specs.Find.{as_array, as_number, as_object, as_str, as_u64, get_member}
 use Rattle.fm_lanes.specs.declared.order.Order.{Order}
@@ -11,7 +11,7 @@ use Rattle.fm_layout.specs.WellFormed.{limit}
 use Rattle.fm_lanes.specs.Named.{order_named}
 use Rattle.fm_ljson.specs.declared.type_name.TypeName.{TypeName}
 use Rattle.fm_ljson.specs.declared.type_name.TypeName.TheVariants as type_name
-use Rattle.fm_ljson.specs.Types.{keys_of, type_named}
+use Rattle.fm_ljson.specs.Types.{is_among, keys_of, type_named}
 
 -- what a layout is: its type, and what its type's own keys say
 pub data Content : Type 0 where
@@ -77,7 +77,7 @@ optional value key ms = if_any value (get_member key ms)
 -- all keys are among these
 abbrev pub has_only : List (List ℕ) → Members → Bool
 has_only keys no_members = true
-has_only keys (member k d ms) = list_any (bytes_eq k) keys && has_only keys ms
+has_only keys (member k d ms) = is_among keys k && has_only keys ms
 
 -- ---- objects
 

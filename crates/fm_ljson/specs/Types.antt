@@ -1,5 +1,6 @@
 -- The types of layout objects, and the keys that an object may have.
-use Rattle.std.specs.Prelude.{ℕ, Option, List, [], ◌∷◌, codes, bytes_eq, find}
+use Rattle.std.specs.List.{list_any}
+use Rattle.std.specs.Prelude.{ℕ, Bool, Option, List, [], ◌∷◌, codes, bytes_eq, find}
 use Rattle.fm_lanes.specs.declared.value_kind.ValueKind.TheVariants.{Byte, Boolean, Char, Short, Int, Long}
 use Rattle.fm_lanes.specs.Named.{kind_text}
 use Rattle.fm_ljson.specs.declared.type_name.TypeName.{TypeName}
@@ -38,3 +39,7 @@ keys_in (Layout t) = keys_of t
 keys_in Ref = codes "type" ∷ codes "of" ∷ codes "name" ∷ []
 keys_in Entry = codes "define" ∷ codes "layout" ∷ []
 keys_in Document = codes "version" ∷ codes "types" ∷ codes "layout" ∷ []
+
+-- a key is among these
+abbrev pub is_among : List (List ℕ) → List ℕ → Bool
+is_among keys key = list_any (λ k. bytes_eq k key) keys

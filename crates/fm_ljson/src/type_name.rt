@@ -1,7 +1,7 @@
 ghost use Rattle.std.specs.Prelude.{◌≡◌};
 ghost use Rattle.std.specs.List.{list_any};
 ghost use Rattle.std.specs.Str.{bytes_eq};
-ghost use Rattle.fm_ljson.specs.Types.{keys_of, type_named};
+ghost use Rattle.fm_ljson.specs.Types.{is_among, keys_of, type_named};
 
 use fm_lanes::ValueKind;
 
@@ -34,16 +34,20 @@ pub(crate) fn type_named(text: &str) -> Option<TypeName>
 
 /// Whether an object of this type may have this key.
 pub(crate) fn is_key_of(type_name: TypeName, key: &str) -> bool
-    ensures { result ≡ list_any (bytes_eq key.now) (keys_of type_name) }
+    ensures { result ≡ is_among (keys_of type_name) key.now }
 {
-    if key == "type" || key == "name" {
-        return true;
-    }
     match type_name {
-        TypeName::Value(_) => key == "order" || key == "align",
-        TypeName::Padding => key == "size",
-        TypeName::Sequence => key == "align" || key == "count" || key == "element",
-        TypeName::Struct => key == "align" || key == "members",
-        TypeName::Union => key == "align" || key == "members",
+        TypeName::Value(_) => is_one_of(key, &["type", "name", "order", "align"]),
+        TypeName::Padding => is_one_of(key, &["type", "name", "size"]),
+        TypeName::Sequence => is_one_of(key, &["type", "name", "align", "count", "element"]),
+        TypeName::Struct => is_one_of(key, &["type", "name", "align", "members"]),
+        TypeName::Union => is_one_of(key, &["type", "name", "align", "members"]),
     }
+}
+
+/// Whether the key is one of these.
+pub(crate) fn is_one_of(key: &str, keys: &[&str]) -> bool
+    ensures { result ≡ list_any (λ k. bytes_eq k.now key.now) keys.now }
+{
+    keys.contains(&key)
 }

@@ -1,5 +1,5 @@
 -- Values that are alone in their records, one record after the other.
-use Rattle.std.proofs.Common.{◌≡◌, ℕ, zero, suc, ◌+◌, ◌*◌, ◌/◌, ◌≤◌, true, Result, Ok, Err, List, [], ◌∷◌, get_or, refl, sym, ap, subst, arith}
+use Rattle.std.proofs.Common.{◌≡◌, ℕ, zero, suc, ◌+◌, ◌*◌, ◌/◌, ◌≤◌, true, Result, Ok, Err, List, [], ◌∷◌, refl, sym, ap, subst, arith}
 use Rattle.std.specs.Prelude.{ℤ}
 use Rattle.std.specs.List.{AllByRecursion, AllZip}
 use Rattle.fm_base.specs.declared.refusal.Refusal.{Refusal}
@@ -135,21 +135,3 @@ module _ {s : Region} {p : Plan} (is : IsCounted p) where
           whole x k e = absurd k
 
 -- ---- what is found at first
-
--- a count alone
-pub counted_alone : {p : Plan} (fs : List Found) (e : Found) → IsCounted p → AreFew 0 p fs → fs ≡ get_or fs 0 e ∷ []
-counted_alone {p} fs e is few = alone fs (subst (λ (xs : List Item). AllZip (IsFew 0) xs fs) is.items few)
-  where
-    alone : (gs : List Found) → AllZip (IsFew 0) (is.item ∷ []) gs → gs ≡ get_or gs 0 e ∷ []
-    alone [] h = absurd h
-    alone (g ∷ []) h = refl
-    alone (g ∷ k ∷ gs) h = absurd h.1
-
--- a query of one item finds one thing
-pub column_alone : {p : Plan} {r : Resolution} (fs : List Found) (e : Found) → IsColumn p r → AreFew 0 p fs → fs ≡ get_or fs 0 e ∷ []
-column_alone {p} {r} fs e is few = alone fs (subst (λ (xs : List Item). AllZip (IsFew 0) xs fs) is.items few)
-  where
-    alone : (gs : List Found) → AllZip (IsFew 0) (is.item ∷ []) gs → gs ≡ get_or gs 0 e ∷ []
-    alone [] h = absurd h
-    alone (g ∷ []) h = refl
-    alone (g ∷ k ∷ gs) h = absurd h.1

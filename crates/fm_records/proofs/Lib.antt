@@ -20,6 +20,7 @@ pub mod ReadingBytes
 pub mod Recording
 pub mod Seeing
 pub mod Sent
+pub mod Shapes
 pub mod Sharing
 pub mod Standing
 pub mod Steps

@@ -1,5 +1,6 @@
 -- The numbers that stand in a width.
-use Rattle.std.specs.Prelude.{ℕ, List, ℤ}
+use Rattle.std.specs.Prelude.{◌≡◌, ℕ, Bool, List, [], ◌∷◌, ◌++◌, ℤ, Result, Ok, true, false, ◌↔◌, IfOk, OnErr}
+use Rattle.fm_base_bytes.specs.Signed.{FitsBytes}
 use Rattle.fm_lanes.specs.declared.value_kind.ValueKind.{ValueKind}
 use Rattle.fm_lanes.specs.declared.value_kind.ValueKind.TheVariants.{Char}
 use Rattle.fm_lanes.specs.Kind.{width_of}
@@ -23,3 +24,10 @@ width_in (Longs v) = 8
 abbrev pub number_width : ValueKind → ℕ
 number_width Char = 4
 number_width kind = width_of kind
+
+-- a number stands behind those before where the width holds it, and if there was memory
+pub record IsPut {E : Type 0} (width : ℕ) (old new : List ℤ) (number : ℤ) (result : Result Bool E) : Type 0 where
+  pub put : result ≡ Ok true → new ≡ old ++ number ∷ []
+  pub wide : result ≡ Ok false → new ≡ old
+  pub fits : IfOk result (λ did. did ≡ true ↔ FitsBytes width number)
+  pub same : OnErr result (new ≡ old)

@@ -1,13 +1,13 @@
-ghost use Rattle.std.specs.Prelude.{◌≡◌, ◌++◌, [], ◌≤◌, length, take, drop, IfOk, OnOk, OnErr, IfErr};
-ghost use Rattle.fm_records.specs.Answers.{answer};
+ghost use Rattle.std.specs.Prelude.{◌≡◌, ◌++◌, [], ◌≤◌, length, map, take, drop, IfOk, OnOk, OnErr, IfErr};
+ghost use Rattle.fm_records.specs.Answers.{answer, item_found};
 ghost use Rattle.fm_records.specs.Few.{AreFew};
 ghost use Rattle.fm_records.specs.Joined.{CanJoin, joined};
 ghost use Rattle.fm_records.specs.Kept.{Becomes};
 
 use crate::found::Found;
 use fm_base::Refusal;
-use fm_records_query::Query;
-use std::alloc::Global;
+use fm_records_query::{Item, Query};
+use std::alloc::{AllocError, Global};
 use std::marker::Model;
 
 /// What a query answers: what each item finds, in the order of the items.
@@ -66,13 +66,18 @@ pub fn of_no_records(alloc: Global, q: &Query) -> Result<Answer, Refusal>
     ensures few { IfOk result (AreFew 0 q.now) }
     ensures memory { IfErr result (λ refusal. refusal ≡ Refusal.Memory) }
 {
+    Ok(Answer::of(found_in_none(alloc, q.items())?))
+}
+
+/// What each item finds in no records.
+fn found_in_none(alloc: Global, items: &[Item]) -> Result<Vec<Found>, AllocError>
+    ensures { IfOk result (λ found. found.items ≡ map (item_found []) items.now) }
+{
     let mut found = Vec::new(alloc);
-    for item in q.items() {
-        if found.push(Found::in_none(alloc, &item.asked)).is_err() {
-            return Err(Refusal::Memory);
-        }
+    for item in items {
+        found.push(Found::in_none(alloc, &item.asked))?;
     }
-    Ok(Answer::of(found))
+    Ok(found)
 }
 
 /// Joins what was found from item `k` on.

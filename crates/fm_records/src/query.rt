@@ -67,6 +67,20 @@ fn add_records<M: Memory>(
     if let Some(path) = column_of(q) {
         return add_column(m, s, q, path, &mut found[0]);
     }
+    add_each(m, s, q, found)
+}
+
+/// The same record by record.
+fn add_each<M: Memory>(
+    m: &mut M,
+    s: &Segment,
+    q: &Query,
+    found: &mut [Found],
+) -> Result<(), Refusal>
+    requires can { CanRead (M.view m.old) s.now }
+    requires few { AreFew 0 q.now found.old }
+    ensures { AddsSegment (M.view m.old) (M.view m.new) s.now q.now found.old found.new result }
+{
     let size = q.record_size();
     let count = s.size() / size;
     let mut kept = Kept::none();

@@ -1,6 +1,6 @@
-ghost use Rattle.std.specs.Prelude.{◌≡◌, ◌++◌, ◌∷◌, [], ◌<◌, length, slice_index_or, take, pos, true, false, ◌↔◌, IfOk, OnErr};
+ghost use Rattle.std.specs.Prelude.{◌≡◌, ◌++◌, ◌∷◌, [], ◌<◌, length, slice_index_or, take, pos, true, false, ◌↔◌, IfOk, OnOk, OnErr};
 ghost use Rattle.fm_base_bytes.specs.Signed.{FitsBytes};
-ghost use Rattle.fm_records.specs.Stored.{number_width, numbers_of, width_in};
+ghost use Rattle.fm_records.specs.Stored.{IsPut, number_width, numbers_of, width_in};
 
 use fm_lanes::ValueKind;
 use std::alloc::{AllocError, Global};
@@ -62,27 +62,11 @@ impl Stored {
         ensures same { OnErr result (numbers_of self.new ≡ numbers_of self.old) }
     {
         match self {
-            Stored::Bytes(items) => {
-                if number < -128 || number > 127 {
-                    return Ok(false);
-                }
-                items.push(number as i8)?;
-            }
-            Stored::Shorts(items) => {
-                if number < -32_768 || number > 32_767 {
-                    return Ok(false);
-                }
-                items.push(number as i16)?;
-            }
-            Stored::Ints(items) => {
-                if number < -2_147_483_648 || number > 2_147_483_647 {
-                    return Ok(false);
-                }
-                items.push(number as i32)?;
-            }
-            Stored::Longs(items) => items.push(number)?,
+            Stored::Bytes(items) => put_byte(items, number),
+            Stored::Shorts(items) => put_short(items, number),
+            Stored::Ints(items) => put_int(items, number),
+            Stored::Longs(items) => put_long(items, number),
         }
-        Ok(true)
     }
 
     /// Adds numbers of the same width at the end.
@@ -93,19 +77,12 @@ impl Stored {
         ensures same { OnErr result (numbers_of self.new ≡ numbers_of self.old) }
     {
         match (self, more) {
-            (Stored::Bytes(items), Stored::Bytes(more)) => items.extend_from_slice(
-                more.as_slice(),
-            )?,
-            (Stored::Shorts(items), Stored::Shorts(more)) => {
-                items.extend_from_slice(more.as_slice())?
-            }
-            (Stored::Ints(items), Stored::Ints(more)) => items.extend_from_slice(more.as_slice())?,
-            (Stored::Longs(items), Stored::Longs(more)) => items.extend_from_slice(
-                more.as_slice(),
-            )?,
-            _ => return Ok(false),
+            (Stored::Bytes(items), Stored::Bytes(more)) => extended(items, more),
+            (Stored::Shorts(items), Stored::Shorts(more)) => extended(items, more),
+            (Stored::Ints(items), Stored::Ints(more)) => extended(items, more),
+            (Stored::Longs(items), Stored::Longs(more)) => extended(items, more),
+            _ => Ok(false),
         }
-        Ok(true)
     }
 
     /// Keeps the first `n` alone.
@@ -119,4 +96,59 @@ impl Stored {
             Stored::Longs(items) => items.truncate(n),
         }
     }
+}
+
+/// Adds a number at the end, if a byte holds it.
+#[inline(always)]
+fn put_byte(items: &mut Vec<i8>, number: i64) -> Result<bool, AllocError>
+    ensures { IsPut 1 items.old.items items.new.items number result }
+{
+    if number < -128 || number > 127 {
+        return Ok(false);
+    }
+    items.push(number as i8)?;
+    Ok(true)
+}
+
+/// The same of a short.
+#[inline(always)]
+fn put_short(items: &mut Vec<i16>, number: i64) -> Result<bool, AllocError>
+    ensures { IsPut 2 items.old.items items.new.items number result }
+{
+    if number < -32_768 || number > 32_767 {
+        return Ok(false);
+    }
+    items.push(number as i16)?;
+    Ok(true)
+}
+
+/// The same of an int.
+#[inline(always)]
+fn put_int(items: &mut Vec<i32>, number: i64) -> Result<bool, AllocError>
+    ensures { IsPut 4 items.old.items items.new.items number result }
+{
+    if number < -2_147_483_648 || number > 2_147_483_647 {
+        return Ok(false);
+    }
+    items.push(number as i32)?;
+    Ok(true)
+}
+
+/// The same of a long, which holds each.
+#[inline(always)]
+fn put_long(items: &mut Vec<i64>, number: i64) -> Result<bool, AllocError>
+    ensures { IsPut 8 items.old.items items.new.items number result }
+{
+    items.push(number)?;
+    Ok(true)
+}
+
+/// Adds all of these at the end.
+fn extended<T: Copy>(items: &mut Vec<T>, more: &Vec<T>) -> Result<bool, AllocError>
+    ensures put { OnOk result (items.new.items ≡ items.old.items ++ more.now.items) }
+    ensures did { IfOk result (λ did. did ≡ true) }
+    ensures same { OnErr result (items.new.items ≡ items.old.items) }
+{
+    items.extend_from_slice(more.as_slice())?;
+    Ok(true)
 }

@@ -2,7 +2,7 @@ ghost use Rattle.std.specs.Prelude.{◌≡◌, ◌++◌, codes, IsErrOf, OnOk, s
 ghost use Rattle.std.specs.List.{flat_map};
 ghost use Rattle.fm_io.specs.Count.{Counts, Raised};
 ghost use Rattle.fm_io.specs.Sending.{Sends};
-ghost use Rattle.fm_io.specs.Sink.{Appends, AppendsPrefix};
+ghost use Rattle.fm_io.specs.Sink.{Appends, AppendsPrefix, SinkView};
 ghost use Rattle.fm_records.specs.Texts.{answer_text, lines_text, line_text, found_text, end_text, number_text};
 
 use crate::answer::Answer;
@@ -11,7 +11,7 @@ use crate::numbers::Numbers;
 use fm_io::{Fault, Sink, send_piece, send_rest};
 use fm_records_query::{Item, Query};
 use itoa::Buffer;
-use std::alloc::{AllocError, Global};
+use std::alloc::Global;
 
 /// Writes the answer's text: a line for each item, the item's text, a space and what it found.
 ///
@@ -68,10 +68,10 @@ fn send_found<O: Sink>(out: &mut O, text: &mut String, found: &Found) -> Result<
         (string_bytes text.old) (string_bytes text.new) (found_text found.now) result }
 {
     match found {
-        Found::Count(n) => Ok(push_spaced(text, Buffer::new().format(*n))?),
-        Found::Sum(n) => Ok(push_spaced(text, Buffer::new().format(*n))?),
-        Found::Least(n) => Ok(push_end(text, *n)?),
-        Found::Greatest(n) => Ok(push_end(text, *n)?),
+        Found::Count(n) => push_spaced(text, Buffer::new().format(*n)),
+        Found::Sum(n) => push_spaced(text, Buffer::new().format(*n)),
+        Found::Least(n) => push_end(text, *n),
+        Found::Greatest(n) => push_end(text, *n),
         Found::Listed(numbers) => send_numbers(out, text, numbers),
     }
 }
@@ -95,8 +95,8 @@ fn send_number<O: Sink>(out: &mut O, text: &mut String, number: i64) -> Result<(
     send_piece(out, text)
 }
 
-fn push_end(text: &mut String, end: Option<i64>) -> Result<(), AllocError>
-    ensures { OnOk result (string_bytes text.new ≡ string_bytes text.old ++ end_text end) }
+fn push_end(text: &mut String, end: Option<i64>) -> Result<(), Fault>
+    ensures { (out : SinkView) → Sends out out (string_bytes text.old) (string_bytes text.new) (end_text end) result }
 {
     match end {
         None => push_spaced(text, "none"),
@@ -104,9 +104,10 @@ fn push_end(text: &mut String, end: Option<i64>) -> Result<(), AllocError>
     }
 }
 
-/// Adds a space and a word.
-fn push_spaced(text: &mut String, word: &str) -> Result<(), AllocError>
-    ensures { OnOk result (string_bytes text.new ≡ string_bytes text.old ++ (codes " " ++ word.now)) }
+/// Adds a space and a word to what pends. Nothing is written.
+fn push_spaced(text: &mut String, word: &str) -> Result<(), Fault>
+    ensures { (out : SinkView) → Sends out out
+        (string_bytes text.old) (string_bytes text.new) (codes " " ++ word.now) result }
 {
     text.push(' ')?;
     text.push_str(word)?;

@@ -1,6 +1,6 @@
 ghost use Rattle.std.specs.Prelude.{◌≡◌, IfOk};
 ghost use Rattle.std.specs.String.{string_bytes};
-ghost use Rattle.fm_path_text.specs.Grammar.{piece_of, path_text};
+ghost use Rattle.fm_path_text.specs.Grammar.{piece_of, pieces_of, path_text};
 ghost use Rattle.fm_records_query.specs.Grammar.{item_text, condition_text};
 
 use crate::syntax::{ConditionSyntax, ItemSyntax};
@@ -39,6 +39,13 @@ fn path_text(alloc: Global, path: &[PathStep]) -> Result<String, AllocError>
     if path.is_empty() {
         return Ok(String::from_str(alloc, ".")?);
     }
+    pieces_text(alloc, path)
+}
+
+/// The steps one behind the other.
+fn pieces_text(alloc: Global, path: &[PathStep]) -> Result<String, AllocError>
+    ensures { IfOk result (λ text. string_bytes text ≡ pieces_of path.now) }
+{
     let mut text = String::new(alloc);
     for (k, step) in path.iter().enumerate() {
         let piece = piece_text(alloc, step)?;

@@ -144,37 +144,9 @@ named_says text x e = option_and_then_some (λ y. option_zip (who_named y.0) (co
       spelled = cut3_gives text y f ∙ k.text y.0 ∙ ap (λ (v : List ℕ). spaced (v ∷ words_of x.1)) w.1;
     })
 
--- a verb that is none names no command
-pub unnamed : (verb args : List ℕ) → (verb ≡ codes "open" → ⊥) → (verb ≡ codes "alloc" → ⊥) → (verb ≡ codes "slice" → ⊥)
-    → (verb ≡ codes "readonly" → ⊥) → (verb ≡ codes "get" → ⊥) → (verb ≡ codes "set" → ⊥)
-    → (verb ≡ codes "add" → ⊥) → (verb ≡ codes "cas" → ⊥) → (verb ≡ codes "fill" → ⊥) → (verb ≡ codes "copy" → ⊥)
-    → (verb ≡ codes "mismatch" → ⊥) → (verb ≡ codes "alive" → ⊥) → (verb ≡ codes "hold" → ⊥) → (verb ≡ codes "unhold" → ⊥)
-    → (verb ≡ codes "again" → ⊥) → (verb ≡ codes "back" → ⊥) → (verb ≡ codes "close" → ⊥)
-    → None ≡ command_named verb args
-unnamed verb args not_open not_alloc not_slice not_readonly not_get not_set not_add not_cas not_fill not_copy not_mismatch not_alive not_hold not_unhold
-    not_again not_back not_close =
-    sym (rw (
-      differs verb (codes "open") not_open,
-      differs verb (codes "alloc") not_alloc,
-      differs verb (codes "slice") not_slice,
-      differs verb (codes "readonly") not_readonly,
-      differs verb (codes "get") not_get,
-      differs verb (codes "set") not_set,
-      differs verb (codes "add") not_add,
-      differs verb (codes "cas") not_cas,
-      differs verb (codes "fill") not_fill,
-      differs verb (codes "copy") not_copy,
-      differs verb (codes "mismatch") not_mismatch,
-      differs verb (codes "alive") not_alive,
-      differs verb (codes "hold") not_hold,
-      differs verb (codes "unhold") not_unhold,
-      differs verb (codes "again") not_again,
-      differs verb (codes "back") not_back,
-      differs verb (codes "close") not_close,
-    ) refl)
-  where
-    differs : (verb text : List ℕ) → (verb ≡ text → ⊥) → bytes_eq verb text ≡ false
-    differs verb text none = false_from_ne_true _ (λ t. none ((bytes_eq-Decides verb text).0 t))
+-- the test for a text that the verb isn't
+pub differs : (verb text : List ℕ) → (verb ≡ text → ⊥) → bytes_eq verb text ≡ false
+differs verb text none = false_from_ne_true _ (λ t. none ((bytes_eq-Decides verb text).0 t))
 
 -- ---- what isn't a line
 

@@ -52,10 +52,6 @@ lines_are_one sources ls ms a b = lines_once ls ms (sym a.are ∙ b.are) a.said 
 
 -- ---- where lines break
 
--- behind lines that were admitted, a line of this number says nothing that is
-Breaks : List Line → Source → Type 0
-Breaks before s = (l : Line) → Says s.text l.who l.command → IsAdmitted before l.who l.command → ⊥
-
 -- the same behind one more, in another grouping
 grouped : (pre before : List Line) (l : Line) (s : Source) → ((m : Line) → Says s.text m.who m.command → IsAdmitted (pre ++ l ∷ before) m.who m.command → ⊥)
     → (m : Line) → Says s.text m.who m.command → IsAdmitted ((pre ++ l ∷ []) ++ before) m.who m.command → ⊥

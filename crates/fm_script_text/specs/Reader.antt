@@ -156,6 +156,29 @@ swapped text = option_and_then (λ x. with_two (cell_named x.0 x.1 x.2) x.3 x.4)
 
 -- ---- commands
 
+-- what they ask for of an arena, a hold or a handle
+abbrev pub arena_command : List ℕ → List ℕ → Option Command
+arena_command verb args =
+    if bytes_eq verb (codes "alive") then option_map (λ a. Alive a) (name_named args)
+    else (if bytes_eq verb (codes "hold") then option_map (λ x. Hold x.0 x.1) (two args)
+    else (if bytes_eq verb (codes "unhold") then option_map (λ h. Unhold h) (name_named args)
+    else (if bytes_eq verb (codes "again") then option_map (λ x. Again x.0 x.1) (two args)
+    else (if bytes_eq verb (codes "back") then option_map (λ h. Back h) (name_named args)
+    else (if bytes_eq verb (codes "close") then option_map (λ a. Close a) (name_named args)
+    else None)))))
+
+-- what they ask for of the bytes of a segment, or of an arena
+abbrev pub bytes_command : List ℕ → List ℕ → Option Command
+bytes_command verb args =
+    if bytes_eq verb (codes "get") then option_map (λ c. Get c) (got args)
+    else (if bytes_eq verb (codes "set") then option_map (λ x. Set x.0 x.1) (valued args)
+    else (if bytes_eq verb (codes "add") then option_map (λ x. Add x.0 x.1) (valued args)
+    else (if bytes_eq verb (codes "cas") then option_map (λ x. Cas x.0 x.1 x.2) (swapped args)
+    else (if bytes_eq verb (codes "fill") then option_map (λ x. Fill x.0 x.1) (filled args)
+    else (if bytes_eq verb (codes "copy") then option_map (λ x. Copy x.0 x.1) (two args)
+    else (if bytes_eq verb (codes "mismatch") then option_map (λ x. Mismatch x.0 x.1) (two args)
+    else arena_command verb args))))))
+
 -- what a verb and its arguments ask for
 abbrev pub command_named : List ℕ → List ℕ → Option Command
 command_named verb args =
@@ -163,20 +186,7 @@ command_named verb args =
     else (if bytes_eq verb (codes "alloc") then option_map (λ x. Alloc x.0.0 x.0.1 x.1.0 x.1.1) (sized args)
     else (if bytes_eq verb (codes "slice") then option_map (λ x. Slice x.0.0 x.0.1 x.1.0 x.1.1) (sized args)
     else (if bytes_eq verb (codes "readonly") then option_map (λ x. Readonly x.0 x.1) (two args)
-    else (if bytes_eq verb (codes "get") then option_map (λ c. Get c) (got args)
-    else (if bytes_eq verb (codes "set") then option_map (λ x. Set x.0 x.1) (valued args)
-    else (if bytes_eq verb (codes "add") then option_map (λ x. Add x.0 x.1) (valued args)
-    else (if bytes_eq verb (codes "cas") then option_map (λ x. Cas x.0 x.1 x.2) (swapped args)
-    else (if bytes_eq verb (codes "fill") then option_map (λ x. Fill x.0 x.1) (filled args)
-    else (if bytes_eq verb (codes "copy") then option_map (λ x. Copy x.0 x.1) (two args)
-    else (if bytes_eq verb (codes "mismatch") then option_map (λ x. Mismatch x.0 x.1) (two args)
-    else (if bytes_eq verb (codes "alive") then option_map (λ a. Alive a) (name_named args)
-    else (if bytes_eq verb (codes "hold") then option_map (λ x. Hold x.0 x.1) (two args)
-    else (if bytes_eq verb (codes "unhold") then option_map (λ h. Unhold h) (name_named args)
-    else (if bytes_eq verb (codes "again") then option_map (λ x. Again x.0 x.1) (two args)
-    else (if bytes_eq verb (codes "back") then option_map (λ h. Back h) (name_named args)
-    else (if bytes_eq verb (codes "close") then option_map (λ a. Close a) (name_named args)
-    else None))))))))))))))))
+    else bytes_command verb args)))
 
 -- who runs the line, and what it asks for
 abbrev pub line_named : List ℕ → Option (Who × Command)

@@ -1,5 +1,5 @@
 ghost use Rattle.std.specs.Prelude.{◌≡◌};
-ghost use Rattle.fm_script_text.specs.Reader.{opening, two, filled, sized, cell_named, with_value, with_two, got, valued, swapped, command_named, line_named};
+ghost use Rattle.fm_script_text.specs.Reader.{opening, two, filled, sized, cell_named, with_value, with_two, got, valued, swapped, arena_command, bytes_command, command_named, line_named};
 
 use crate::cell::Cell;
 use crate::command::Command;
@@ -38,6 +38,15 @@ fn command_of(verb: &str, args: &str) -> Option<Command>
             size,
         }),
         "readonly" => two(args).map(|(segment, name)| Command::Readonly { segment, name }),
+        _ => bytes_command_of(verb, args),
+    }
+}
+
+/// What they ask for of the bytes of a segment, or of an arena.
+fn bytes_command_of(verb: &str, args: &str) -> Option<Command>
+    ensures { result ≡ bytes_command verb.now args.now }
+{
+    match verb {
         "get" => got(args).map(Command::Get),
         "set" => valued(args).map(|(cell, value)| Command::Set(cell, value)),
         "add" => valued(args).map(|(cell, value)| Command::Add(cell, value)),
@@ -45,6 +54,15 @@ fn command_of(verb: &str, args: &str) -> Option<Command>
         "fill" => filled(args).map(|(segment, byte)| Command::Fill { segment, byte }),
         "copy" => two(args).map(|(source, target)| Command::Copy { source, target }),
         "mismatch" => two(args).map(|(segment, other)| Command::Mismatch { segment, other }),
+        _ => arena_command_of(verb, args),
+    }
+}
+
+/// What they ask for of an arena, a hold or a handle.
+fn arena_command_of(verb: &str, args: &str) -> Option<Command>
+    ensures { result ≡ arena_command verb.now args.now }
+{
+    match verb {
         "alive" => name_of(args).map(|arena| Command::Alive { arena }),
         "hold" => two(args).map(|(arena, name)| Command::Hold { arena, name }),
         "unhold" => name_of(args).map(|hold| Command::Unhold { hold }),

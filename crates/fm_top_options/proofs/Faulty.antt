@@ -18,7 +18,3 @@ fault_second (k ∷ ks) b f = tt
 pub or_else-nil : (a : Kinds) → or_else a [] ≡ a
 or_else-nil [] = refl
 or_else-nil (k ∷ ks) = refl
-
-pub or_else-assoc : (a b c : Kinds) → or_else (or_else a b) c ≡ or_else a (or_else b c)
-or_else-assoc [] b c = refl
-or_else-assoc (k ∷ ks) b c = refl

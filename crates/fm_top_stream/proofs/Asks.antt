@@ -1,11 +1,10 @@
 -- What a crew answers over a chunk, and what stands then of the next one.
-use Rattle.std.proofs.Common.{◌≡◌, ◌≢◌, ℕ, ◌+◌, ◌%◌, ◌<◌, ◌≤◌, List, map, Option, Some, None, Result, Ok, Err, refl, ap, sym, ◌∙◌, subst, arith}
+use Rattle.std.proofs.Common.{◌≡◌, ◌≢◌, ℕ, ◌+◌, ◌<◌, ◌≤◌, List, map, Option, Some, None, Result, Ok, Err, refl, ap, sym, ◌∙◌, subst, arith}
 use Rattle.std.specs.Prelude.{IfOk, IfSome}
 use Rattle.std.specs.List.{range_with_len}
 use Rattle.std.proofs.lemmas.List.{append-nil}
 use Rattle.fm_base_bytes.specs.Words.{byte_at}
 use Rattle.fm_base.specs.declared.arena_id.ArenaId.{ArenaId}
-use Rattle.fm_base.specs.declared.kind.Kind.TheVariants.{Confined, Shared}
 use Rattle.fm_base.specs.Arenas.{Arena, arena_of}
 use Rattle.fm_io.specs.Files.{Contents}
 use Rattle.fm_records_query.specs.Plan.{Plan}
@@ -16,14 +15,13 @@ use Rattle.fm_rule_facts.specs.Views.{View, IsKnown, limit_of, state_in}
 use Rattle.fm_rule.specs.declared.pool.Pool.{Pool}
 use Rattle.fm_segment.specs.Region.{Region}
 use Rattle.fm_words.specs.declared.shape.Shape.{Shape}
-use Rattle.fm_workers.specs.Beside.{CanQueryBeside}
 use Rattle.fm_top_load.specs.declared.chunk.Chunk.{Chunk}
 use Rattle.fm_top_load.specs.declared.chunk.Part.{Part}
 use Rattle.fm_top_load.specs.declared.load_fault.LoadFault.{LoadFault}
 use Rattle.fm_top_load.specs.Held.{IsHeld}
 use Rattle.fm_top_pooled.specs.Shown.{AsksWord}
-use Rattle.fm_top_pooled.specs.Stocked.{IsAlone, IsStockedOf, bytes_in_pool}
-use Rattle.fm_top_pooled.proofs.Shows.{can_ask, pooled_is}
+use Rattle.fm_top_pooled.specs.Stocked.{IsStockedOf, bytes_in_pool}
+use Rattle.fm_top_pooled.proofs.Shows.{pooled_is}
 use Rattle.fm_top_stream.specs.Ahead.{AsksAhead, CanAskBeside, CanPutAs}
 use Rattle.fm_top_stream.specs.Gone.{AnswersAhead, CanAnswer}
 use Rattle.fm_top_stream.specs.declared.ahead.Ahead.{Ahead}
@@ -32,15 +30,6 @@ use Rattle.fm_top_stream.specs.declared.putting.Putting.{Putting}
 use Rattle.fm_top_stream.specs.Steps.{Answers, AnswersBeside, AnswersOn, Gives, Opens}
 use Rattle.fm_top_stream.proofs.Going.{goes_then}
 use Rattle.fm_top_stream.proofs.Runs.{ends_here}
-
--- A query can be asked of a segment of the pool, beside which its pass may do something.
-pub can_query_beside : {n : ℕ} {pool : Pool} {v : View} {s : Region} {p : Plan} (threads : ℕ) → IsAlone v.gathered pool v → IsStockedOf n pool v s → 0 < threads → threads ≤ 16
-    → s.size % p.size ≡ 0 → CanQueryBeside pool v p s threads
-can_query_beside {p = p} threads alone stocked some few even = record {
-  query = can_ask p threads stocked some few;
-  shares = record { outside = alone.outside; no_page = alone.no_page };
-  open_to_all = record { even = even; shared = λ e. let no : Confined ≡ Shared = sym e ∙ stocked.shared in absurd (cc) };
-}
 
 module _ {part : Part} {told : Option Contents} {threads : ℕ} {p : Plan} {pool : Pool} {v : View} {s : Region} {buffer : List ℕ} {first : Chunk}
     (can : CanAnswer part told threads p pool v s buffer first) where

@@ -1,6 +1,7 @@
 -- What a crew answered over a segment, and what its drawer put beside that.
-use Rattle.std.proofs.Common.{◌≡◌, ◌≢◌, ℕ, ◌+◌, ◌≤◌, List, length, Option, Some, Result, Ok, Err, ap, sym, ◌∙◌, subst}
-use Rattle.std.specs.Prelude.{IfOk}
+use Rattle.std.proofs.Common.{◌≡◌, ◌≢◌, ℕ, ◌+◌, ◌≤◌, List, length, Option, Some, None, Result, Ok, Err, refl, ap, sym, ◌∙◌, subst}
+use Rattle.std.specs.Prelude.{IfErr, IfOk, IfSome}
+use Rattle.std.specs.Result.{result_err}
 use Rattle.fm_base.specs.declared.arena_id.ArenaId.{ArenaId}
 use Rattle.fm_base.specs.declared.caller.Caller.{Caller}
 use Rattle.fm_base.specs.declared.refusal.Refusal.{Refusal}
@@ -15,14 +16,17 @@ use Rattle.fm_segment.specs.Region.{Region}
 use Rattle.fm_workers.specs.Beside.{AskedBeside}
 use Rattle.fm_top_load.specs.declared.chunk.Chunk.{Chunk}
 use Rattle.fm_top_load.specs.declared.load_fault.LoadFault.{LoadFault}
+use Rattle.fm_top_load.specs.declared.load_fault.LoadFault.TheVariants.{Memory}
 use Rattle.fm_top_load.specs.declared.put_fault.PutFault.{PutFault}
 use Rattle.fm_top_load.specs.declared.put_fault.PutFault.TheVariants.{Refused}
-use Rattle.fm_top_load.specs.Putting.{DoesPutPart, StopsPutting}
+use Rattle.fm_top_load.specs.Putting.{DoesPutPart, StopsPutting, load_fault_of}
 use Rattle.fm_top_load.specs.Reading.{GoesBy, ReadsFurther}
+use Rattle.fm_top_load.specs.Whole.{TellsLoad}
+use Rattle.fm_top_load.proofs.Telling.{read_quietly, tells_memory}
 use Rattle.fm_top_stream.specs.declared.ahead.Ahead.{Ahead}
 use Rattle.fm_top_stream.specs.declared.placed.Placed.{Placed}
 use Rattle.fm_top_stream.specs.declared.putting.Putting.{Putting}
-use Rattle.fm_top_stream.specs.Ahead.{AsksAhead, IsBoth, IsFollowed, PutsAhead, WasLetIn}
+use Rattle.fm_top_stream.specs.Ahead.{AsksAhead, IsBoth, IsFollowed, IsNeither, PutsAhead, WasLetIn}
 use Rattle.fm_top_stream.specs.Steps.{AnswersBeside}
 use Rattle.fm_top_stream.proofs.Chunking.{further_says}
 use Rattle.fm_top_stream.proofs.Refusing.{never_refused}
@@ -72,6 +76,22 @@ module _ {m q : View} {s : Region} {plan : Plan} {threads : ℕ} {old new : File
       further_says x.part.limit puts.reads (λ next goes.
       subst (λ (n : Option Placed). IsFollowed x.part.at n next) (sym both.next)
       (subst (λ (e : Result Chunk PutFault). IfOk e (λ chunk. GoesBy chunk.ended (x.part.at + chunk.count) next)) (put_is puts both.chunk both.put) goes))
+
+  -- What was put tells of the files, and else memory was wanting.
+  pub tells_ahead : (result : Result Ahead LoadFault) → IfOk result (IsBoth q answer y) → IfErr result (IsNeither y)
+      → TellsLoad ⊥ x.part.limit old new x.part.name.now (result_err result)
+  tells_ahead (Ok r) both none =
+      let puts = asked.crew.acts in
+      subst (λ (e : Result Chunk PutFault). TellsLoad ⊥ x.part.limit old new x.part.name.now (load_fault_of e)) (put_is puts both.chunk both.put) puts.tells
+  tells_ahead (Err fault) both none =
+      let puts = asked.crew.acts in
+      by_fault (load_fault_of puts.put) puts.tells (none.read puts.put puts.is) (none.other puts.put puts.is)
+    where
+      by_fault : (o : Option LoadFault) → TellsLoad ⊥ x.part.limit old new x.part.name.now o → IfSome o (λ f. f ≡ fault) → (o ≡ None → fault ≡ Memory)
+          → TellsLoad ⊥ x.part.limit old new x.part.name.now (Some fault)
+      by_fault (Some f) tells is none = subst (λ (f : LoadFault). TellsLoad ⊥ x.part.limit old new x.part.name.now (Some f)) is tells
+      by_fault None tells is none =
+          subst (λ (f : LoadFault). TellsLoad ⊥ x.part.limit old new x.part.name.now (Some f)) (sym (none refl)) (tells_memory (read_quietly tells))
 
   -- The first pass was let in.
   pub was_let_in : {passes most : ℕ} {pool : Pool} {p : View} → AwaitsBeside passes most pool p m s x.arena → WasLetIn y

@@ -1,34 +1,14 @@
 -- The reads of a stream, each behind those before.
-use Rattle.std.proofs.Common.{◌≡◌, ℕ, ◌+◌, ◌≤◌, min, List, length, take, true, false, Option, None, refl, ap, sym, subst, ◌∙◌, arith}
-use Rattle.fm_io.specs.Files.{Contents, EndsBefore}
+use Rattle.std.proofs.Common.{◌≡◌, ℕ, ◌+◌, List, false, Option, Some, None, refl, ◌∙◌}
 use Rattle.fm_io.specs.Reads.{Read, Next, ReadsFile, At}
 use Rattle.fm_io.specs.View.{FilesView, Leaves}
 use Rattle.fm_io.proofs.Left.{leaves_none, leaves_then}
 use Rattle.fm_top_load.specs.declared.load_fault.LoadFault.{LoadFault}
-use Rattle.fm_top_load.specs.Reached.{IsNextPiece}
+use Rattle.fm_top_load.specs.declared.load_fault.LoadFault.TheVariants.{Memory}
 use Rattle.fm_top_load.specs.Reading.{GoesBy, ReadsFurther, piece_limit}
-use Rattle.fm_top_load.specs.Whole.{CanRead, TellsLoad}
-use Rattle.fm_top_load.proofs.Chunks.{no_bytes_from}
+use Rattle.fm_top_load.specs.Whole.{TellsLoad}
 use Rattle.fm_top_load.proofs.Following.{chunk_reads, reads_then}
-use Rattle.fm_top_load.proofs.Placing.{none_taken}
-use Rattle.fm_top_load.proofs.Telling.{read_quietly, tells_then}
-
--- Where the file ends before the place, nothing is its next piece.
-pub no_piece : {limit most at : ℕ} {told : Option Contents} {name buffer : List ℕ} → CanRead limit at buffer → EndsBefore told name at
-    → IsNextPiece limit most told name at buffer (record { count = 0; ended = true })
-no_piece {limit} {most} {at} {told} {name} {buffer} read ends =
-    let none : length (take 0 buffer) ≡ 0 = ap length (none_taken buffer) in
-    let short = read.short in
-    record {
-      small = omega arith;
-      bytes = record {
-        bytes = no_bytes_from told name at (take 0 buffer) (none_taken buffer);
-        short = omega (arith, none, short);
-        within = subst (λ n. n ≤ min piece_limit most) (sym none) (omega arith);
-        full = λ e. absurd (cc);
-        ends = λ e. subst (EndsBefore told name) (omega (arith, none)) ends;
-      };
-    }
+use Rattle.fm_top_load.proofs.Telling.{read_quietly, tells_memory, tells_then}
 
 -- They were read on, and on.
 pub further_then : (limit : ℕ) {old mid new : Option (List Read)} {name : List ℕ} {Starts Goes Says : Next → Type 0} → ReadsFurther old mid name limit Starts Goes
@@ -44,11 +24,6 @@ further_says limit {Goes = Goes} {Says = Says} reads says before from h = chunk_
 pub further_some : (limit : ℕ) {old new : Option (List Read)} {name : List ℕ} {Starts Goes : Next → Type 0} → ReadsFurther old new name limit Starts Goes
     → ReadsFurther old new name limit Starts (λ next. Unit {0})
 further_some limit reads = further_says limit reads (λ next goes. tt)
-
--- Nothing was read where the file had ended.
-pub further_none : (limit : ℕ) {at there : ℕ} {old : Option (List Read)} {name : List ℕ} → ReadsFurther old old name limit (GoesBy true at) (GoesBy true there)
-further_none limit {at = at} {there = there} before from h =
-    chunk_reads {Goes = GoesBy true at} {Says = GoesBy true there} h refl (λ next goes. (goes.0, λ e. absurd (cc)))
 
 -- The next piece was read.
 pub further_by : (limit : ℕ) {at : ℕ} {old new : Option (List Read)} {name : List ℕ} {Goes : Next → Type 0} → ReadsFile old new name piece_limit (limit + 1) at Goes
@@ -83,3 +58,7 @@ tells_none {new = new} left = tells_then left (record {
   absent = λ e. absurd (cc);
   pool_full = λ e. absurd (cc);
 })
+
+-- Nothing was read where memory was wanting before that.
+pub tells_no_memory : (v : FilesView) {Full : Type 0} {limit : ℕ} {name : List ℕ} → TellsLoad Full limit v v name (Some Memory)
+tells_no_memory v = tells_memory (leaves_none v (λ e. e) (λ e. e))

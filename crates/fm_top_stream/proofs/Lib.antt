@@ -2,6 +2,7 @@ pub mod Going
 pub mod Chunking
 pub mod Waiting
 pub mod Fills
+pub mod Faulty
 pub mod Reading
 pub mod Elsewhere
 pub mod Rounds

@@ -9,6 +9,9 @@ pub loop-init : goal.loop-init
 loop-init g c =
     (recorded_none (g.M.Memory.view c.args.m.now) c.args.s.now c.args.q.now (g.A.Adder.found c.args.adder.now ∷ []), omega (arith, c.first-place.ensures.first))
 
+one_on : (k size : ℕ) → suc k * size ≡ k * size + size
+one_on k size = grind arith
+
 below : {n k size : ℕ} (j : ℕ) → n ≡ size → (m : ℕ) → k ≡ m → j < n / k → j < size / m
 below {n} {k} {size} j is m same h = subst (λ (i : ℕ). j < i) (ap (λ i. i / k) is ∙ ap (λ i. size / i) same) h
 
@@ -28,12 +31,17 @@ returns-in-Err g c =
     (column_recorded c.requires.column (g.A.Adder.found c.loop.adder) (g.A.Adder.found c.add_value_as.new.adder) (Err c.in-Err.refusal) c.offset-at.ensures
     c.value-value.ensures room c.in-Err.ensures)
 
+pub overflow_add-place : goal.overflow_add-place
+overflow_add-place g c =
+    let more = below c.loop.counter c.size.ensures.size c.args.q.now.size c.record_size-size.ensures.size c.loop-test.true in
+    omega (arith, (next_lies c.loop.invariant.0 c.loop.invariant.1 more).within, c.requires.can.ends, c.record_size-size.ensures.size)
+
 pub loop-preserved : goal.loop-preserved
 loop-preserved g c =
     let more = below c.loop.counter c.size.ensures.size c.args.q.now.size c.record_size-size.ensures.size c.loop-test.true in
     let a = c.loop.invariant.0 in
     let room = next_room a c.loop.invariant.1 more c.record_size-size.ensures.plan c.requires.can.ends c.requires.few in
-    let next : suc c.loop.counter * c.args.q.now.size ≡ c.loop.counter * c.args.q.now.size + c.args.q.now.size = grind arith in (
+    let next = one_on c.loop.counter c.args.q.now.size in (
       recorded_more a c.loop.invariant.1 more
           (column_recorded c.requires.column (g.A.Adder.found c.loop.adder) (g.A.Adder.found c.add_value_as.new.adder) (Ok c.in-Ok.field-0) c.offset-at.ensures
           c.value-value.ensures room c.in-Ok.ensures),

@@ -1,8 +1,28 @@
 -- The values are read and added index by index.
-use Rattle.std.proofs.Common.{arith}
+use Rattle.std.proofs.Common.{◌-◌, length, arith}
 use Rattle.fm_records.proofs.Adding.{added_start, added_all}
 use Rattle.fm_records.proofs.Reaching.{turn_inside, turn_can, turn_added, turn_stops}
+use Rattle.fm_records.proofs.Shapes.{is_none, is_one, is_some}
 use Rattle.fm_records.proofs.values.+adding.Goals as goal
+
+pub add_all-add_value-requires : goal.add_all-add_value-requires
+add_all-add_value-requires g t c = rw (is_none c.args.dims.now c.in-empty.len_below) at c.requires
+
+pub add_all-add_row-requires : goal.add_all-add_row-requires
+add_all-add_row-requires g t c = rw (is_one c.args.dims.now c.in-len1.len_at_least c.in-len1.len_below) at c.requires
+
+pub add_all-add_rows-requires : goal.add_all-add_rows-requires
+add_all-add_rows-requires g t c κs within =
+    (omega (arith, c.decreases), (within, rw (is_some c.args.dims.now (length c.args.dims.now - 1) (omega arith) (omega arith)) at c.requires))
+
+pub add_all-returns-in-empty : goal.add_all-returns-in-empty
+add_all-returns-in-empty g t c = rw (is_none c.args.dims.now c.in-empty.len_below) c.add_value.ensures
+
+pub add_all-returns-in-len1 : goal.add_all-returns-in-len1
+add_all-returns-in-len1 g t c = rw (is_one c.args.dims.now c.in-len1.len_at_least c.in-len1.len_below) c.add_row.ensures
+
+pub add_all-returns-in-len1-up : goal.add_all-returns-in-len1-up
+add_all-returns-in-len1-up g t c = rw (is_some c.args.dims.now (length c.args.dims.now - 1) (omega arith) (omega arith)) c.add_rows.ensures
 
 pub add_rows-loop-i-init : goal.add_rows-loop-i-init
 add_rows-loop-i-init g t c = added_start (g.M.Memory.view c.args.m.now)

@@ -12,3 +12,14 @@ returns-in_err-push g c =
     let p = err_from_is_err_and c.from_residual-in_err-push.result c.from_residual-in_err-push.ensures.1 in
     rw (p.1, p.2, ← c.as_str.ensures)
     (sent_then (pushed _ _ _ _ c.in_ok-push_str.ensures.bytes) (sent_then c.in_ok-send_found.ensures (not_pushed _ _ _ _)))
+
+pub returns-in_err-push_str : goal.returns-in_err-push_str
+returns-in_err-push_str g c =
+    let p = err_from_is_err_and c.from_residual.result c.from_residual.ensures.1 in
+    rw (p.1, p.2) (not_pushed _ _ _ _)
+
+pub returns : goal.returns
+unfolding lib.Utf8.encode
+returns g c =
+    rw (← c.as_str.ensures)
+    (sent_then (pushed _ _ _ _ c.in_ok-push_str.ensures.bytes) (sent_then c.in_ok-send_found.ensures (pushed _ _ _ _ c.in_ok-push.ensures.bytes)))

@@ -1,8 +1,19 @@
 use Rattle.std.proofs.Common.{refl, arith}
+use Rattle.fm_io.proofs.Left.{leaves_none}
 use Rattle.fm_top_stream.proofs.Asks.{answers_ahead}
+use Rattle.fm_top_stream.proofs.Chunking.{tells_no_memory, tells_none}
 use Rattle.fm_top_stream.proofs.answering.answered.Goals as goal
 
 pub returns-clause-answers : goal.returns-clause-answers
 returns-clause-answers g c =
     answers_ahead c.requires c.opened-arena.ensures c.given.ensures _ refl refl (omega (arith, c.if-first-eq0.false)) c.asked_beside.result
     c.asked_beside.ensures.asks
+
+pub returns-in-Ok-clause-tells : goal.returns-in-Ok-clause-tells
+returns-in-Ok-clause-tells g c = tells_none (leaves_none (g.F.Files.view c.args.files.now) (λ e. e) (λ e. e))
+
+pub returns-in-Err-clause-tells : goal.returns-in-Err-clause-tells
+returns-in-Err-clause-tells g c = tells_no_memory (g.F.Files.view c.args.files.now)
+
+pub returns-clause-tells : goal.returns-clause-tells
+returns-clause-tells g c = c.asked_beside.ensures.tells

@@ -6,7 +6,7 @@ use Rattle.fm_records.specs.declared.found.Found.{Found}
 use Rattle.fm_workers.specs.Beside.{AskedBeside, AsksBeside}
 use Rattle.fm_top_stream.specs.declared.putting.Putting.{Putting}
 use Rattle.fm_top_stream.specs.Ahead.{PutsAhead}
-use Rattle.fm_top_stream.proofs.Beside.{asks_ahead, follows_ahead, was_let_in}
+use Rattle.fm_top_stream.proofs.Beside.{asks_ahead, follows_ahead, tells_ahead, was_let_in}
 use Rattle.fm_top_stream.proofs.Rounds.{still_beside}
 use Rattle.fm_top_stream.proofs.asking.asked_beside.Goals as goal
 
@@ -31,6 +31,17 @@ returns-in-Ok-clause-reads g c =
     follows_ahead (subst (λ (y : FilesView × Putting). AskedBeside (PutsAhead y.0 (view c.query_beside-back.new.with) y.1 c.query_beside-back.new.beside c.loop.pass.caller)
     crew.threads c.loop.pass c.query_beside-back.result.0 crew.q.now c.args.s.now c.in-Ok.answer) (λ j. (view (i.files j), i.putting j)) asked)
     c.both.result c.both.ensures.both
+
+pub returns-in-Ok-clause-tells : goal.returns-in-Ok-clause-tells
+returns-in-Ok-clause-tells g c =
+    let view = g.F.Files.view in
+    let crew = c.args.crew.now in
+    let i = c.loop.invariant in
+    let asked = subst (AsksBeside (PutsAhead (view c.loop.files) (view c.query_beside-back.new.with) c.loop.putting c.query_beside-back.new.beside c.loop.pass.caller)
+    crew.threads c.loop.pass c.query_beside-back.result.0 crew.q.now c.args.s.now) c.in-Ok.is c.query_beside-back.ensures.asks in
+    tells_ahead (subst (λ (y : FilesView × Putting). AskedBeside (PutsAhead y.0 (view c.query_beside-back.new.with) y.1 c.query_beside-back.new.beside c.loop.pass.caller)
+    crew.threads c.loop.pass c.query_beside-back.result.0 crew.q.now c.args.s.now c.in-Ok.answer) (λ j. (view (i.files j), i.putting j)) asked)
+    c.both.result c.both.ensures.both c.both.ensures.neither
 
 pub both-requires : goal.both-requires
 both-requires g c =

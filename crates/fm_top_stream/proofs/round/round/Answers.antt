@@ -3,7 +3,7 @@ use Rattle.fm_io.specs.Files.{Contents}
 use Rattle.fm_io.proofs.Left.{leaves_then}
 use Rattle.fm_top_load.specs.declared.load_fault.LoadFault.{LoadFault}
 use Rattle.fm_top_load.specs.Whole.{TellsLoad}
-use Rattle.fm_top_load.proofs.Telling.{read_quietly, tells_memory}
+use Rattle.fm_top_load.proofs.Telling.{read_quietly, tells_memory, tells_then}
 use Rattle.fm_top_stream.specs.Steps.{AnswersOn}
 use Rattle.fm_top_stream.proofs.Chunking.{further_some, further_then}
 use Rattle.fm_top_stream.proofs.GoesOn.{goes_by, goes_on, next_joins}
@@ -44,3 +44,9 @@ returns-in-Err-joined-clause-tells g c =
     let part = c.args.part.now in
     subst (λ (fault : LoadFault). TellsLoad ⊥ part.limit (g.F.Files.view c.args.files.now) (g.F.Files.view c.answered.new.files) part.name.now (Some fault))
     (sym c.in-Err-joined.ensures.memory) (tells_memory (leaves_then (read_quietly c.in-Ok.ensures.tells) (read_quietly c.in-Ok-answered.ensures.tells)))
+
+pub returns-in-Ok-joined-clause-tells : goal.returns-in-Ok-joined-clause-tells
+returns-in-Ok-joined-clause-tells g c = tells_then (read_quietly c.in-Ok.ensures.tells) c.in-Ok-answered.ensures.tells
+
+pub returns-in-Err-answered-clause-tells : goal.returns-in-Err-answered-clause-tells
+returns-in-Err-answered-clause-tells g c = tells_then (read_quietly c.in-Ok.ensures.tells) c.in-Err-answered.ensures.tells

@@ -1,6 +1,9 @@
 use Rattle.std.proofs.Common.{◌<◌, ap, sym, subst, ◌∙◌}
 use Rattle.fm_rule.specs.Views.{first_pass, numbers_of}
+use Rattle.fm_io.proofs.Left.{leaves_none}
+use Rattle.fm_top_load.proofs.Telling.{read_quietly}
 use Rattle.fm_top_stream.proofs.Ends.{can_go, some_in_chunk, streamed}
+use Rattle.fm_top_stream.proofs.Faulty.{told_memory, told_nothing}
 use Rattle.fm_top_stream.proofs.stream.stream_with.Goals as goal
 
 pub go_through-requires-clause-can : goal.go_through-requires-clause-can
@@ -14,3 +17,15 @@ returns-in-Ok-finish-clause-streams g c =
     let most = c.chunk_bytes-most.ensures in
     streamed c.chunk_bytes-most.result most.is (subst (λ n. 0 < n) (sym most.is) (some_in_chunk c.args.q.now.size most.sized c.requires.small))
     (c.in-Ok.ensures.pool ∙ c.shape_of.ensures.is) (c.in-Ok-go_through.ensures.goes.whole c.if-rest-ne0.false) c.in-Ok-finish.ensures.finishes
+
+pub returns-in_default-clause-tells : goal.returns-in_default-clause-tells
+returns-in_default-clause-tells g c = told_memory (leaves_none (g.F.Files.view c.args.files.now) (λ e. e) (λ e. e))
+
+pub returns-in_default-zero_bytes-clause-tells : goal.returns-in_default-zero_bytes-clause-tells
+returns-in_default-zero_bytes-clause-tells g c = told_memory (leaves_none (g.F.Files.view c.args.files.now) (λ e. e) (λ e. e))
+
+pub returns-in-Ok-finish-clause-tells : goal.returns-in-Ok-finish-clause-tells
+returns-in-Ok-finish-clause-tells g c = told_nothing (read_quietly c.in-Ok-go_through.ensures.tells)
+
+pub returns-in-Err-finish-clause-tells : goal.returns-in-Err-finish-clause-tells
+returns-in-Err-finish-clause-tells g c = told_memory (read_quietly c.in-Ok-go_through.ensures.tells)

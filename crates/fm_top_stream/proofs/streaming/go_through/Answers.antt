@@ -8,7 +8,7 @@ use Rattle.fm_top_load.proofs.Chunks.{no_bytes_from}
 use Rattle.fm_top_load.proofs.Telling.{read_quietly, tells_then}
 use Rattle.fm_top_stream.specs.Chunks.{stream_file_limit}
 use Rattle.fm_top_stream.specs.Gone.{GoneSoFar}
-use Rattle.fm_top_stream.proofs.Chunking.{further_says, further_some, further_then, reads_further}
+use Rattle.fm_top_stream.proofs.Chunking.{further_says, further_some, further_then, reads_further, tells_no_memory, tells_none}
 use Rattle.fm_top_stream.proofs.GoesOn.{empty_file, gone_none}
 use Rattle.fm_top_stream.proofs.Runs.{ends_here}
 use Rattle.fm_top_stream.proofs.streaming.go_through.Goals as goal
@@ -57,3 +57,12 @@ returns-in-Ok-begun-clause-tells g c =
 pub returns-in-Err-begun-clause-reads : goal.returns-in-Err-begun-clause-reads
 returns-in-Err-begun-clause-reads g c =
     reads_further stream_file_limit c.in-Ok-read_piece.ensures.reads (further_some stream_file_limit c.in-Err-begun.ensures.reads)
+
+pub returns-in_default-clause-tells : goal.returns-in_default-clause-tells
+returns-in_default-clause-tells g c = tells_no_memory (g.F.Files.view c.args.files.now)
+
+pub returns-then-first-eq0-clause-tells : goal.returns-then-first-eq0-clause-tells
+returns-then-first-eq0-clause-tells g c = tells_none (read_quietly c.in-Ok-read_piece.ensures.tells)
+
+pub returns-in-Err-begun-clause-tells : goal.returns-in-Err-begun-clause-tells
+returns-in-Err-begun-clause-tells g c = tells_then (read_quietly c.in-Ok-read_piece.ensures.tells) c.in-Err-begun.ensures.tells

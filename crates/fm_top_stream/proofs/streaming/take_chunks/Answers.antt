@@ -3,7 +3,7 @@ use Rattle.std.specs.Prelude.{IfSome}
 use Rattle.fm_io.specs.Files.{Contents}
 use Rattle.fm_io.proofs.Left.{leaves_then}
 use Rattle.fm_top_load.specs.Reading.{GoesBy, ReadsFurther}
-use Rattle.fm_top_load.proofs.Telling.{read_quietly}
+use Rattle.fm_top_load.proofs.Telling.{read_quietly, tells_then}
 use Rattle.fm_top_stream.specs.Ahead.{IsFollowed}
 use Rattle.fm_top_stream.specs.Chunks.{stream_file_limit}
 use Rattle.fm_top_stream.specs.Gone.{HasNext}
@@ -59,3 +59,9 @@ chunks-preserved g c =
           (GoesBy c.chunks.standing.chunk.ended at) (λ next. IsFollowed at n next)) c.in-Some.is c.in-Ok.ensures.reads);
       left = leaves_then i.left (read_quietly c.in-Ok.ensures.tells);
     }
+
+pub returns-in-Err-clause-tells : goal.returns-in-Err-clause-tells
+returns-in-Err-clause-tells g c = tells_then c.chunks.invariant.left c.in-Err.ensures.tells
+
+pub returns-in-None-clause-tells : goal.returns-in-None-clause-tells
+returns-in-None-clause-tells g c = tells_none (leaves_then c.chunks.invariant.left (read_quietly c.in-Ok.ensures.tells))

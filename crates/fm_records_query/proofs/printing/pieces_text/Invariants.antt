@@ -1,7 +1,7 @@
 use Rattle.std.proofs.Common.{◌≡◌, take}
 use Rattle.std.specs.String.{string_bytes}
 use Rattle.fm_path_text.specs.Grammar.{pieces_of}
-use Rattle.fm_records_query.proofs.printing.path_text.Given as goal
+use Rattle.fm_records_query.proofs.printing.pieces_text.Given as goal
 
 abbrev pub invariant-loop-k : goal.invariant-loop-k
 invariant-loop-k l = string_bytes l.text ≡ pieces_of (take l.k l.path)

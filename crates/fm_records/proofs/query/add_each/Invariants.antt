@@ -1,6 +1,6 @@
 use Rattle.std.proofs.Common.{◌≡◌, ◌+◌, ◌*◌}
 use Rattle.fm_records.proofs.Recording.{AreRecorded}
-use Rattle.fm_records.proofs.query.add_records.Given as goal
+use Rattle.fm_records.proofs.query.add_each.Given as goal
 
 abbrev pub invariant-loop : goal.invariant-loop
 invariant-loop g l =

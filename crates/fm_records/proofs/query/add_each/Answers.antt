@@ -1,8 +1,11 @@
 -- Records are gone through one by one.
-use Rattle.std.proofs.Common.{◌≡◌, ◌+◌, ◌*◌, ◌/◌, ◌<◌, ◌∙◌, ap, suc, subst, arith}
+use Rattle.std.proofs.Common.{◌≡◌, ℕ, ◌+◌, ◌*◌, ◌/◌, ◌<◌, ◌∙◌, ap, suc, subst, arith}
 use Rattle.fm_records.proofs.Recording.{next_lies, next_room, recorded_all, recorded_more, recorded_none, recorded_stops}
 use Rattle.fm_records.proofs.Visiting.{can_still}
-use Rattle.fm_records.proofs.query.add_records.Goals as goal
+use Rattle.fm_records.proofs.query.add_each.Goals as goal
+
+one_on : (k size : ℕ) → suc k * size ≡ k * size + size
+one_on k size = grind arith
 
 pub loop-init : goal.loop-init
 loop-init g c =
@@ -28,10 +31,16 @@ returns-in-Err g c =
     recorded_stops c.loop.invariant.0 c.loop.invariant.1 (subst (λ n. c.loop.counter < n) count c.loop-test.true) c.add_record.new.found
     c.in-Err.refusal c.in-Err.ensures
 
+pub overflow_add-place : goal.overflow_add-place
+overflow_add-place g c =
+    let count = ap (λ n. n / c.record_size-size.result) c.size.ensures.size ∙ ap (λ n. c.args.s.now.size / n) c.record_size-size.ensures.size in
+    let more = subst (λ n. c.loop.counter < n) count c.loop-test.true in
+    omega (arith, (next_lies c.loop.invariant.0 c.loop.invariant.1 more).within, c.requires.can.ends, c.record_size-size.ensures.size)
+
 pub loop-preserved : goal.loop-preserved
 loop-preserved g c =
     let count = ap (λ n. n / c.record_size-size.result) c.size.ensures.size ∙ ap (λ n. c.args.s.now.size / n) c.record_size-size.ensures.size in
-    let next : suc c.loop.counter * c.args.q.now.size ≡ c.loop.counter * c.args.q.now.size + c.args.q.now.size = grind arith in (
+    let next = one_on c.loop.counter c.args.q.now.size in (
       recorded_more c.loop.invariant.0 c.loop.invariant.1 (subst (λ n. c.loop.counter < n) count c.loop-test.true) c.in-Ok.ensures,
       omega (arith, c.loop.invariant.1, next, c.record_size-size.ensures.size),
     )
