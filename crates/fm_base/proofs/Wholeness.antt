@@ -1,5 +1,5 @@
 -- Arenas have all their words, and give no more bytes than they have.
-use Rattle.std.proofs.Common.{◌≡◌, ℕ, ◌+◌, ◌%◌, ◌^◌, ◌<◌, ◌≤◌, Bool, true, false, List, [], ◌∷◌, ◌==◌, if◌then◌else◌, slice_set, refl, ap, ◌∙◌, arith, length-set}
+use Rattle.std.proofs.Common.{◌≡◌, ℕ, ◌+◌, ◌%◌, ◌^◌, ◌<◌, true, false, List, [], ◌∷◌, ◌==◌, if◌then◌else◌, slice_set, refl, ◌∙◌, arith, length-set}
 use Rattle.std.proofs.lemmas.List.{length-replicate}
 use Rattle.std.proofs.lemmas.List.Elements.{All-set, All-replicate}
 use Rattle.fm_base.specs.declared.caller.Caller.{Caller}
@@ -9,7 +9,7 @@ use Rattle.fm_base.specs.Calls.{Call, Open, Enter, Write, SwapIf, Add, Allocate,
 use Rattle.fm_base.specs.Machine.{MayCall, reply_to, change_of, after, words_within}
 use Rattle.fm_base.specs.Histories.{IsLegal, IsWhole, state_after}
 use Rattle.fm_base.specs.Lasting.{StaysWhole}
-use Rattle.fm_base.proofs.Lookup.{Becomes, made_known, arena_of-none}
+use Rattle.fm_base.proofs.Lookup.{Becomes, made_known}
 use Rattle.fm_base.proofs.Growing.{given_is}
 
 -- a word that fits is put
@@ -58,14 +58,3 @@ whole_after limit s (e ∷ es) l w id h =
 -- Arenas of a history from the start are whole.
 pub whole_always : StaysWhole
 whole_always limit h l = whole_after limit [] h l (λ id k. absurd (cc))
-
--- No arena gave more bytes than the limit.
-pub given_within : (limit : ℕ) (h : List Entry) → IsLegal limit [] h → (id : ArenaId) → (arena_of (state_after limit [] h) id).given ≤ limit
-given_within limit h l id =
-    let s = state_after limit [] h in
-    let P : Bool → Type 0 = λ b. has_arena s id ≡ b → (arena_of s id).given ≤ limit in
-    let go : (b : Bool) → P b = λ b. elim b as P [
-      | true ↦ (λ e. (whole_always limit h l id e).given)
-      | false ↦ (λ e. let none : (arena_of s id).given ≡ 0 = ap (λ (a : Arena). a.given) (arena_of-none s id e) in omega arith)
-    ] in
-    go (has_arena s id) refl

@@ -8,7 +8,7 @@ use Rattle.fm_base.specs.declared.caller.Caller.{Caller}
 use Rattle.fm_base.specs.declared.arena_id.ArenaId.{ArenaId}
 use Rattle.fm_base.specs.Arenas.{State, Arena, arena_of, has_arena, changed, same_id, no_arena, are_one}
 use Rattle.fm_base.proofs.Names.{not_true, same_id-self, same_id-true, are_one-self, are_one-true, are_one-false, are_one-not}
-use Rattle.fm_base.proofs.Lookup.{KeepsName, lookup_changed, arena_of-opened}
+use Rattle.fm_base.proofs.Lookup.{KeepsName, lookup_changed}
 use Rattle.fm_base_machine.specs.Functions.{put, put_at, put_by}
 
 -- names that differ don't pass the test
@@ -103,22 +103,9 @@ changed_else (a ∷ s) id f named b n =
     ] in
     go (same_id a.id id) refl
 
--- the arenas after a change of one
-pub arena_put : (s : State) (id : ArenaId) (f : Arena → Arena) → KeepsName f → has_arena s id ≡ true → (b : ArenaId)
-    → arena_of (changed s id f) b ≡ put_at (arena_of s) id (f (arena_of s id)) b
-arena_put s id f named h b = by_name id b (λ x. arena_of (changed s id f) x ≡ put_at (arena_of s) id (f (arena_of s id)) x)
-    (lookup_changed s id f named h ∙ sym (at_here (arena_of s) id (f (arena_of s id))))
-    (λ n. changed_else s id f named b n ∙ sym (at_else (arena_of s) id (f (arena_of s id)) b n))
-
 pub opened_else : (s : State) (o : Arena) (b : ArenaId) → same_id o.id b ≡ false → arena_of (s ++ o ∷ []) b ≡ arena_of s b
 opened_else [] o b n = ap (λ t. if t then o else no_arena b) n
 opened_else (a ∷ s) o b n = ap (λ x. if same_id a.id b then a else x) (opened_else s o b n)
-
--- the arenas after one was opened
-pub arena_opened : (s : State) (o : Arena) → has_arena s o.id ≡ false → (b : ArenaId) → arena_of (s ++ o ∷ []) b ≡ put_at (arena_of s) o.id o b
-arena_opened s o h b = by_name o.id b (λ x. arena_of (s ++ o ∷ []) x ≡ put_at (arena_of s) o.id o x)
-    (arena_of-opened s o h ∙ sym (at_here (arena_of s) o.id o))
-    (λ n. opened_else s o b n ∙ sym (at_else (arena_of s) o.id o b n))
 
 pub has_else : (s : State) (o : Arena) (b : ArenaId) → same_id o.id b ≡ false → has_arena (s ++ o ∷ []) b ≡ has_arena s b
 has_else [] o b n = ap (λ t. if t then true else false) n

@@ -36,11 +36,6 @@ unmoved can s shuts = record {
   lasts = lasts_on (goes_none s);
 }
 
--- Where the kind isn't closed by hand,
-pub after_kind : {pool : Pool} {p : View} {a : ArenaId} → CanVisit pool p a → IsSound p → ¬ (IsClosable a.kind)
-    → AfterShut pool p p a (Err (refusal.CannotClose a.kind))
-after_kind can s kind = unmoved can s (kind, refl, refl)
-
 -- and where the pass may not use the arena.
 pub after_wrong_thread : {pool : Pool} {p : View} {a : ArenaId} → CanVisit pool p a → IsSound p → IsClosable a.kind → ¬ (MayUse a p.caller)
     → AfterShut pool p p a (Err refusal.WrongThread)

@@ -1,14 +1,11 @@
 -- The walk over the marks, and a close.
 use Rattle.std.proofs.Common.{◌≡◌, ◌≢◌, ℕ, List, [], ◌∷◌, ◌++◌, refl, sym, ap, ◌∙◌, subst}
 use Rattle.std.proofs.lemmas.List.Elements.{All-head, All-tail}
-use Rattle.std.specs.Prelude.{Ok, Err}
+use Rattle.std.specs.Prelude.{Ok}
 use Rattle.fm_base.specs.declared.caller.Caller.{Caller}
 use Rattle.fm_base.specs.declared.arena_id.ArenaId.{ArenaId}
-use Rattle.fm_base.specs.declared.refusal.Refusal.{Refusal}
-use Rattle.fm_base.specs.declared.refusal.Refusal.TheVariants as refusal
 use Rattle.fm_base.specs.Calls.{Shut, End, Fine, Entry, entry_of}
 use Rattle.fm_base.specs.Finds.{Close, Sweep, Rest}
-use Rattle.fm_base.specs.Does.{DoesClose}
 use Rattle.fm_base.specs.View.{but_loans}
 use Rattle.fm_rule_facts.specs.Hands.{Hand, nothing}
 use Rattle.fm_rule_facts.specs.Views.{View}
@@ -16,12 +13,11 @@ use Rattle.fm_rule_facts.specs.Closes.{walk_of, advanced, dropped}
 use Rattle.fm_rule.specs.declared.pool.Pool.{Pool}
 use Rattle.fm_rule_calls.specs.Kept.{Goes, rest_of, sweep_numbers, slots_told, HasEnded, HasNoWords}
 use Rattle.fm_rule_calls.proofs.Going.{goes_then, lasts_on}
-use Rattle.fm_gate.specs.Makers.{Made, made_by_pass}
 use Rattle.fm_gate.specs.Needs.{IsOutside}
 use Rattle.fm_close.specs.declared.shutting.Shutting.{Shutting}
 use Rattle.fm_close.specs.declared.outcome.Visit.{Visit}
 use Rattle.fm_close.specs.declared.outcome.Visit.TheVariants.{Next, Inside, Ended}
-use Rattle.fm_close.specs.Does.{IsBack, AreBacks, DoesShut}
+use Rattle.fm_close.specs.Does.{IsBack, AreBacks}
 use Rattle.fm_close.specs.Learnt.{CanWalk, AfterShut, AfterVisit, Walked, AfterSweep, AfterClose}
 use Rattle.fm_close.proofs.Closes.{dropped-advanced, dropped-begun}
 
@@ -172,25 +168,3 @@ after_walk {p = p} {q = q} {r = r} {a = a} {s = s} u h w =
       as_was = record { wrong_thread = λ e. absurd (cc); cannot_close = λ k e. absurd (cc) };
       lasts = lasts_on goes;
     }
-
-refused_does : (m : Made) (a : ArenaId) (refusal : Refusal) (own : List Entry) → DoesShut m a (Err refusal) own
-    → DoesClose m.caller a (Err refusal) (but_loans own)
-refused_does m a (refusal.CannotClose kind) own d = (d.0, d.1, rw d.2 refl)
-refused_does m a refusal.WrongThread own d = (d.0, d.1, rw d.2 refl)
-refused_does m a refusal.Closed own d = (d.0, d.1, rw d.2 refl)
-refused_does m a (refusal.Held holds) own d = (d.0, d.1, d.2, rw d.3 refl)
-refused_does m a r own d = absurd d
-
--- What is learnt where the arena couldn't be shut.
-pub after_refused : {pool : Pool} {p q : View} {a : ArenaId} (why : Refusal) → AfterShut pool p q a (Err why) → AfterClose pool p q a (Err why)
-after_refused {p = p} {a = a} why h = record {
-  did = record { own = h.did.own; does = refused_does (made_by_pass p) a why h.did.own h.did.does; goes = h.did.goes; rest = h.did.rest };
-  ended = tt;
-  no_words = tt;
-  outside = h.outside;
-  as_was = record {
-    wrong_thread = λ e. let same : why ≡ refusal.WrongThread = cc in h.as_was.wrong_thread (ap (λ (r : Refusal). Err r) same);
-    cannot_close = λ k e. let same : why ≡ refusal.CannotClose k = cc in h.as_was.cannot_close k (ap (λ (r : Refusal). Err r) same);
-  };
-  lasts = h.lasts;
-}

@@ -6,7 +6,7 @@ use Rattle.fm_base.specs.Finds.{Find, Gathered, Close, Sweep}
 use Rattle.fm_rule_facts.specs.Views.{View, IsSound}
 use Rattle.fm_rule_facts.specs.Hands.{Number, no_number}
 use Rattle.fm_rule.specs.declared.pool.Pool.{Pool}
-use Rattle.fm_rule.specs.Draws.{Asked, Gathers}
+use Rattle.fm_rule.specs.Draws.{Asked}
 use Rattle.fm_rule_calls.specs.Kept.{Lasts, rest_of}
 use Rattle.fm_rule_calls.proofs.Going.{lasts_by, reached_by}
 use Rattle.fm_rule_calls.proofs.Sweeps.{no_sweeps}

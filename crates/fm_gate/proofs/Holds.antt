@@ -41,10 +41,6 @@ unmoved can s does no_close = record {
   lasts = lasts_on (goes_none s);
 }
 
-pub after_unsupported : {pool : Pool} {p : View} {a : ArenaId} → CanVisit pool p a → IsSound p → a.kind ≡ Automatic
-    → AfterHold pool p p a (Err refusal.Unsupported)
-after_unsupported can s k = unmoved can s (k, refl) (λ e. absurd (cc))
-
 pub after_not_his : {pool : Pool} {p : View} {a : ArenaId} → CanVisit pool p a → IsSound p → a.kind ≢ Automatic → ¬ (MayUse a p.caller)
     → AfterHold pool p p a (Err refusal.WrongThread)
 after_not_his can s k n = unmoved can s (k, (n, refl)) (λ e. absurd (cc))

@@ -1,13 +1,12 @@
 -- What is known on the way through a group's members comes to its size and its alignment.
-use Rattle.std.proofs.Common.{◌≡◌, refl, sym, ap, subst, ℕ, ◌+◌, ◌%◌, ◌<◌, ◌≤◌, max, List, ◌∷◌, length, drop, get_or, arith, ◌∙◌, eq-eqb, le-leb, Ok}
+use Rattle.std.proofs.Common.{◌≡◌, refl, sym, ap, subst, ℕ, ◌+◌, ◌%◌, ◌<◌, ◌≤◌, max, List, ◌∷◌, length, drop, get_or, arith, ◌∙◌, eq-eqb, le-leb}
 use Rattle.std.specs.Int.{IsPowerOfTwo}
 use Rattle.std.proofs.lemmas.List.{drop_more, drop_all}
-use Rattle.fm_layout.specs.Tree.{Tree, Trees, Struct, Union, NoMore, More, alignment_of}
+use Rattle.fm_layout.specs.Tree.{Tree, Trees, NoMore, More, alignment_of}
 use Rattle.fm_layout.specs.Size.{size_of, greatest_alignment}
 use Rattle.fm_layout.specs.WellFormed.{limit, IsWellFormed}
 use Rattle.fm_layout.specs.Named.{HasNames}
-use Rattle.fm_layout.specs.Sound.{IsSound}
-use Rattle.fm_layout.specs.Made.{plain, fault_of, struct_of}
+use Rattle.fm_layout.specs.Made.{fault_of}
 use Rattle.fm_layout.specs.Extent.{IsStructExtent, IsUnionExtent, IsLaying, IsStacking}
 use Rattle.fm_layout.specs.Views.{trees}
 use Rattle.fm_layout.proofs.Sound.{IsPowerOfTwo-max, positive_power, fit_of}
@@ -76,18 +75,6 @@ laying_end i at a ts l le =
       none = sym l'.fault;
     }
 
--- A struct of members that keep the rule.
-pub struct_sound : (n a : ℕ) (ts : Trees) → IsStructExtent n a ts → IsSound n (Struct ts (plain a))
-struct_sound n a ts e = record {
-  size = e.size;
-  well_formed = (record { power = e.power; least = omega (arith, e.greatest); greatest = e.below; size = omega (arith, e.size, e.small) }, e.laid_out);
-  named = (tt, e.named);
-}
-
--- What making a struct of such members answers.
-pub struct_of-extent : (n a : ℕ) (ts : Trees) → IsStructExtent n a ts → Ok (Struct ts (plain a)) ≡ struct_of ts
-struct_of-extent n a ts e = rw e.none (ap (λ m. Ok (Struct ts (plain m))) e.greatest)
-
 -- ---- unions
 
 -- Before the first member.
@@ -131,14 +118,6 @@ stacking_end i n a ts s le =
       well_formed = s'.well_formed tt;
       named = s'.named tt;
     }
-
--- A union of these members.
-pub union_sound : (n a : ℕ) (ts : Trees) → IsUnionExtent n a ts → IsSound n (Union ts (plain a))
-union_sound n a ts e = record {
-  size = e.size;
-  well_formed = (record { power = e.power; least = omega (arith, e.greatest); greatest = e.below; size = omega (arith, e.size, e.small) }, e.well_formed);
-  named = (tt, e.named);
-}
 
 -- ---- the greatest alignment alone
 

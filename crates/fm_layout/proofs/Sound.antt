@@ -1,5 +1,5 @@
 -- What constructors make is well formed.
-use Rattle.std.proofs.Common.{◌≡◌, refl, sym, ap, ℕ, ◌*◌, ◌%◌, ◌≤◌, max, arith, ◌∙◌, nat_cmp, inl, inr}
+use Rattle.std.proofs.Common.{◌≡◌, refl, ℕ, ◌≤◌, max, arith, ◌∙◌, nat_cmp, inl, inr}
 use Rattle.std.specs.Int.{IsPowerOfTwo}
 use Rattle.std.specs.Ordering.{ord_max}
 use Rattle.std.proofs.lemmas.Bool.{cases_lt}
@@ -10,9 +10,9 @@ use Rattle.fm_lanes.specs.declared.order.Order.TheVariants.{Little}
 use Rattle.fm_lanes.specs.declared.value_kind.ValueKind.{ValueKind}
 use Rattle.fm_lanes.specs.declared.value_kind.ValueKind.TheVariants.{Byte, Boolean, Char, Short, Int, Long}
 use Rattle.fm_layout.specs.Tree.{Tree, Value, Padding, Sequence, Struct, Union, Label, alignment_of, relabelled}
-use Rattle.fm_layout.specs.Size.{size_of, least_of}
+use Rattle.fm_layout.specs.Size.{least_of}
 use Rattle.fm_layout.specs.WellFormed.{limit, IsFit, IsWellFormed}
-use Rattle.fm_layout.specs.Named.{HasNames, IsNameIfAny}
+use Rattle.fm_layout.specs.Named.{IsNameIfAny}
 use Rattle.fm_layout.specs.Sound.{IsSound}
 use Rattle.fm_layout.specs.Parts.{IsPadding}
 use Rattle.fm_layout.specs.Made.{plain}
@@ -66,14 +66,6 @@ fit_of (Union ms l) w = w.0
 pub positive_alignment : (t : Tree) → IsWellFormed t → 1 ≤ alignment_of t
 positive_alignment t w = positive_power (alignment_of t) (fit_of t w).power
 
--- A layout that is relabelled is as large.
-pub size_of-relabelled : (l : Label) (t : Tree) → size_of (relabelled l t) ≡ size_of t
-size_of-relabelled l (Value k o m) = refl
-size_of-relabelled l (Padding n m) = refl
-size_of-relabelled l (Sequence n e m) = refl
-size_of-relabelled l (Struct ms m) = refl
-size_of-relabelled l (Union ms m) = refl
-
 -- ---- single layouts
 
 -- A value with its natural alignment.
@@ -85,29 +77,6 @@ value_sound k n e =
       size = e;
       well_formed = record { power = (p.0, e ∙ p.1); least = omega arith; greatest = omega arith; size = omega arith };
       named = tt;
-    }
-
--- Padding.
-pub padding_sound : (n : ℕ) → 1 ≤ n → n ≤ limit → IsSound n (Padding n (plain 1))
-padding_sound n some small = record {
-  size = refl;
-  well_formed = (record { power = (0, refl); least = omega arith; greatest = omega arith; size = small }, refl, some);
-  named = tt;
-}
-
--- A sequence.
-pub sequence_sound : (count n a : ℕ) (e : Tree) → IsWellFormed e → HasNames e → n ≡ count * size_of e → a ≡ alignment_of e → size_of e % a ≡ 0 → n ≤ limit
-    → IsSound n (Sequence count e (plain a))
-sequence_sound count n a e w named en ea even small =
-    let f = fit_of e w in
-    record {
-      size = en;
-      well_formed = (
-        record { power = (f.power.0, ea ∙ f.power.1); least = omega arith; greatest = omega (arith, f.greatest); size = omega arith },
-        ap (λ m. size_of e % m) (sym ea) ∙ even,
-        w,
-      );
-      named = (tt, named);
     }
 
 -- ---- another alignment

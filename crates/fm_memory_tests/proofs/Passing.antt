@@ -1,5 +1,5 @@
 -- Passes of one pool are beside each other after calls of either.
-use Rattle.std.proofs.Common.{◌≡◌, ◌∙◌, sym, List, None}
+use Rattle.std.proofs.Common.{◌∙◌, sym, List}
 use Rattle.fm_base.specs.Calls.{Entry}
 use Rattle.fm_base.specs.View.{Makes}
 use Rattle.fm_rule_facts.specs.Views.{View}
@@ -16,10 +16,3 @@ beside_ours {p = p} {q = q} {own = own} b m =
       same = record { home = b.same.home ∙ sym on.home; shape = b.same.shape ∙ sym on.shape };
       outside = b.outside;
     }
-
--- After calls of the second.
-pub beside_theirs : {ours p q : View} → AreBeside ours p → SamePool p q → q.inside ≡ None → AreBeside ours q
-beside_theirs b on out = record {
-  same = record { home = on.home ∙ b.same.home; shape = on.shape ∙ b.same.shape };
-  outside = out;
-}

@@ -1,7 +1,7 @@
 -- One try to give bytes.
 use Rattle.std.proofs.Common.{◌≡◌, ◌≢◌, ℕ, ◌+◌, ◌==◌, ◌≤◌, Bool, true, false, if◌then◌else◌, List, [], ◌∷◌, ◌++◌, refl, ap, sym, ◌∙◌, subst, Option, Some, None}
 use Rattle.std.proofs.lemmas.List.Elements.{All-nil}
-use Rattle.std.proofs.lemmas.Bool.{leb-true, le-leb}
+use Rattle.std.proofs.lemmas.Bool.{leb-true}
 use Rattle.std.specs.Prelude.{nat_le}
 use Rattle.fm_words.specs.declared.shape.Shape.{Shape}
 use Rattle.fm_base.specs.declared.caller.Caller.{Caller}
@@ -46,13 +46,6 @@ room_some limit count size align place = go (nat_le (rounded_up count align + si
     go : (b : Bool) → nat_le (rounded_up count align + size) limit ≡ b → Some place ≡ (if b then Some (rounded_up count align) else None)
         → (place ≡ rounded_up count align) × (rounded_up count align + size ≤ limit)
     go true f e = ((let q : place ≡ rounded_up count align = cc in q), leb-true _ _ f)
-    go false f e = absurd (cc)
-
-pub room_none : (limit count size align : ℕ) → None ≡ room limit count size align → ¬ (rounded_up count align + size ≤ limit)
-room_none limit count size align e l = go (nat_le (rounded_up count align + size) limit) (le-leb _ _ l) e
-  where
-    go : (b : Bool) → b ≡ true → None ≡ (if b then Some (rounded_up count align) else None) → ⊥
-    go true f e = absurd (cc)
     go false f e = absurd (cc)
 
 -- ---- a try

@@ -1,6 +1,5 @@
 -- Ways of a pass that maps pages, and reads which page a part has.
-use Rattle.std.proofs.Common.{◌≡◌, ◌≢◌, ℕ, ◌-◌, ◌==◌, Bool, true, false, if◌then◌else◌, List, [], ◌∷◌, ◌++◌, refl, ap, sym, ◌∙◌, subst, inl, inr, Some, ne_eqb}
-use Rattle.fm_base.specs.declared.arena_id.ArenaId.{ArenaId}
+use Rattle.std.proofs.Common.{◌≡◌, ◌≢◌, ℕ, ◌-◌, ◌==◌, Bool, true, false, if◌then◌else◌, List, [], ◌∷◌, ◌++◌, refl, ap, sym, ◌∙◌, subst, inl, inr, ne_eqb}
 use Rattle.fm_base.specs.Calls.{Entry}
 use Rattle.fm_rule_facts.specs.Parts.{Mapping, mapping_of, reads_after}
 use Rattle.fm_rule_facts.specs.Views.{View, In}
@@ -32,9 +31,6 @@ way_went {p = p} {q = q} {ps = ps} g =
 
 pub of_way : (pool : Pool) {p q : View} {es : List Entry} {ps : List ℕ} → Way p q es ps → IsOf pool p → IsOf pool q
 of_way pool w o = (w.goes.same_home ∙ o.0, w.goes.same_shape ∙ o.1)
-
-pub inside_way : {p q : View} {a : ArenaId} {ps : List ℕ} → Way p q [] ps → p.inside ≡ Some a → q.inside ≡ Some a
-inside_way w e = w.goes.inside ∙ e
 
 pub pages_way : {p q : View} {es : List Entry} {ps : List ℕ} → Way p q es ps → q.pages ≡ ps
 pages_way w = ap (λ (x : View). x.pages) w.is

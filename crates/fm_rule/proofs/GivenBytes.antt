@@ -3,7 +3,6 @@ use Rattle.std.proofs.Common.{◌≡◌, ◌≢◌, Some, None, ℕ, ◌+◌, �
 use Rattle.fm_words.specs.Places.{at, map, page_word, words, session, given as given_place}
 use Rattle.fm_rule_steps.proofs.Bearing.{shown_alive, shown_unalive}
 use Rattle.fm_rule_facts.specs.Words.{alive_holds}
-use Rattle.fm_words.specs.Shapes.{IsValid}
 use Rattle.std.proofs.lemmas.List.{take_more}
 use Rattle.fm_words.specs.declared.shape.Shape.{Shape}
 use Rattle.fm_base.specs.declared.arena_id.ArenaId.{ArenaId}
@@ -82,9 +81,6 @@ stands f i a has k l y same size is =
       word = λ p e. ap (λ (n : ℕ). get_or f.words n 0) e ∙ sym s.word;
     } in
     subst (λ (x : Shape × ℕ). Stands f a k x.0 x.1) (λ j. (sym same j, sym (is ∙ ap (λ (x : Shape). x.page_words) same) j)) base
-
-pub valid_in : (y z : Shape) → y ≡ z → IsValid y → IsValid z
-valid_in y z same = subst IsValid same
 
 pub shape_in : (g f : FinishedView) → g ≡ f → g.shape ≡ f.shape
 shape_in g f e = ap (λ (x : FinishedView). x.shape) e

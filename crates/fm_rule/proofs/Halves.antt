@@ -1,5 +1,5 @@
 -- A pass and the one that is split off from it, and a pass that another is gathered into.
-use Rattle.std.proofs.Common.{◌≡◌, ℕ, suc, ◌+◌, ◌<◌, Bool, true, false, if◌then◌else◌, List, [], ◌∷◌, ◌++◌, length, sym, refl, ap, ◌∙◌, subst, arith, inl, inr, Option, None, ⊎_elim, ◌≢◌, All, append_assoc, eq-eqb, ne_eqb, ◌^◌, ◌≤◌}
+use Rattle.std.proofs.Common.{◌≡◌, ℕ, suc, ◌+◌, ◌<◌, Bool, true, false, if◌then◌else◌, List, [], ◌∷◌, ◌++◌, length, sym, refl, ap, ◌∙◌, subst, arith, inl, inr, Option, None, ⊎_elim, All, append_assoc, ◌^◌, ◌≤◌}
 use Rattle.std.proofs.lemmas.List.{append-nil, length-append}
 use Rattle.std.proofs.lemmas.List.Elements.{filter-append}
 use Rattle.fm_base.specs.declared.caller.Caller.{Caller}
@@ -12,7 +12,7 @@ use Rattle.fm_base_machine.specs.Handles.{AreLeft}
 use Rattle.fm_rule_facts.specs.declared.step.Step.TheVariants.{Looks}
 use Rattle.fm_rule_facts.specs.Views.{Met, View, In, IsSound, is_automatic, brought, state_in}
 use Rattle.fm_rule_facts.specs.Splits.{drawn_left, drawn_right, as_gathered, gather, IsAtRest, caller_or}
-use Rattle.fm_rule_facts.specs.Hands.{Number, no_number, number_joined, number_drawn, number_of_joined, last_term}
+use Rattle.fm_rule_facts.specs.Hands.{no_number, number_drawn, number_of_joined, last_term}
 use Rattle.fm_rule_facts.specs.Steps.{part, entries, noted}
 use Rattle.fm_rule_facts.specs.Facts.{Begins}
 use Rattle.fm_rule.specs.declared.pass.Part.{Part}
@@ -233,13 +233,3 @@ gathered_back old other mid new g b =
       is = b.is ∙ (λ j. record (g.is j) { seen = new.seen; number = no_number });
       sound = b.sound;
     }
-
--- or it had its last term
-pub gathered_last : (old other mid : View) → other.caller.term ≡ last_term → Gathers old other (number_of_joined other.caller) mid → Gathers old other no_number mid
-gathered_last old other mid e g = subst (λ (k : Number). Gathers old other k mid)
-    (ap (λ (b : Bool). if b then no_number else number_joined other.caller) (eq-eqb other.caller.term last_term e)) g
-
-pub joined_before : (old other mid : View) → other.caller.term ≢ last_term → Gathers old other (number_of_joined other.caller) mid
-    → mid.number ≡ number_joined other.caller
-joined_before old other mid ne g = ap (λ (v : View). v.number) g.is
-    ∙ ap (λ (b : Bool). if b then no_number else number_joined other.caller) (ne_eqb other.caller.term last_term ne)

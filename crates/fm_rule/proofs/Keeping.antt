@@ -1,5 +1,5 @@
 -- What a pass keeps over each step.
-use Rattle.std.proofs.Common.{◌≡◌, ◌==◌, if◌then◌else◌, Bool, true, false, ◌∷◌, ◌++◌, ne_eqb, ℕ, zero, suc, ◌+◌, ◌-◌, ◌*◌, ◌<◌, inl, arith, subst, List, [], length, Option, None, sym, refl, ap, ◌∙◌}
+use Rattle.std.proofs.Common.{◌≡◌, ◌==◌, if◌then◌else◌, Bool, false, ◌∷◌, ◌++◌, ne_eqb, ℕ, zero, suc, ◌+◌, ◌-◌, ◌*◌, ◌<◌, inl, arith, subst, List, [], length, Option, None, sym, refl, ap, ◌∙◌}
 use Rattle.std.proofs.lemmas.List.{append-nil}
 use Rattle.atomic_table.specs.declared.shared.Seat.{Seat}
 use Rattle.fm_words.specs.declared.shape.Shape.{Shape}
@@ -10,10 +10,10 @@ use Rattle.fm_base.specs.declared.caller.Caller.{Caller}
 use Rattle.fm_base.specs.declared.arena_id.ArenaId.{ArenaId}
 use Rattle.fm_rule_facts.specs.declared.step.Step.{Step}
 use Rattle.fm_rule_facts.specs.declared.step.Step.TheVariants.{Checks, Unmarks, ReadsMap}
-use Rattle.fm_rule_facts.specs.Views.{Met, View, In, IsSound, brought}
+use Rattle.fm_rule_facts.specs.Views.{View, In, IsSound, brought}
 use Rattle.fm_rule_facts.specs.Splits.{first_view}
 use Rattle.fm_rule_facts.specs.Words.{alive_holds, inside_found}
-use Rattle.fm_rule_facts.specs.Steps.{part, entries, noted}
+use Rattle.fm_rule_facts.specs.Steps.{part}
 use Rattle.fm_rule_facts.specs.Parts.{Mapping, mapping_of, reads_after}
 use Rattle.fm_rule_facts.specs.Moves.{Same, Gives}
 use Rattle.fm_words.specs.Maps.{map_word}

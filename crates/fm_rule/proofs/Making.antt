@@ -13,7 +13,7 @@ use Rattle.fm_words.specs.Bits.{IsWithout}
 use Rattle.fm_rule_facts.specs.Hands.{nothing, taken, learnt, retired, no_number, number_taken, number_left, number_joined}
 use Rattle.fm_rule_facts.specs.declared.step.Step.{Step}
 use Rattle.fm_rule_facts.specs.declared.step.Step.TheVariants.{Draws, Marks, Checks, Loads, Stores, SwapsIf, Adds, Allocates, Holds, Unholds, Backs, Unmarks, Shuts, Visits, TakesSlot, LearnsGeneration, Opens, Claims, Maps, ReadsMap, SweepsGiven, SweepsMap, Unmaps, Wipes, GivesPage, ReturnsPage, ResetsGiven, Retires, GivesSlot, TakesNumber, LearnsTerm, RaisesTerm, GivesNumber, Looks}
-use Rattle.fm_rule_facts.specs.Views.{View, In, IsKnown, IsOver, limit_of}
+use Rattle.fm_rule_facts.specs.Views.{View, In, IsKnown, limit_of}
 use Rattle.fm_rule_facts.specs.Words.{alive_word, closing_word, free_word, held_word, mark_of}
 use Rattle.fm_rule_facts.specs.Handles.{back_word}
 use Rattle.fm_rule_facts.specs.Closes.{passed_of}

@@ -7,7 +7,7 @@ use Rattle.fm_base.specs.declared.caller.Caller.{Caller}
 use Rattle.fm_base.specs.declared.arena_id.ArenaId.{ArenaId}
 use Rattle.fm_base.specs.Calls.{Entry, Fine, TooManyHolds}
 use Rattle.fm_rule_facts.specs.declared.step.Step.TheVariants.{Looks}
-use Rattle.fm_rule_facts.specs.Views.{View, In}
+use Rattle.fm_rule_facts.specs.Views.{View}
 use Rattle.fm_rule_facts.specs.Words.{held_by, held_word, hold_found, alive_word, alive_holds, closing_word}
 use Rattle.fm_rule_facts.specs.Handles.{last_if, giving_by, word_given, back_word}
 use Rattle.fm_rule_facts.specs.Splits.{met}

@@ -3,16 +3,11 @@ use Rattle.std.proofs.Common.{◌≡◌, true, List, ◌++◌, refl, ap, ◌∙�
 use Rattle.std.proofs.lemmas.List.Elements.{filter-append}
 use Rattle.fm_base.specs.Calls.{Entry}
 use Rattle.fm_base.specs.Histories.{made_by}
-use Rattle.fm_base.specs.View as memory
 use Rattle.fm_base.specs.View.{Told, TellsOn, Makes, Did, IsByItself}
-use Rattle.fm_rule_facts.specs.Views.{View, limit_of, IsSound}
+use Rattle.fm_rule_facts.specs.Views.{View, limit_of}
 use Rattle.fm_rule_calls.specs.Kept.{Goes, rest_of, Kept}
 use Rattle.fm_rule_calls.specs.Told.{told_of, view_of_pass, silent_view}
 use Rattle.fm_rule_calls.proofs.Going.{reached}
-
--- A sound pass tells a sound view.
-pub sound_view : (p : View) → IsSound p → memory.IsSound (view_of_pass p)
-sound_view p s = record { limit = s.limit; told = (s.legal, refl, refl) }
 
 -- A pass that is by itself is known to be whole.
 pub by_itself : (p : View) → IsByItself (view_of_pass p) → p.whole ≡ true

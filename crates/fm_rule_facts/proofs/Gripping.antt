@@ -98,10 +98,6 @@ held_lives a t only some = go (t.life a) (is_automatic a.kind) only some
     go Closes b f h = (let n = f (λ e. absurd (cc)) in let z = none b in absurd (omega arith))
     go Over b f h = (let n = f (λ e. absurd (cc)) in let z = none b in absurd (omega arith))
 
--- an automatic arena that is alive is held once more
-pub one_at_least : (a : ArenaId) (t : Machine) → is_automatic a.kind ≡ true → t.life a ≡ Lives → all_holds a t ≡ t.holds a + 1
-one_at_least a t k l = λ j. t.holds a + (if k j then one_alive (l j) else 0)
-
 -- and another as often as it has holds
 pub none_besides : (a : ArenaId) (t : Machine) → a.kind ≢ Automatic → all_holds a t ≡ t.holds a
 none_besides a t n = (λ j. t.holds a + (if by_hand a n j then one_alive (t.life a) else 0)) ∙ (let h : ℕ = t.holds a in let e : h + 0 ≡ h = omega arith in e)

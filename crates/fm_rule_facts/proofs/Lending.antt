@@ -1,5 +1,5 @@
 -- Loans of a history that goes on.
-use Rattle.std.proofs.Common.{◌≡◌, ◌≢◌, ◌⊎◌, ℕ, ◌==◌, Bool, true, false, not, cond, filter, List, [], ◌∷◌, ◌++◌, sym, refl, ap, ◌∙◌, subst, inl, inr, ⊎_elim, arith, eq-eqb, Option, Some}
+use Rattle.std.proofs.Common.{◌≡◌, ◌≢◌, ◌⊎◌, ℕ, Bool, true, false, cond, filter, List, [], ◌∷◌, ◌++◌, sym, refl, ap, ◌∙◌, subst, inl, inr, ⊎_elim, arith, Option, Some}
 use Rattle.std.proofs.lemmas.List.Elements.{All-contains, All-contains_itself, All-filter, Contains-append_left, Contains-append_right, Contains-append_cases, Contains-push, Contains-push_cases}
 use Rattle.std.specs.Prelude.{Contains}
 use Rattle.fm_base.specs.declared.caller.Caller.{Caller}
@@ -104,12 +104,6 @@ loan_kept p (y ∷ ys) x h e = go (p y) refl (loan_cases y x ys h) (λ i. loan_k
 
 pub loan_was : (p : Loan → Bool) (loans : List Loan) (x : Loan) → Contains (filter p loans) x → Contains loans x
 loan_was p loans x = All-contains (Contains loans) (filter p loans) x (All-filter p (Contains loans) loans (All-contains_itself loans))
-
-which_loan : (l x : Loan) (loans : List Loan) → Contains (l ∷ loans) x → (l ≢ x) → Contains loans x
-which_loan l x loans h n = ⊎_elim (λ (e : l ≡ x). absurd (n e)) (λ (more : Contains loans x). more) (loan_cases l x loans h)
-
-other_block : (m n : ℕ) → not (m == n) ≡ true → m ≢ n
-other_block m n h e = let q : (m == n) ≡ true = eq-eqb m n e in let f : not true ≡ true = ap not (sym q) ∙ h in absurd (cc)
 
 -- ---- parts with a page
 

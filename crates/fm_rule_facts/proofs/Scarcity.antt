@@ -69,11 +69,6 @@ module _ (p : ℕ) (a : ArenaId) (i : ℕ) (loans : List Loan) where
       let rest = lacking_lend n (omega arith) free in
       let was : lacking (suc n) loans a ≡ one_unless (has_part loans a n) + lacking n loans a = refl in omega arith)
 
--- where each step of an allocation lends a block to a part that lacks one, the blocks that aren't lent are fewer than the parts that lack one after it exactly
--- where they were so before
-pub still_fewer : (u v l m : ℕ) → v + 1 ≡ u → m + 1 ≡ l → (u < l → v < m) × (v < m → u < l)
-still_fewer u v l m a b = ((λ h. omega arith), (λ h. omega arith))
-
 -- ---- what the tests say
 
 -- a part that is lent has a block

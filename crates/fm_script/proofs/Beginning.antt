@@ -1,5 +1,5 @@
 -- What the run of a script begins with, and what it leaves.
-use Rattle.std.proofs.Common.{◌≡◌, ℕ, ◌+◌, ◌-◌, ◌<◌, ◌≤◌, ◌^◌, List, length, sym, ap, ◌∙◌, subst, arith}
+use Rattle.std.proofs.Common.{◌≡◌, ℕ, ◌+◌, ◌-◌, ◌≤◌, List, length, sym, ap, ◌∙◌, subst, arith}
 use Rattle.std.specs.Borrow.{Bor}
 use Rattle.fm_base.specs.declared.caller.Caller.{Caller}
 use Rattle.fm_base.specs.Finds.{Rest}
@@ -8,7 +8,7 @@ use Rattle.fm_rule_facts.specs.Views.{View, IsSound}
 use Rattle.fm_arena.proofs.Opening.{has_no_slot}
 use Rattle.fm_rule.specs.declared.pool.Pool.{Pool}
 use Rattle.fm_rule.specs.Finishing.{CanFinish, FinishedView, Finishes}
-use Rattle.fm_rule.specs.Views.{first_pass, numbers_of}
+use Rattle.fm_rule.specs.Views.{first_pass}
 use Rattle.fm_words.specs.declared.shape.Shape.{Shape}
 use Rattle.fm_script_text.specs.declared.line.Line.{Line}
 use Rattle.fm_script_text.specs.Scripts.{ScriptOf}
@@ -19,26 +19,6 @@ use Rattle.fm_script.specs.declared.main_lines.MainLines.{MainLines}
 use Rattle.fm_script.specs.declared.player.Player.{Player}
 use Rattle.fm_script.specs.Players.{ArePlayers}
 use Rattle.fm_script.specs.Runs.{CanRun, HasRun, IsWritten, Ran}
-
-pub outside_first : (pool : Pool) (z : Shape) (p : View) → pool.shape ≡ z → p ≡ first_pass (numbers_of pool.table.shared.table_id) z → CanShare pool p
-outside_first pool z p shape is = record {
-  outside = record {
-    of = (ap (λ (v : View). v.home) is, ap (λ (v : View). v.shape) is ∙ sym shape);
-    outside = ap (λ (v : View). v.inside) is;
-    unmarked = ap (λ (v : View). v.mark) is;
-    no_number = ap (λ (v : View). v.number) is;
-    no_slot = ap (λ (v : View). v.hand) is;
-    no_part = ap (λ (v : View). v.swept) is;
-  };
-  no_page = ap (λ (v : View). v.pages) is;
-}
-
--- A pass for each worker beside the first: so many that their numbers fit.
-pub few_workers : (s : ScriptOf) (starts : List ℕ) → IsWritten s → AreStarts s.lines (s.shape.passes - 1) starts → length starts < 2 ^ 32
-few_workers s starts w a =
-    let passes = w.valid.passes in
-    let many = a.many in
-    omega (arith, passes, many)
 
 pub some_pass : (s : ScriptOf) → IsWritten s → 1 ≤ s.shape.passes
 some_pass s w = w.valid.passes.0

@@ -1,27 +1,20 @@
 -- What a crew of workers leaves to the pass that gathered it.
-use Rattle.std.proofs.Common.{◌≡◌, ℕ, suc, ◌+◌, ◌<◌, ◌≤◌, nat_lt, Bool, true, false, List, [], ◌∷◌, length, map, get_or, All, refl, sym, ap, ◌∙◌, subst, arith, inl, inr, Err, Result}
+use Rattle.std.proofs.Common.{◌≡◌, ℕ, suc, ◌+◌, ◌<◌, ◌≤◌, nat_lt, Bool, true, false, List, [], ◌∷◌, length, map, get_or, All, refl, sym, ap, ◌∙◌, subst, arith, inl, inr, Err}
 use Rattle.std.proofs.lemmas.Bool.{ltb-true, ltb-false}
 use Rattle.std.proofs.lemmas.List.{length-map, get_or-map, get_or_past}
 use Rattle.std.proofs.lemmas.List.Elements.{All-append, All-nil}
-use Rattle.fm_base.specs.declared.arena_id.ArenaId.{ArenaId}
 use Rattle.fm_base.specs.declared.refusal.Refusal.{Refusal}
 use Rattle.fm_base.specs.declared.refusal.Refusal.TheVariants.{Memory, NoPass}
 use Rattle.fm_base.specs.Arenas.{are_one}
 use Rattle.fm_base.specs.Calls.{Entry}
 use Rattle.fm_base.specs.Histories.{made_by}
-use Rattle.fm_base.specs.Outcomes as memory
 use Rattle.fm_base_lists.specs.Among.{IsAmong}
 use Rattle.fm_base_lists.proofs.Among.{among_kept}
-use Rattle.fm_rule_facts.specs.Views.{View, IsSound, limit_of}
-use Rattle.fm_rule_calls.specs.Kept.{Lasts}
-use Rattle.fm_rule_calls.specs.Told.{view_of_pass}
+use Rattle.fm_rule_facts.specs.Views.{View, IsSound}
 use Rattle.fm_script_lines.specs.declared.standing.Standing.{Standing}
 use Rattle.fm_script_lines.specs.declared.standing.Standing.TheVariants.{Nothing}
 use Rattle.fm_script_lines.specs.Numbers.{number_at}
 use Rattle.fm_script_lines.specs.Standings.{IsBacked, lent, standing_as, standing_at}
-use Rattle.fm_script_lines.specs.Tokens.{Backs}
-use Rattle.fm_gate.specs.Makers.{made_by_pass}
-use Rattle.fm_script_lines.proofs.Backing.{backs_still}
 use Rattle.fm_script_lines.proofs.Lent.{stays_lent}
 use Rattle.fm_workers_crew.specs.Crew.{AreDone, CrewWorked, IsWhole}
 use Rattle.fm_workers_crew.proofs.Wanting.{few_last}
@@ -48,18 +41,6 @@ module _ {T : Type 0} (Does : View → T → T → List Entry → Type 0) (old n
   crew_unbegun NoPass w = w.ends.3
   crew_unbegun Memory w = w.ends.3
   crew_unbegun r w = absurd w.ends
-
-lasts_of : (p q : View) → Lasts p q → q.shape ≡ p.shape → q.caller ≡ p.caller → memory.Lasts (view_of_pass p) (view_of_pass q)
-lasts_of p q l shape caller = record { known = l.known; given = l.given; limit = ap limit_of shape; caller = caller }
-
--- The pass that drew it has what it had.
-pub crew_backs : {T : Type 0} (Does : View → T → T → List Entry → Type 0) (old new : View) (tasks done : List T) (r : Result (Unit {0}) Refusal)
-    → CrewWorked Does old new tasks done r → (holds handles : List ArenaId) (base own : List Standing) → Backs old holds handles base own
-    → Backs new holds handles base own
-crew_backs Does old new tasks done r w holds handles base own b =
-    let is = w.crew.is in
-    backs_still old new b (lasts_of old new w.lasts (ap (λ (v : View). v.shape) is) (ap (λ (v : View). v.caller) is)) (ap made_by_pass is)
-    (ap (λ (v : View). v.holds) is) (ap (λ (v : View). v.handles) is)
 
 module _ (w : Playing) (p : View) (sound : IsSound p) (known : All (λ s. IsBacked p (lent s)) w.firsts) where
   first_known : (start : ℕ) → length w.firsts ≤ start → (n : ℕ) → IsBacked p (lent (standing_at w.firsts start [] n))

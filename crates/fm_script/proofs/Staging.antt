@@ -2,7 +2,7 @@
 use Rattle.std.specs.Prelude.{OnOk, Vec}
 use Rattle.std.specs.Result.{is_err}
 use Rattle.std.specs.declared.alloc.Global.{Global}
-use Rattle.std.proofs.Common.{◌≡◌, ◌+◌, ◌≤◌, true, false, List, [], ◌++◌, length, length-append, vec_capacity, All, Result, refl, sym, ap, ◌∙◌, subst, arith}
+use Rattle.std.proofs.Common.{◌≡◌, ◌+◌, ◌≤◌, true, false, List, [], length, length-append, vec_capacity, Result, refl, sym, ap, ◌∙◌, subst, arith}
 use Rattle.std.proofs.lemmas.Result.{on_ok_weaker}
 use Rattle.fm_arena.specs.Shares.{CanShare}
 use Rattle.fm_base.specs.declared.arena_id.ArenaId.{ArenaId}
@@ -18,7 +18,6 @@ use Rattle.fm_script_lines.specs.declared.table.Table.{Table}
 use Rattle.fm_script_lines.specs.Learnt.{AfterLines, CanRunLines, KeepsTable}
 use Rattle.fm_script_lines.specs.Playing.{LinesRan}
 use Rattle.fm_script_lines.specs.Report.{is_first, is_last, lines_by}
-use Rattle.fm_script_lines.specs.Standings.{IsBacked}
 use Rattle.fm_script_lines.specs.Tokens.{Backs, IsReady}
 use Rattle.fm_script_lines.proofs.Returning.{keeps_then}
 use Rattle.fm_script.specs.declared.main_lines.MainLines.{MainLines}

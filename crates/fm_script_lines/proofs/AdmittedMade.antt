@@ -1,7 +1,5 @@
 -- What a name may stand for, by the line that makes it.
-use Rattle.std.proofs.Common.{◌≡◌, refl, sym, ap, subst, ◌∙◌, ℕ, Option, Some, None, Result, Ok, Err, List, [], ◌∷◌, map, MatchOption, All}
-use Rattle.std.specs.List.{AllByRecursion}
-use Rattle.std.proofs.lemmas.List.Elements.{All-from_recursion}
+use Rattle.std.proofs.Common.{◌≡◌, refl, sym, ap, subst, ◌∙◌, ℕ, Option, Some, None, Result, Ok, Err, List, MatchOption}
 use Rattle.std.proofs.lemmas.Bool.{cond_both}
 use Rattle.fm_base.specs.declared.arena_id.ArenaId.{ArenaId}
 use Rattle.fm_base.specs.declared.caller.Caller.{Caller}
@@ -62,13 +60,6 @@ lent_spent s = record {
   no_hold = ap (option_map (λ (h : held.Hold). h.arena)) (lent_none s).0;
   no_handle = ap (option_map (λ (h : AutoHandle). h.arena)) (lent_none s).1;
 }
-
-pub lents_spent : (ss : List Standing) → All IsSpent (map lent ss)
-lents_spent ss = All-from_recursion IsSpent (map lent ss) (each ss)
-  where
-    each : (xs : List Standing) → AllByRecursion IsSpent (map lent xs)
-    each [] = tt
-    each (x ∷ xs) = (lent_spent x, each xs)
 
 -- ---- what a line made
 

@@ -1,9 +1,7 @@
 -- A pass has what names stand for, as it goes on.
-use Rattle.std.proofs.Common.{◌≡◌, ◌≢◌, ℕ, zero, suc, ◌+◌, ◌-◌, ◌<◌, nat_lt, Bool, true, false, List, [], ◌∷◌, ◌++◌, length, get_or, set, refl, ap, sym, ◌∙◌, subst, arith, Option, Some, None, All}
+use Rattle.std.proofs.Common.{◌≡◌, ◌≢◌, ℕ, zero, suc, ◌+◌, ◌<◌, List, [], ◌∷◌, ◌++◌, length, get_or, set, refl, ap, sym, ◌∙◌, subst, arith, Option, Some, None, All}
 use Rattle.std.specs.Prelude.{IfSome}
 use Rattle.std.specs.Option.{option_map}
-use Rattle.std.proofs.lemmas.Bool.{ltb-true, ltb-false}
-use Rattle.std.proofs.lemmas.List.{get_or_past}
 use Rattle.std.proofs.lemmas.List.Elements.{All-push, All-set, All-weaker}
 use Rattle.fm_base.specs.declared.arena_id.ArenaId.{ArenaId}
 use Rattle.fm_base.specs.Arenas.{same_id}
@@ -24,7 +22,7 @@ use Rattle.fm_script_lines.specs.declared.bound.Bound.TheVariants as other
 use Rattle.fm_script_lines.specs.declared.standing.Standing.{Standing}
 use Rattle.fm_script_lines.specs.declared.standing.Standing.TheVariants as standing
 use Rattle.fm_script_lines.specs.declared.standing.Standing.TheVariants.{Nothing, Arena, Segment, Hold, Handle}
-use Rattle.fm_script_lines.specs.Standings.{IsBacked, IsHandleIn, standing_at, standing_of, arena_of, segment_of, hold_in, handle_in, hold_of, handle_of, lent, unheld, handed_back, standing_as}
+use Rattle.fm_script_lines.specs.Standings.{IsBacked, IsHandleIn, standing_of, arena_of, segment_of, hold_in, handle_in, hold_of, handle_of, lent, unheld, handed_back, standing_as}
 use Rattle.fm_script_lines.specs.Tokens.{Backs, BacksWith, HasTokens, among, onto, holds_with, handles_with}
 use Rattle.fm_script_lines.proofs.Naming.{lent_none, of_name, owned, tokens_left}
 use Rattle.fm_script_lines.proofs.Counting.{among_push, among_set, how_many_onto, token_in, token_more, token_less}

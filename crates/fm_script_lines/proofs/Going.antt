@@ -148,9 +148,6 @@ went_on_none p outside = record {
   lasts = record { known = λ id k. k; given = λ id. omega arith; limit = refl; caller = refl };
 }
 
-pub went_on_by : {p q : View} {holds handles : List ArenaId} {Does : List Entry → Type 0} → RanWith p q holds handles Does → WentOn p q
-went_on_by r = record { run = r.own; went = r.went; outside = r.outside; lasts = r.lasts }
-
 pub went_on_then : (p q r : View) → WentOn p q → WentOn q r → WentOn p r
 went_on_then p q r a b = record {
   run = a.run ++ b.run;

@@ -65,15 +65,6 @@ line_none p o Does out is outside skipped =
     subst (λ (y : Option _). RanLine p p (On y Does) out) (sym is)
     (plain_line Skipped out skipped (ran_none p (λ own. Skips (plain Skipped) own) outside (refl, refl)))
 
--- A call of a memory that answered so, on what the name stands for.
-pub line_called : {X Y : Type 0} {p q : View} (o : Option X) (x : X) (Does : X → Result Y Refusal → List Entry → Type 0) (ok : Y → LineOutcome)
-    (result : Result Y Refusal) (reply : Reply) (out : LineOutcome) → o ≡ Some x → out ≡ plain reply → plain reply ≡ coming ok result
-    → q.inside ≡ None → Did (view_of_pass p) (view_of_pass q) (Does x result)
-    → RanLine p q (On o (λ (y : X). Called (Does y) ok)) out
-line_called o x Does ok result reply out is said comes outside did =
-    line_some o x (λ y. Called (Does y) ok) out is
-    (plain_line reply out said (ran_as (ran_by_memory did outside) (λ own d. (result, d, comes))))
-
 -- ---- values
 
 -- A read of a value.

@@ -3,11 +3,10 @@ use Rattle.std.proofs.Common.{◌≡◌, ℕ, length, List, refl, subst, sym, Op
 use Rattle.std.specs.Prelude.{MatchOption}
 use Rattle.std.proofs.lemmas.Option.{MatchOption-at_none}
 use Rattle.fm_script_lines.specs.declared.standing.Standing.{Standing}
-use Rattle.fm_script_lines.specs.declared.standing.Standing.TheVariants.{Nothing}
 use Rattle.fm_script_lines.specs.declared.table.Table.{Table}
 use Rattle.fm_script_lines.specs.Learnt.{TookFrom, stands_by}
 use Rattle.fm_script_lines.specs.Numbers.{number_at}
-use Rattle.fm_script_lines.specs.Standings.{handle_in, hold_in, lent}
+use Rattle.fm_script_lines.specs.Standings.{handle_in, hold_in}
 use Rattle.fm_script_lines.specs.Tables.{IsOwn}
 use Rattle.fm_script_lines.proofs.Naming.{lent_none, not-own}
 

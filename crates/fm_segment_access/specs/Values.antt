@@ -12,11 +12,7 @@ use Rattle.fm_lanes.specs.declared.value_kind.ValueKind.{ValueKind}
 use Rattle.fm_lanes.specs.Coding.{value_of, bytes_of_value}
 use Rattle.fm_lanes.specs.Kind.{width_of}
 use Rattle.fm_segment_access.specs.Alone.{bytes_of_arena, FindsAs, ChangesBytes}
-use Rattle.fm_segment_access.specs.Ranges.{ReadsAs, DoesRead, DoesPut}
-
--- the visits read the bytes that mean v
-abbrev pub ReadsValue : Caller → ValueKind → Order → ArenaId → ℕ → Value → List Entry → Type 0
-ReadsValue c k o id place = ReadsAs (value_of k o) c id place (width_of k)
+use Rattle.fm_segment_access.specs.Ranges.{DoesRead, DoesPut}
 
 abbrev pub DoesGetValue : Caller → ValueKind → Order → ArenaId → ℕ → Result Value Refusal → List Entry → Type 0
 DoesGetValue c k o id place = DoesRead (value_of k o) c id place (width_of k)

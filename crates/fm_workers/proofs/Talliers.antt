@@ -7,7 +7,6 @@ use Rattle.std.proofs.lemmas.List.{append-nil, map-append}
 use Rattle.fm_base.specs.declared.caller.Caller.{Caller}
 use Rattle.fm_base.specs.declared.kind.Kind.TheVariants.{Confined}
 use Rattle.fm_base.specs.declared.refusal.Refusal.{Refusal}
-use Rattle.fm_base.specs.declared.refusal.Refusal.TheVariants.{Memory}
 use Rattle.fm_base.specs.Calls.{Entry}
 use Rattle.fm_base.specs.View.{Did, Makes, View}
 use Rattle.fm_base.proofs.Making.{Makes-none, Makes-then}
@@ -30,7 +29,7 @@ use Rattle.fm_workers_shares.proofs.Serving.{can_query_share}
 use Rattle.fm_workers.specs.declared.tallier.Tallier.{Tallier}
 use Rattle.fm_workers.specs.Adding.{DoesAdd, HasCounts}
 use Rattle.fm_workers.specs.Counts.{AreCounts, AreSums, IsTally, listed}
-use Rattle.fm_workers.specs.Tallies.{CanCount, CanCountShares, CanTally, CanTallyShares, CountsShare, CountsTaken, DoesCount, EndsTallying, IsReady, StopsCounting, Tallying, all_numbers, unadded, uncounted}
+use Rattle.fm_workers.specs.Tallies.{CanCount, CanCountShares, CanTally, CountsShare, CountsTaken, DoesCount, EndsTallying, IsReady, StopsCounting, Tallying, all_numbers, unadded, uncounted}
 use Rattle.fm_workers.proofs.Numbers.{both_counted}
 
 pub all_numbers-append : (ds es : List Done) → all_numbers (ds ++ es) ≡ all_numbers ds ++ all_numbers es
@@ -59,15 +58,6 @@ counted_share p s each job old new more u d sums = record {
     d.does.did,
     λ ns are. both_counted ns (listed d.does.found) old more new are d.does.are sums,
   );
-  makes = d.makes;
-}
-
--- A sum can't be kept.
-pub unsummed_share : {x y : View} (p : Plan) (s : Region) (each job : ℕ) (old new more : List ℕ) (r : Refusal) → r ≡ Memory
-    → Did x y (DoesCount x.caller p (share_of p s each job) (Ok more)) → Did x y (CountsShare x.caller p s each job old new (Err r))
-unsummed_share {x} p s each job old new more r is d = record {
-  own = d.own;
-  does = subst (λ (e : Refusal). DoesCount x.caller p (share_of p s each job) (Err e) d.own) (sym is) d.does.did.reads;
   makes = d.makes;
 }
 
@@ -201,16 +191,6 @@ module _ {jobs : Jobs} {p : Plan} {s : Region} {each : ℕ} {x y : View} (counts
   none_added r d = record { own = d.own; does = (uncounted d.does.0, d.does.1); makes = d.makes }
 
 -- ---- as work
-
-pub can_tally_shares : (w : Tallying) (v : Passes) (t : Tallier) → v.inside ≡ None → CanTally w v t
-    → CanTallyShares (view_of_pass v) w.plan w.segment w.counts
-can_tally_shares w v t outside can = record {
-  count = record {
-    tally = can.tally;
-    serve = record { query = record { outside = outside; known = can.known; aligned = can.aligned }; open_to_all = can.open_to_all };
-  };
-  add = record { outside = outside; known = can.counts_known; may = λ is. absurd (can.shared is); longs = can.longs };
-}
 
 pub can_tally_all : (w : Tallying) (v : Passes) (ts : List Tallier) → IsTally w.plan → IsKnown (view_of_pass v) w.segment
     → w.segment.first % w.plan.alignment ≡ 0 → w.segment.arena.kind ≢ Confined → IsKnown (view_of_pass v) w.counts → w.counts.arena.kind ≢ Confined

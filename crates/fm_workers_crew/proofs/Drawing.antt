@@ -1,5 +1,5 @@
 -- Passes that are drawn one by one.
-use Rattle.std.proofs.Common.{◌≡◌, ◌+◌, ◌<◌, true, List, [], ◌∷◌, ◌++◌, length, refl, ap, sym, ◌∙◌, subst, arith, append_assoc, ⊎_elim, inl, inr, All, get_or, Err, Bool, length-append}
+use Rattle.std.proofs.Common.{◌≡◌, ◌+◌, ◌<◌, true, List, [], ◌∷◌, ◌++◌, length, refl, ap, sym, ◌∙◌, subst, arith, append_assoc, ⊎_elim, inl, inr, All, get_or, Err, length-append}
 use Rattle.std.specs.List.{AllByRecursion}
 use Rattle.std.proofs.lemmas.List.{append-nil, map-append}
 use Rattle.std.proofs.lemmas.List.Elements.{filter-append}
@@ -17,7 +17,7 @@ use Rattle.fm_rule_facts.specs.Views.{View, In, HasCaller}
 use Rattle.fm_rule_facts.specs.Splits.{view_of}
 use Rattle.fm_rule_facts.proofs.Keeping.{in_append}
 use Rattle.fm_rule.specs.declared.pool.Pool.{Pool}
-use Rattle.fm_rule.specs.Draws.{Asked, Drawn, Drew, NoneDrawn, FoundNone, Looked}
+use Rattle.fm_rule.specs.Draws.{Asked, Drawn, Drew, NoneDrawn, FoundNone}
 use Rattle.fm_gate.specs.Needs.{IsOutside}
 use Rattle.fm_arena.specs.Shares.{CanShare}
 use Rattle.fm_workers_crew.specs.declared.worker.Worker.{Worker}
@@ -191,12 +191,6 @@ outside_asked o a = record {
 
 pub outside_drew : {pool : Pool} {p q d : View} → IsOutside pool p → Drawn p q d → IsOutside pool q
 outside_drew o k = outside_asked o k.asked
-
-pub outside_none : {pool : Pool} {p q : View} → IsOutside pool p → NoneDrawn p q → IsOutside pool q
-outside_none o k = outside_asked o k.asked
-
-pub outside_looked : {pool : Pool} {p q : View} {b : Bool} → IsOutside pool p → Looked p q b → IsOutside pool q
-outside_looked o k = outside_asked o k.asked
 
 -- The drawn pass is outside too.
 pub outside_new : {pool : Pool} {p q d : View} → IsOutside pool p → Drawn p q d → IsOutside pool d

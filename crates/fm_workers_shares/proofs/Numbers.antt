@@ -1,12 +1,11 @@
 -- Where shares begin and end, and how many there are.
-use Rattle.std.proofs.Common.{◌≡◌, ℕ, suc, ◌+◌, ◌-◌, ◌*◌, ◌/◌, ◌<◌, ◌≤◌, List, [], ◌∷◌, ◌++◌, map, max, sym, ap, ◌∙◌, subst, arith}
+use Rattle.std.proofs.Common.{◌≡◌, ℕ, suc, ◌+◌, ◌-◌, ◌*◌, ◌/◌, ◌<◌, ◌≤◌, List, [], ◌∷◌, ◌++◌, map, sym, ap, ◌∙◌, subst, arith}
 use Rattle.std.specs.List.{range_with_len}
-use Rattle.std.specs.Int.{div_ceil}
 use Rattle.std.proofs.Math.Nat.{add-mul, mul-le-mul_right, div-mul-le_self}
 use Rattle.std.proofs.lemmas.Grind.{div_ceil_times}
 use Rattle.std.proofs.lemmas.List.{map-append}
 use Rattle.fm_workers_jobs.proofs.Batches.{range_with_len-more}
-use Rattle.fm_workers_shares.specs.Shares.{each_of, many_of, start_of}
+use Rattle.fm_workers_shares.specs.Shares.{many_of, start_of}
 
 -- A run's bytes and those before it are all up to its end.
 pub run_ends : (from to size : ℕ) → from ≤ to → from * size + (to - from) * size ≡ to * size
@@ -29,23 +28,6 @@ run_within from to size {n} {total} is order within = subst (λ k. from * k + (t
 -- So many shares are enough.
 pub all_in : (count each : ℕ) → 0 < each → count ≤ many_of count each * each
 all_in count each some = (div_ceil_times count each some).0
-
--- They are no more than so many times as many fit.
-few_enough : (count each times : ℕ) → 0 < each → count ≤ times * each → many_of count each ≤ times
-few_enough count each times some fits =
-    let less = (div_ceil_times count each some).1 in
-    let more : (times + 1) * each ≡ times * each + each = grind arith in
-    let over : times + 1 ≤ div_ceil count each → ⊥ =
-    λ e. let k = mul-le-mul_right each e in omega (arith, k, more, less, fits) in
-    omega (arith, over)
-
-pub many_few : (count threads : ℕ) → 0 < threads → many_of count (each_of count threads) ≤ 4 * threads
-many_few count threads some =
-    let most : count ≤ div_ceil count (4 * threads) * (4 * threads) = (div_ceil_times count (4 * threads) (omega (arith, some))).0 in
-    let least : div_ceil count (4 * threads) ≤ max (div_ceil count (4 * threads)) 1 = omega arith in
-    let wide = mul-le-mul_right (4 * threads) least in
-    let turned : max (div_ceil count (4 * threads)) 1 * (4 * threads) ≡ 4 * threads * max (div_ceil count (4 * threads)) 1 = grind arith in
-    few_enough count (each_of count threads) (4 * threads) (omega arith) (omega (arith, most, wide, turned))
 
 -- ---- where they begin
 

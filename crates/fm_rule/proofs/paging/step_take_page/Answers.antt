@@ -1,6 +1,6 @@
 use Rattle.fm_rule_facts.proofs.Groups.{group_of_page}
 use Rattle.fm_rule_facts.specs.Steps.{part, entries, noted}
-use Rattle.fm_rule.proofs.Knowing.{opened, fits}
+use Rattle.fm_rule.proofs.Knowing.{opened}
 use Rattle.fm_rule.proofs.Making.{can_take_page}
 use Rattle.fm_rule.proofs.Stepping.{step_stepped}
 use Rattle.fm_rule.proofs.paging.step_take_page.Goals as goal

@@ -1,4 +1,4 @@
-use Rattle.std.proofs.Common.{List, Result, sym, ap, ◌∙◌, subst}
+use Rattle.std.proofs.Common.{List, Result, sym, ◌∙◌, subst}
 use Rattle.std.specs.Prelude.{IfOk}
 use Rattle.fm_script_text.specs.declared.line.Line.{Line}
 use Rattle.fm_script.specs.declared.main_lines.MainLines.{MainLines}
