@@ -44,15 +44,23 @@ use std::sync::Wait;
 use std::thread::Threads;
 use std::time::Instant;
 
+/// What the words ask for: a loop, how often it goes round, and a word behind that, which most loops don't look at.
+#[derive(Drop)]
+struct Asked {
+    what: String,
+    count: u64,
+    text: String,
+}
+
 fn main(rt: HostRuntime) -> ExitCode {
     let printed = match words(&rt) {
-        Some((what, count, text)) => match what.as_str() {
+        Some(asked) => match asked.what.as_str() {
             "reuse" => {
                 let start = Instant::now(&rt);
-                let count = reuse_by(&rt, count, &text);
+                let count = reuse_by(&rt, asked.count, &asked.text);
                 print_count(&rt, start.ok(), count).is_some()
             }
-            _ => match run(&rt, rt.alloc(), &what, count, &text) {
+            _ => match run(&rt, rt.alloc(), &asked) {
                 Some(joined) => println!(rt; "{joined}").is_ok(),
                 None => false,
             },
@@ -94,23 +102,18 @@ fn print_count(rt: &HostRuntime, start: Option<Instant>, count: Option<Count>) -
 }
 
 /// The words behind the program's name, where they are of the form; a third one may be left out.
-fn words(rt: &HostRuntime) -> Option<(String, u64, String)> {
+fn words(rt: &HostRuntime) -> Option<Asked> {
     let mut words = env::args(rt).ok()?.skip(1);
     let what = words.next()?;
     let count = words.next()?.as_str().parse::<u64>().ok()?;
     let text = words.next().unwrap_or(String::new(rt.alloc()));
-    Some((what, count, text))
+    Some(Asked { what, count, text })
 }
 
 /// Runs the loop of this name; none where there is no such loop, or memory ran out.
-fn run<R: Threads + Wait + Sync>(
-    rt: &R,
-    alloc: Global,
-    what: &str,
-    count: u64,
-    text: &str,
-) -> Option<u64> {
-    let joined = match what {
+fn run<R: Threads + Wait + Sync>(rt: &R, alloc: Global, asked: &Asked) -> Option<u64> {
+    let count = asked.count;
+    let joined = match asked.what.as_str() {
         "visits" => visits(rt, alloc, count),
         "gates" => gates(rt, alloc, count),
         "spreads" => spreads(rt, alloc, count),
@@ -118,20 +121,15 @@ fn run<R: Threads + Wait + Sync>(
         "hops" => hops(rt, alloc, count),
         "closes" => closes(rt, alloc, count),
         "loads" => return loads(alloc, count).ok(),
-        _ => return run_on_pages(rt, alloc, what, count, text),
+        _ => return run_on_pages(rt, alloc, asked),
     };
     joined.ok()
 }
 
 /// The same of the loops that open arenas and give their bytes, and of those behind them.
-fn run_on_pages<R: Threads + Wait + Sync>(
-    rt: &R,
-    alloc: Global,
-    what: &str,
-    count: u64,
-    text: &str,
-) -> Option<u64> {
-    let joined = match what {
+fn run_on_pages<R: Threads + Wait + Sync>(rt: &R, alloc: Global, asked: &Asked) -> Option<u64> {
+    let count = asked.count;
+    let joined = match asked.what.as_str() {
         "opens" => opens(rt, alloc, count),
         "wipes" => wipes(rt, alloc, count),
         "grows" => grows(rt, alloc, count),
@@ -139,26 +137,21 @@ fn run_on_pages<R: Threads + Wait + Sync>(
         "firsts" => firsts(rt, alloc, count),
         "lasts" => lasts(rt, alloc, count),
         "gives" => gives(rt, alloc, count),
-        _ => return run_updates(rt, alloc, what, count, text),
+        _ => return run_updates(rt, alloc, asked),
     };
     joined.ok()
 }
 
 /// The same of the loops that update words, and of those of crews.
-fn run_updates<R: Threads + Wait + Sync>(
-    rt: &R,
-    alloc: Global,
-    what: &str,
-    count: u64,
-    text: &str,
-) -> Option<u64> {
-    let joined = match what {
+fn run_updates<R: Threads + Wait + Sync>(rt: &R, alloc: Global, asked: &Asked) -> Option<u64> {
+    let count = asked.count;
+    let joined = match asked.what.as_str() {
         "adds" => updates(rt, alloc, count, Update::Add),
         "swaps" => updates(rt, alloc, count, Update::Swap),
         "patches" => updates(rt, alloc, count, Update::Patch),
         "draws" => draws(rt, alloc, count),
-        "beside" => crowd(rt, alloc, count, text.parse::<u64>().ok()?, 7),
-        "apart" => crowd(rt, alloc, count, text.parse::<u64>().ok()?, 0),
+        "beside" => crowd(rt, alloc, count, asked.text.parse::<u64>().ok()?, 7),
+        "apart" => crowd(rt, alloc, count, asked.text.parse::<u64>().ok()?, 0),
         "stress" => stress(rt, alloc, count, Trial::Adds),
         "recruits" => stress(rt, alloc, count, Trial::Recruits),
         _ => return None,

@@ -87,8 +87,7 @@ fn plays_first<R: Abort + AllocGlobal + Threads + Wait + Sync>(
     plays(rt, text.as_str(), wanted.as_str());
 }
 
-/// An arena keeps the pages that a refused line got, and they come back with its close. The last pool's pages have
-/// their bits in two words.
+/// An arena keeps the pages that a refused line got, and they come back with its close.
 #[test]
 fn pages_run_out(rt: HostRuntime) {
     plays_first(
@@ -136,6 +135,12 @@ first get w long 0 -> 0
 ",
         "bytes a 00000000000000000000000000000000\nbytes c 0000000000000000\n",
     );
+}
+
+/// Past its limit an arena is refused by the limit, whether pages are free or not. The last pool's pages have their bits
+/// in two words.
+#[test]
+fn a_limit_comes_before_pages(rt: HostRuntime) {
     plays_first(
         &rt,
         "pool 1 1 1 1000 5",
