@@ -1,14 +1,10 @@
 -- Where a pass finds no page.
 use Rattle.std.proofs.Common.{◌≡◌, ℕ, List, [], ◌∷◌, ◌++◌, ap, sym, ◌∙◌, subst, Result}
-use Rattle.fm_base.specs.declared.arena_id.ArenaId.{ArenaId}
-use Rattle.fm_base.specs.declared.refusal.Refusal.{Refusal}
-use Rattle.fm_base.specs.Calls.{Entry, Enter, Fine, entry_of}
-use Rattle.fm_base.specs.Histories.{made_by}
+use Rattle.fm_base.specs.{declared.{arena_id.ArenaId.{ArenaId}, refusal.Refusal.{Refusal}}, Calls.{Entry, Enter, Fine, entry_of}, Histories.{made_by}}
 use Rattle.fm_rule_facts.specs.Views.{View, In}
 use Rattle.fm_rule.specs.declared.pool.Pool.{Pool}
 use Rattle.fm_gate.specs.Learnt.{AfterAllocate}
-use Rattle.fm_arena.specs.Allocating.{AllocatesExactly}
-use Rattle.fm_arena.proofs.Opening.{none_swept}
+use Rattle.fm_arena.{specs.Allocating.{AllocatesExactly}, proofs.Opening.{none_swept}}
 
 -- What goes on from a list is one.
 on_once : {A : Type 0} (xs ys zs : List A) → xs ++ ys ≡ xs ++ zs → ys ≡ zs

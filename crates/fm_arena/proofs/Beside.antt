@@ -1,25 +1,13 @@
 -- Holds and handles beside others of their pass.
-use Rattle.std.proofs.Common.{◌≡◌, ◌<◌, List, ◌∷◌, ap, sym, subst, arith, Result, Ok, Err}
-use Rattle.std.specs.Prelude.{IfOk}
-use Rattle.fm_base.specs.declared.arena_id.ArenaId.{ArenaId}
-use Rattle.fm_base.specs.declared.refusal.Refusal.{Refusal}
-use Rattle.fm_base.specs.Arenas.{same_id}
-use Rattle.fm_base.specs.Finds.{Rest}
-use Rattle.fm_base.proofs.Names.{same_id-self}
-use Rattle.fm_rule_facts.specs.Views.{View, In}
-use Rattle.fm_rule_facts.specs.Holds.{how_many, one_if, released}
-use Rattle.fm_rule_facts.proofs.Summing.{some_hold, one_less}
-use Rattle.fm_gate.specs.declared.held.Hold.{Hold}
-use Rattle.fm_gate.proofs.Counted.{some_in, in_released}
-use Rattle.fm_gate.proofs.Outside.{made_on}
+use Rattle.std.{proofs.Common.{◌≡◌, ◌<◌, List, ◌∷◌, ap, sym, subst, arith, Result, Ok, Err}, specs.Prelude.{IfOk}}
+use Rattle.fm_base.{specs.{declared.{arena_id.ArenaId.{ArenaId}, refusal.Refusal.{Refusal}}, Arenas.{same_id}, Finds.{Rest}}, proofs.Names.{same_id-self}}
 use Rattle.fm_base.specs.declared.kind.Kind.TheVariants.{Automatic}
-use Rattle.fm_arena.specs.declared.handle.AutoHandle.{AutoHandle}
-use Rattle.fm_arena.specs.Learnt.{AfterHold, CanUnhold}
-use Rattle.fm_arena.specs.Handles.{HasHandle, AfterAgain, named, whether}
+use Rattle.fm_rule_facts.{specs.{Views.{View, In}, Holds.{how_many, one_if, released}}, proofs.Summing.{some_hold, one_less}}
+use Rattle.fm_gate.{specs.declared.held.Hold.{Hold}, proofs.{Counted.{some_in, in_released}, Outside.{made_on}, Both.{in_taken}}}
+use Rattle.fm_gate.proofs.Outliving.{in_again, in_opened}
+use Rattle.fm_arena.specs.{declared.handle.AutoHandle.{AutoHandle}, Learnt.{AfterHold, CanUnhold}, Handles.{HasHandle, AfterAgain, named, whether}}
 use Rattle.fm_arena.specs.Lasting.{AreTwo, HasBoth, HoldsStand, HasTwo, HandlesStand, HoldLasts, HandleLasts}
 use Rattle.fm_arena.proofs.Lasting.{hold_on, hold_same, hold_after, handle_on, handle_same, handle_after}
-use Rattle.fm_gate.proofs.Both.{in_taken}
-use Rattle.fm_gate.proofs.Outliving.{in_again, in_opened}
 
 -- Of two in a list one is left where one is left out.
 left_of_two : (a : ArenaId) (hs ks : List ArenaId) → ks ≡ released a hs → In a hs → 1 < how_many a hs → In a ks

@@ -1,27 +1,16 @@
 -- What a call of the gate teaches of its pass, as the memory tells it.
-use Rattle.std.proofs.Common.{◌≡◌, ◌≢◌, ◌≤◌, ◌^◌, ℕ, List, [], ◌++◌, refl, ap, ◌∙◌, subst, Some, Result, Ok, Err}
-use Rattle.std.specs.Prelude.{IfErr}
-use Rattle.fm_base.specs.declared.arena_id.ArenaId.{ArenaId}
-use Rattle.fm_base.specs.declared.kind.Kind.{Kind}
-use Rattle.fm_base.specs.declared.kind.Kind.TheVariants.{Automatic}
-use Rattle.fm_base.specs.declared.refusal.Refusal.{Refusal}
-use Rattle.fm_base.specs.declared.refusal.Refusal.TheVariants as refusal
-use Rattle.fm_base.specs.Calls.{Call, Reply, Entry}
-use Rattle.fm_base.specs.Histories.{IsLegal}
-use Rattle.fm_base.specs.View as memory
-use Rattle.fm_base.specs.View.{inside_next, but_loans}
-use Rattle.fm_base.specs.Does.{DoesOpen}
-use Rattle.fm_base.specs.Finds.{is_slot, FoundNothing}
-use Rattle.fm_base.specs.Outcomes.{MayCome}
-use Rattle.fm_base.specs.Learnt as memory_calls
-use Rattle.fm_base.proofs.Making.{IsLegal-split}
+use Rattle.std.{proofs.Common.{◌≡◌, ◌≢◌, ◌≤◌, ◌^◌, ℕ, List, [], ◌++◌, refl, ap, ◌∙◌, subst, Some, Result, Ok, Err}, specs.Prelude.{IfErr}}
+use Rattle.fm_base.specs.declared.{arena_id.ArenaId.{ArenaId}, kind.Kind.{Kind, TheVariants.{Automatic}}, refusal.Refusal.{Refusal}}
+use Rattle.fm_base.specs.{Calls.{Call, Reply, Entry}, Histories.{IsLegal}, View.{inside_next, but_loans}, Does.{DoesOpen}, Finds.{is_slot, FoundNothing}}
+use Rattle.fm_base.{specs.Outcomes.{MayCome}, proofs.Making.{IsLegal-split}}
 use Rattle.fm_base.proofs.Learning.{after_enter, after_act, after_patch, after_leave, after_open, after_allocate, after_close}
+use Rattle.fm_base.specs.declared.refusal.Refusal.TheVariants as refusal
+use Rattle.fm_base.specs.View as memory
+use Rattle.fm_base.specs.Learnt as memory_calls
 use Rattle.fm_words.specs.declared.shape.Shape.{Shape}
 use Rattle.fm_rule_facts.specs.Views.{View, limit_of}
 use Rattle.fm_rule.specs.declared.pool.Pool.{Pool}
-use Rattle.fm_rule_calls.specs.Kept.{Goes, Kept, rest_of}
-use Rattle.fm_rule_calls.specs.Told.{view_of_pass}
-use Rattle.fm_rule_calls.proofs.Telling.{did_of}
+use Rattle.fm_rule_calls.{specs.{Kept.{Goes, Kept, rest_of}, Told.{view_of_pass}}, proofs.Telling.{did_of}}
 use Rattle.fm_gate.specs.Learnt as gate
 use Rattle.fm_gate.proofs.Scarce.{one_empty}
 use Rattle.fm_close.specs.Learnt as closing

@@ -1,7 +1,6 @@
 -- What is told of a pass tells whether it has anything.
 use Rattle.std.proofs.Common.{subst, sym}
-use Rattle.fm_gate.specs.Crews.{HasNothing}
-use Rattle.fm_gate.proofs.Crews.{nothing_told, stands}
+use Rattle.fm_gate.{specs.Crews.{HasNothing}, proofs.Crews.{nothing_told, stands}}
 use Rattle.fm_arena.specs.WorkerLaws.{WorkerLasts}
 
 pub lasts : WorkerLasts

@@ -1,20 +1,11 @@
 -- What is told of a pass tells its pool and what it has.
 use Rattle.std.proofs.Common.{◌≡◌, ◌∙◌, ◌∷◌, ◌++◌, ℕ, List, ap, sym, subst}
-use Rattle.fm_base.specs.declared.arena_id.ArenaId.{ArenaId}
-use Rattle.fm_base.specs.Calls.{Entry}
-use Rattle.fm_base.specs.Finds.{Rest}
-use Rattle.fm_base.specs.View.{Makes}
-use Rattle.fm_base.proofs.Outcomes.{Makes-lasts}
+use Rattle.fm_base.{specs.{declared.arena_id.ArenaId.{ArenaId}, Calls.{Entry}, Finds.{Rest}, View.{Makes}}, proofs.Outcomes.{Makes-lasts}}
 use Rattle.fm_words.specs.declared.shape.Shape.{Shape}
 use Rattle.fm_rule_facts.specs.Views.{View, In, IsKnown}
-use Rattle.fm_gate.specs.declared.held.Hold.{Hold}
-use Rattle.fm_gate.specs.Makers.{made_by_pass}
-use Rattle.fm_rule_calls.specs.Kept.{shape_numbers}
-use Rattle.fm_rule_calls.specs.Told.{view_of_pass}
-use Rattle.fm_arena.specs.declared.handle.AutoHandle.{AutoHandle}
-use Rattle.fm_arena.specs.Learnt.{CanUnhold}
-use Rattle.fm_arena.specs.Handles.{HasHandle, IsHandled}
-use Rattle.fm_arena.specs.Lasting.{StaysInItsPool, KeepsItsPool}
+use Rattle.fm_gate.specs.{declared.held.Hold.{Hold}, Makers.{made_by_pass}}
+use Rattle.fm_rule_calls.specs.{Kept.{shape_numbers}, Told.{view_of_pass}}
+use Rattle.fm_arena.specs.{declared.handle.AutoHandle.{AutoHandle}, Learnt.{CanUnhold}, Handles.{HasHandle, IsHandled}, Lasting.{StaysInItsPool, KeepsItsPool}}
 
 -- The shape whose numbers these are.
 abbrev shape_from : Shape → List ℕ → Shape

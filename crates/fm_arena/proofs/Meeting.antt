@@ -1,16 +1,10 @@
 -- Meeting what another pass has seen.
 use Rattle.std.proofs.Common.{◌≡◌, ℕ, List, [], ◌++◌, refl, ap, sym, ◌∙◌, subst}
-use Rattle.fm_base.specs.Arenas.{State}
-use Rattle.fm_base.specs.Calls.{Entry}
-use Rattle.fm_base.specs.Histories.{IsLegal, state_after}
-use Rattle.fm_base.proofs.Growing.{Grows, Grows-state_after}
+use Rattle.fm_base.{specs.{Arenas.{State}, Calls.{Entry}, Histories.{IsLegal, state_after}}, proofs.Growing.{Grows, Grows-state_after}}
 use Rattle.fm_base.proofs.Making.{state_after-append, IsLegal-split}
-use Rattle.fm_rule_facts.specs.Views.{View, limit_of}
-use Rattle.fm_rule_facts.specs.Steps.{Stepped, none_noted}
+use Rattle.fm_rule_facts.specs.{Views.{View, limit_of}, Steps.{Stepped, none_noted}}
 use Rattle.fm_rule.specs.Passes.{GoesOnFrom}
-use Rattle.fm_rule_calls.specs.Kept.{Goes}
-use Rattle.fm_rule_calls.proofs.Going.{rest_is, inside_is, lasts_on}
-use Rattle.fm_rule_calls.proofs.Waiting.{waits_by}
+use Rattle.fm_rule_calls.{specs.Kept.{Goes}, proofs.{Going.{rest_is, inside_is, lasts_on}, Waiting.{waits_by}}}
 use Rattle.fm_arena.specs.Learnt.{AfterMeet}
 
 -- From the beginning of a legal history to its end arenas and what they gave are never fewer.

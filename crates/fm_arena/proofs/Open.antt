@@ -1,10 +1,6 @@
 -- An arena that a pass has a hold or a handle of is open to it.
 use Rattle.std.proofs.Common.{◌≡◌, ◌≢◌, List, ap, sym, ◌∙◌, subst, All}
-use Rattle.fm_base.specs.declared.arena_id.ArenaId.{ArenaId}
-use Rattle.fm_base.specs.Arenas.{State, arena_of}
-use Rattle.fm_base.specs.Calls.{Enter, Closed, Entry}
-use Rattle.fm_base.specs.Finds.{Rest}
-use Rattle.fm_base.specs.View.{Makes}
+use Rattle.fm_base.specs.{declared.arena_id.ArenaId.{ArenaId}, Arenas.{State, arena_of}, Calls.{Enter, Closed, Entry}, Finds.{Rest}, View.{Makes}}
 use Rattle.fm_rule_facts.specs.Views.{View, In, IsSound, grips, limit_of, state_in}
 use Rattle.fm_rule_calls.specs.Told.{view_of_pass}
 use Rattle.fm_gate.proofs.Living.{none_shut_out, grips_are}

@@ -1,23 +1,13 @@
 -- Where a pass finds no slot, and what it learns of another handle.
 use Rattle.std.proofs.Common.{◌≡◌, ◌∙◌, [], ◌∷◌, List, Result, ap, refl, sym, Ok, Err}
-use Rattle.fm_base.specs.declared.arena_id.ArenaId.{ArenaId}
-use Rattle.fm_base.specs.declared.kind.Kind.{Kind}
-use Rattle.fm_base.specs.declared.kind.Kind.TheVariants.{Automatic}
-use Rattle.fm_base.specs.declared.refusal.Refusal.{Refusal}
-use Rattle.fm_base.specs.Finds.{Sweep}
-use Rattle.fm_rule_facts.specs.Hands.{Hand, nothing}
-use Rattle.fm_rule_facts.specs.Views.{View}
+use Rattle.fm_base.specs.{declared.{arena_id.ArenaId.{ArenaId}, kind.Kind.{Kind, TheVariants.{Automatic}}, refusal.Refusal.{Refusal}}, Finds.{Sweep}}
+use Rattle.fm_base.specs.{View.{inside_after}, declared.refusal.Refusal.TheVariants.{TooManyHolds}}
+use Rattle.fm_rule_facts.specs.{Hands.{Hand, nothing}, Views.{View}}
 use Rattle.fm_rule.specs.declared.pool.Pool.{Pool}
 use Rattle.fm_rule_calls.specs.Kept.{slots_told}
-use Rattle.fm_base.specs.View.{inside_after}
-use Rattle.fm_base.specs.declared.refusal.Refusal.TheVariants.{TooManyHolds}
-use Rattle.fm_gate.specs.Makers.{Made, made_by_pass}
-use Rattle.fm_gate.proofs.Outside.{made_on}
+use Rattle.fm_gate.{specs.{Makers.{Made, made_by_pass}, Learnt.{AfterOpen}}, proofs.Outside.{made_on}}
 use Rattle.fm_gate.specs.Learnt as gate
-use Rattle.fm_arena.specs.declared.handle.AutoHandle.{AutoHandle}
-use Rattle.fm_gate.specs.Learnt.{AfterOpen}
-use Rattle.fm_arena.specs.Handles.{AfterAgain, AfterStart, HasHandle}
-use Rattle.fm_arena.specs.Opening.{HasNoSlot, OpensExactly}
+use Rattle.fm_arena.specs.{declared.handle.AutoHandle.{AutoHandle}, Handles.{AfterAgain, AfterStart, HasHandle}, Opening.{HasNoSlot, OpensExactly}}
 
 -- Where no slot is told, every arena that was ended is swept.
 pub none_swept : (cs : List Sweep) (hand : Hand) → slots_told cs hand ≡ [] → cs ≡ []

@@ -1,19 +1,14 @@
 -- Where a pass finds no page for an allocation.
 use Rattle.std.specs.Prelude.{◌≡◌, ◌++◌, ℕ, true, List, [], Result, Err}
-use Rattle.fm_base.specs.declared.arena_id.ArenaId.{ArenaId}
-use Rattle.fm_base.specs.declared.refusal.Refusal.{Refusal}
-use Rattle.fm_base.specs.declared.refusal.Refusal.TheVariants.{PoolFull}
-use Rattle.fm_base.specs.Calls.{Entry, Enter, Fine, entry_of}
-use Rattle.fm_base.specs.Histories.{made_by}
-use Rattle.fm_base.specs.View.{is_loan}
+use Rattle.fm_base.specs.{declared.{arena_id.ArenaId.{ArenaId}, refusal.Refusal.{Refusal, TheVariants.{PoolFull}}}, Calls.{Entry, Enter, Fine, entry_of}}
+use Rattle.fm_base.specs.{Histories.{made_by}, View.{is_loan}}
 use Rattle.fm_base.specs.Learnt as memory
 use Rattle.fm_rule_facts.specs.Views.{View, In}
 use Rattle.fm_gate.specs.Pages.{FoundNoPage, FullExactly, LendsInRange}
 use Rattle.fm_rule_calls.specs.Told.{view_of_pass}
 use Rattle.fm_segment.specs.Region.{Region}
 use Rattle.fm_arena.specs.Arenas as arena
-use Rattle.fm_arena.specs.Opening.{HasNoSlot}
-use Rattle.fm_arena.specs.Shares.{nature_of_shared}
+use Rattle.fm_arena.specs.{Opening.{HasNoSlot}, Shares.{nature_of_shared}}
 
 -- what each memory teaches of allocating, of a pass
 abbrev pub Allocates : View → View → ArenaId → ℕ → ℕ → Result ℕ Refusal → Type 0

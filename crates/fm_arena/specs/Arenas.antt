@@ -1,12 +1,8 @@
 -- What an `Arena` learns of the calls that it hands on to a memory.
 use Rattle.std.specs.Prelude.{◌≡◌, ℕ, Result, Ok, Err, IfOk}
-use Rattle.fm_base.specs.declared.arena_id.ArenaId.{ArenaId}
-use Rattle.fm_base.specs.declared.refusal.Refusal.{Refusal}
+use Rattle.fm_base.specs.{declared.{arena_id.ArenaId.{ArenaId}, refusal.Refusal.{Refusal}}, Outcomes.{Nature}, View.{View}}
 use Rattle.fm_base.specs.Learnt as memory
-use Rattle.fm_base.specs.Outcomes.{Nature}
-use Rattle.fm_base.specs.View.{View}
-use Rattle.fm_segment.specs.Access.{IsKnown}
-use Rattle.fm_segment.specs.Region.{Region, region_of}
+use Rattle.fm_segment.specs.{Access.{IsKnown}, Region.{Region, region_of}}
 use Rattle.fm_arena.specs.declared.arena.Arena.{Arena}
 
 -- the name of the arena that was started

@@ -1,21 +1,12 @@
 -- Handles of automatic arenas: what their calls ask for and teach.
 use Rattle.std.specs.Prelude.{◌≡◌, None, Result, Ok, Err, IfOk, IfErr}
-use Rattle.fm_base.specs.declared.arena_id.ArenaId.{ArenaId}
-use Rattle.fm_base.specs.declared.kind.Kind.TheVariants.{Automatic}
-use Rattle.fm_base.specs.declared.refusal.Refusal.{Refusal}
-use Rattle.fm_base.specs.declared.refusal.Refusal.TheVariants.{NoSlot}
-use Rattle.fm_base.specs.Does.{DoesOpen, DoesAgain, DoesGiveBack}
-use Rattle.fm_base.specs.View.{but_loans}
-use Rattle.fm_rule_facts.specs.Views.{View, In, IsKnown}
-use Rattle.fm_rule_facts.specs.Holds.{released}
+use Rattle.fm_base.specs.declared.{arena_id.ArenaId.{ArenaId}, kind.Kind.TheVariants.{Automatic}, refusal.Refusal.{Refusal, TheVariants.{NoSlot}}}
+use Rattle.fm_base.specs.{Does.{DoesOpen, DoesAgain, DoesGiveBack}, View.{but_loans}}
+use Rattle.fm_rule_facts.specs.{Views.{View, In, IsKnown}, Holds.{released}}
 use Rattle.fm_rule_calls.specs.Kept.{KeptHandling, HasEnded, HasNoWords, Lasts}
-use Rattle.fm_gate.specs.Makers.{made_by_pass}
-use Rattle.fm_gate.specs.Learnt.{IsNew, handles_opened, handles_again}
-use Rattle.fm_close.specs.Does.{others_left}
-use Rattle.fm_close.specs.declared.gave_back.GaveBack.{GaveBack}
-use Rattle.fm_close.specs.declared.gave_back.GaveBack.TheVariants.{Ended}
-use Rattle.fm_arena.specs.declared.handle.AutoHandle.{AutoHandle}
-use Rattle.fm_arena.specs.Opening.{OpensExactly}
+use Rattle.fm_gate.specs.{Makers.{made_by_pass}, Learnt.{IsNew, handles_opened, handles_again}}
+use Rattle.fm_close.specs.{Does.{others_left}, declared.gave_back.GaveBack.{GaveBack, TheVariants.{Ended}}}
+use Rattle.fm_arena.specs.{declared.handle.AutoHandle.{AutoHandle}, Opening.{OpensExactly}}
 
 -- the pass has a handle of the automatic arena
 pub record IsHandled (p : View) (id : ArenaId) : Type 0 where

@@ -1,20 +1,12 @@
 -- What the calls of a memory leave of a `Shared`, also those of code that is written for any memory.
 use Rattle.std.specs.Prelude.{◌≡◌, ◌≢◌, ◌<◌, List, Result, IfOk}
-use Rattle.fm_base.specs.declared.arena_id.ArenaId.{ArenaId}
-use Rattle.fm_base.specs.declared.refusal.Refusal.{Refusal}
-use Rattle.fm_base.specs.Calls.{Entry}
-use Rattle.fm_base.specs.View.{Makes}
-use Rattle.fm_rule_facts.specs.Views.{View}
-use Rattle.fm_rule_facts.specs.Holds.{how_many}
-use Rattle.fm_rule.specs.declared.pool.Pool.{Pool}
-use Rattle.fm_rule.specs.Passes.{IsOf}
-use Rattle.fm_rule_calls.specs.Kept.{Lasts}
-use Rattle.fm_rule_calls.specs.Told.{view_of_pass}
-use Rattle.fm_gate.specs.declared.held.Hold.{Hold}
-use Rattle.fm_gate.specs.Makers.{made_by_pass}
+use Rattle.fm_base.specs.{declared.{arena_id.ArenaId.{ArenaId}, refusal.Refusal.{Refusal}}, Calls.{Entry}, View.{Makes}}
+use Rattle.fm_rule_facts.specs.{Views.{View}, Holds.{how_many}}
+use Rattle.fm_rule.specs.{declared.pool.Pool.{Pool}, Passes.{IsOf}}
+use Rattle.fm_rule_calls.specs.{Kept.{Lasts}, Told.{view_of_pass}}
+use Rattle.fm_gate.specs.{declared.held.Hold.{Hold}, Makers.{made_by_pass}}
 use Rattle.fm_close.specs.declared.gave_back.GaveBack.{GaveBack}
-use Rattle.fm_arena.specs.Learnt.{CanUnhold, AfterHold, AfterUnhold}
-use Rattle.fm_arena.specs.Handles.{HasHandle, AfterStart, AfterAgain, AfterGiveBack}
+use Rattle.fm_arena.specs.{Learnt.{CanUnhold, AfterHold, AfterUnhold}, Handles.{HasHandle, AfterStart, AfterAgain, AfterGiveBack}}
 use Rattle.fm_arena.specs.declared.handle.AutoHandle.{AutoHandle}
 
 -- its pass is one of the same pool

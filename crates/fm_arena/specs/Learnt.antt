@@ -1,22 +1,12 @@
 -- What the calls of a `Shared` beside those of a memory ask for and teach: one record each.
 use Rattle.std.specs.Prelude.{◌≡◌, ◌≢◌, ◌≤◌, Bool, true, List, [], None, Result, Err, IfOk}
-use Rattle.fm_base.specs.declared.arena_id.ArenaId.{ArenaId}
-use Rattle.fm_base.specs.declared.kind.Kind.TheVariants.{Automatic}
-use Rattle.fm_base.specs.declared.refusal.Refusal.{Refusal}
-use Rattle.fm_base.specs.declared.refusal.Refusal.TheVariants.{Closed, WrongThread, Unsupported}
-use Rattle.fm_base.specs.Arenas.{has_arena, arena_of}
-use Rattle.fm_base.specs.Calls.{Entry}
-use Rattle.fm_base.specs.Histories.{state_after}
-use Rattle.fm_base.specs.Does.{DoesIsAlive, DoesUnhold}
-use Rattle.fm_rule_facts.specs.Views.{View, In, IsKnown, IsSound, given_of, grips, limit_of}
-use Rattle.fm_rule_facts.specs.Holds.{released}
-use Rattle.fm_rule.specs.declared.pool.Pool.{Pool}
-use Rattle.fm_rule.specs.Passes.{IsOf, GoesOnFrom}
+use Rattle.fm_base.specs.declared.{arena_id.ArenaId.{ArenaId}, kind.Kind.TheVariants.{Automatic}, refusal.Refusal.{Refusal}}
+use Rattle.fm_base.specs.{declared.refusal.Refusal.TheVariants.{Closed, WrongThread, Unsupported}, Arenas.{has_arena, arena_of}, Calls.{Entry}}
+use Rattle.fm_base.specs.{Histories.{state_after}, Does.{DoesIsAlive, DoesUnhold}}
+use Rattle.fm_rule_facts.specs.{Views.{View, In, IsKnown, IsSound, given_of, grips, limit_of}, Holds.{released}}
+use Rattle.fm_rule.specs.{declared.pool.Pool.{Pool}, Passes.{IsOf, GoesOnFrom}}
 use Rattle.fm_rule_calls.specs.Kept.{Kept, KeptHolding, Lasts}
-use Rattle.fm_gate.specs.declared.held.Hold.{Hold}
-use Rattle.fm_gate.specs.Makers.{made_by_pass}
-use Rattle.fm_gate.specs.Needs.{IsOutside}
-use Rattle.fm_gate.specs.Learnt.{DoesTake, holds_taken}
+use Rattle.fm_gate.specs.{declared.held.Hold.{Hold}, Makers.{made_by_pass}, Needs.{IsOutside}, Learnt.{DoesTake, holds_taken}}
 
 -- of `into_pass`: the pass is the one that the memory told of, outside in the pool that it is of without a page, and sound
 pub record AfterIntoPass (shared pass : View) : Type 0 where

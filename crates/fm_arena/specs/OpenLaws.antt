@@ -1,8 +1,6 @@
 -- An arena that a pass has a hold or a handle of is open to it, whatever code is written for any memory calls.
 use Rattle.std.specs.Prelude.{◌≡◌, ◌≢◌, List, All}
-use Rattle.fm_base.specs.declared.arena_id.ArenaId.{ArenaId}
-use Rattle.fm_base.specs.Calls.{Enter, Closed, Entry}
-use Rattle.fm_base.specs.View.{Makes}
+use Rattle.fm_base.specs.{declared.arena_id.ArenaId.{ArenaId}, Calls.{Enter, Closed, Entry}, View.{Makes}}
 use Rattle.fm_rule_facts.specs.Views.{View, In, IsAlive, IsSound, grips}
 use Rattle.fm_rule_calls.specs.Told.{view_of_pass}
 

@@ -1,13 +1,8 @@
 -- Where a pass finds no slot for an arena.
 use Rattle.std.specs.Prelude.{◌≡◌, ◌≤◌, true, [], length, Result, IfOk, IfErr}
-use Rattle.fm_base.specs.declared.arena_id.ArenaId.{ArenaId}
-use Rattle.fm_base.specs.declared.kind.Kind.{Kind}
-use Rattle.fm_base.specs.declared.refusal.Refusal.{Refusal}
-use Rattle.fm_base.specs.Finds.{FoundNothing, is_slot}
-use Rattle.fm_base.specs.Learnt.{AfterOpen}
+use Rattle.fm_base.specs.{declared.{arena_id.ArenaId.{ArenaId}, kind.Kind.{Kind}, refusal.Refusal.{Refusal}}, Finds.{FoundNothing, is_slot}, Learnt.{AfterOpen}}
 use Rattle.fm_rule_facts.specs.Views.{View}
-use Rattle.fm_rule_calls.specs.Kept.{rest_of}
-use Rattle.fm_rule_calls.specs.Told.{view_of_pass}
+use Rattle.fm_rule_calls.specs.{Kept.{rest_of}, Told.{view_of_pass}}
 use Rattle.fm_gate.specs.Learnt.{AllBusy}
 use Rattle.fm_arena.specs.Shares.{nature_of_shared}
 

@@ -1,14 +1,10 @@
 -- What holds of a pass that a `Shared` has, and what its memory may answer.
 use Rattle.std.specs.Prelude.{◌≡◌, true, false, [], None}
-use Rattle.fm_base.specs.declared.arena_id.ArenaId.{ArenaId}
-use Rattle.fm_base.specs.Outcomes.{Nature}
-use Rattle.fm_rule_facts.specs.Views.{View}
-use Rattle.fm_rule_facts.specs.Hands.{nothing, no_number}
-use Rattle.fm_rule_facts.specs.Parts.{unread}
-use Rattle.fm_rule.specs.declared.pool.Pool.{Pool}
+use Rattle.fm_base.specs.{declared.arena_id.ArenaId.{ArenaId}, Outcomes.{Nature}}
+use Rattle.fm_rule_facts.specs.{Views.{View}, Hands.{nothing, no_number}, Parts.{unread}}
+use Rattle.fm_rule.specs.{declared.pool.Pool.{Pool}, Passes.{IsOf}}
 use Rattle.fm_rule_calls.specs.Kept.{HasEnded, HasNoWords}
 use Rattle.fm_gate.specs.Needs.{IsOutside}
-use Rattle.fm_rule.specs.Passes.{IsOf}
 
 -- outside, with no page in its hand
 pub record CanShare (pool : Pool) (p : View) : Type 0 where

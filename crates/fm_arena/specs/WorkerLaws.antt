@@ -1,11 +1,8 @@
 -- Which `Shared` can be gathered once its thread is done.
 use Rattle.std.specs.Prelude.{List}
-use Rattle.fm_base.specs.Calls.{Entry}
-use Rattle.fm_base.specs.View.{Makes}
+use Rattle.fm_base.specs.{Calls.{Entry}, View.{Makes}}
 use Rattle.fm_rule_facts.specs.Views.{View}
-use Rattle.fm_rule.specs.declared.pool.Pool.{Pool}
-use Rattle.fm_rule.specs.Passes.{IsOf}
-use Rattle.fm_rule.specs.Draws.{CanGather}
+use Rattle.fm_rule.specs.{declared.pool.Pool.{Pool}, Passes.{IsOf}, Draws.{CanGather}}
 use Rattle.fm_rule_calls.specs.Told.{view_of_pass}
 use Rattle.fm_gate.specs.Crews.{HasNothing}
 use Rattle.fm_arena.specs.Learnt.{AfterIntoPass, AfterMeet}

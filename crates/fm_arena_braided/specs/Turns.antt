@@ -1,10 +1,6 @@
 -- What a memory is before whose calls somebody else has a turn.
 use Rattle.std.specs.Prelude.{◌≡◌, ℕ, ◌+◌, ◌-◌, ◌^◌, ◌==◌, if◌then◌else◌, false}
-use Rattle.fm_base.specs.declared.arena_id.ArenaId.{ArenaId}
-use Rattle.fm_base.specs.Calls.{Call, Reply}
-use Rattle.fm_base.specs.Learnt.{AfterAct, AfterPatch}
-use Rattle.fm_base.specs.Outcomes.{Nature}
-use Rattle.fm_base.specs.View.{View}
+use Rattle.fm_base.specs.{declared.arena_id.ArenaId.{ArenaId}, Calls.{Call, Reply}, Learnt.{AfterAct, AfterPatch}, Outcomes.{Nature}, View.{View}}
 
 -- the same, where other callers exist
 abbrev pub beside : View → View

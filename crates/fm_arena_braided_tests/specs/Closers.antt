@@ -4,8 +4,7 @@ use Rattle.fm_base.specs.declared.arena_id.ArenaId.{ArenaId}
 use Rattle.fm_rule_facts.specs.Views.{View}
 use Rattle.fm_rule.specs.declared.pool.Pool.{Pool}
 use Rattle.fm_gate.specs.Needs.{IsOutside, CanVisit}
-use Rattle.fm_close.specs.declared.shutting.Shutting.{Shutting}
-use Rattle.fm_close.specs.Learnt.{IsUnderWay, IsToSweep}
+use Rattle.fm_close.specs.{declared.shutting.Shutting.{Shutting}, Learnt.{IsUnderWay, IsToSweep}}
 
 -- marks are still to be visited, or the arena has ended
 abbrev pub IsOnItsWay : View → Bool → Shutting → Type 0

@@ -2,9 +2,7 @@
 use Rattle.std.proofs.Common.{Ok}
 use Rattle.fm_rule_facts.specs.Views.{View}
 use Rattle.fm_close.specs.declared.gave_back.GaveBack.{GaveBack}
-use Rattle.fm_arena.specs.declared.handle.AutoHandle.{AutoHandle}
-use Rattle.fm_arena.specs.Handles.{CanGiveBack, AfterAgain, AfterGiveBack}
-use Rattle.fm_arena.specs.Lasting.{HandleLasts}
+use Rattle.fm_arena.specs.{declared.handle.AutoHandle.{AutoHandle}, Handles.{CanGiveBack, AfterAgain, AfterGiveBack}, Lasting.{HandleLasts}}
 
 -- The other handle can be given back after the first.
 pub other_left : {p q r : View} {handle other : AutoHandle} {gave : GaveBack} → HandleLasts → CanGiveBack p handle → AfterAgain p q handle (Ok other)

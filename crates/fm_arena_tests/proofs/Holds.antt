@@ -1,21 +1,11 @@
 -- Holds that are kept, one taken more and one spent.
-use Rattle.std.proofs.Common.{◌≡◌, ◌∙◌, ◌+◌, List, [], ◌∷◌, ◌++◌, length, length-append, sym, ap, subst, arith, Some, Ok}
-use Rattle.std.specs.Prelude.{All}
+use Rattle.std.{proofs.Common.{◌≡◌, ◌∙◌, ◌+◌, List, [], ◌∷◌, ◌++◌, length, length-append, sym, ap, subst, arith, Some, Ok}, specs.Prelude.{All}}
 use Rattle.std.proofs.lemmas.List.Elements.{All-push, All-pop}
-use Rattle.fm_base.specs.declared.arena_id.ArenaId.{ArenaId}
-use Rattle.fm_base.specs.Arenas.{same_id}
-use Rattle.fm_base.specs.Finds.{Rest}
-use Rattle.fm_base.proofs.Names.{same_id-self}
-use Rattle.fm_rule_facts.specs.Views.{View, In, IsKnown}
-use Rattle.fm_rule_facts.specs.Holds.{released, one_if, how_many}
-use Rattle.fm_rule_facts.proofs.Summing.{one_less}
+use Rattle.fm_base.{specs.{declared.arena_id.ArenaId.{ArenaId}, Arenas.{same_id}, Finds.{Rest}}, proofs.Names.{same_id-self}}
+use Rattle.fm_rule_facts.{specs.{Views.{View, In, IsKnown}, Holds.{released, one_if, how_many}}, proofs.Summing.{one_less}}
 use Rattle.fm_rule.specs.declared.pool.Pool.{Pool}
-use Rattle.fm_gate.specs.declared.held.Hold.{Hold}
-use Rattle.fm_gate.specs.Makers.{Made, made_by_pass}
-use Rattle.fm_gate.specs.Needs.{CanUnhold}
-use Rattle.fm_gate.specs.Learnt.{AfterHold, AfterUnhold}
-use Rattle.fm_gate.proofs.Counted.{some_in}
-use Rattle.fm_gate.proofs.Outside.{made_on}
+use Rattle.fm_gate.specs.{declared.held.Hold.{Hold}, Makers.{Made, made_by_pass}, Needs.{CanUnhold}, Learnt.{AfterHold, AfterUnhold}}
+use Rattle.fm_gate.proofs.{Counted.{some_in}, Outside.{made_on}}
 use Rattle.fm_arena_tests.specs.Holds.{IsHoldOf, AreHeld}
 
 -- One more is held.

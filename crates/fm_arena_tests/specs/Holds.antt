@@ -1,13 +1,9 @@
 -- The holds of one arena that a test keeps.
 use Rattle.std.specs.Prelude.{◌≡◌, ◌≢◌, ◌≤◌, length, List, All}
-use Rattle.fm_base.specs.declared.arena_id.ArenaId.{ArenaId}
-use Rattle.fm_base.specs.declared.kind.Kind.TheVariants.{Automatic}
-use Rattle.fm_rule_facts.specs.Views.{View}
-use Rattle.fm_rule_facts.specs.Holds.{how_many}
+use Rattle.fm_base.specs.declared.{arena_id.ArenaId.{ArenaId}, kind.Kind.TheVariants.{Automatic}}
+use Rattle.fm_rule_facts.specs.{Views.{View}, Holds.{how_many}}
 use Rattle.fm_rule.specs.declared.pool.Pool.{Pool}
-use Rattle.fm_gate.specs.declared.held.Hold.{Hold}
-use Rattle.fm_gate.specs.Makers.{Made, made_by_pass}
-use Rattle.fm_gate.specs.Needs.{CanVisit}
+use Rattle.fm_gate.specs.{declared.held.Hold.{Hold}, Makers.{Made, made_by_pass}, Needs.{CanVisit}}
 
 -- a hold of the arena, which isn't automatic, that this pass made
 abbrev pub IsHoldOf : Made → ArenaId → Hold → Type 0

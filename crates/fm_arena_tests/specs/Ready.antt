@@ -1,15 +1,10 @@
 -- What passes of tests can do with an arena.
 use Rattle.std.specs.Prelude.{◌≡◌, ◌≢◌, ◌≤◌, Result, Err}
-use Rattle.fm_base.specs.declared.arena_id.ArenaId.{ArenaId}
-use Rattle.fm_base.specs.declared.caller.Caller.{Caller}
-use Rattle.fm_base.specs.declared.kind.Kind.TheVariants.{Confined}
-use Rattle.fm_base.specs.declared.refusal.Refusal.{Refusal}
-use Rattle.fm_base.specs.declared.refusal.Refusal.TheVariants.{WrongThread}
-use Rattle.fm_base.specs.Arenas.{owner_of}
+use Rattle.fm_base.specs.declared.{arena_id.ArenaId.{ArenaId}, caller.Caller.{Caller}, kind.Kind.TheVariants.{Confined}, refusal.Refusal.{Refusal}}
+use Rattle.fm_base.specs.{declared.refusal.Refusal.TheVariants.{WrongThread}, Arenas.{owner_of}}
 use Rattle.fm_rule_facts.specs.Views.{View, IsKnown, given_of}
 use Rattle.fm_rule.specs.declared.pool.Pool.{Pool}
-use Rattle.fm_gate.specs.Crews.{HasNothing}
-use Rattle.fm_gate.specs.Needs.{CanVisit, IsInside}
+use Rattle.fm_gate.specs.{Crews.{HasNothing}, Needs.{CanVisit, IsInside}}
 
 -- the pass is inside the arena, which has given 64 bytes
 pub record CanAct (pool : Pool) (p : View) (a : ArenaId) : Type 0 where

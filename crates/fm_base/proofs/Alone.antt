@@ -1,14 +1,9 @@
 -- What the calls of the only caller do to the words of an arena.
 use Rattle.std.proofs.Common.{◌≡◌, ℕ, ◌+◌, List, [], ◌∷◌, refl, ap, ◌∙◌, subst, Some, slice_index, slice_set}
-use Rattle.fm_base.specs.declared.arena_id.ArenaId.{ArenaId}
-use Rattle.fm_base.specs.Arenas.{State, Arena, arena_of, changed, word_in}
-use Rattle.fm_base.specs.Calls.{Call, Read, Write, Reply, Fine, Found, Entry, entry_of}
-use Rattle.fm_base.specs.Machine.{MayCall, reply_to, state_by, rounded_up, written}
-use Rattle.fm_base.specs.View.{View, Makes, Did, IsByItself}
-use Rattle.fm_base.specs.Does.{DoesAct}
-use Rattle.fm_base.proofs.Lookup.{KeepsName, changed_lookup, lookup_changed}
-use Rattle.fm_base.proofs.Placing.{there_by_way}
-use Rattle.fm_base.proofs.Faith.{Makes-alone}
+use Rattle.fm_base.specs.{declared.arena_id.ArenaId.{ArenaId}, Arenas.{State, Arena, arena_of, changed, word_in}}
+use Rattle.fm_base.specs.{Calls.{Call, Read, Write, Reply, Fine, Found, Entry, entry_of}, Machine.{MayCall, reply_to, state_by, rounded_up, written}}
+use Rattle.fm_base.{specs.{View.{View, Makes, Did, IsByItself}, Does.{DoesAct}}, proofs.Lookup.{KeepsName, changed_lookup, lookup_changed}}
+use Rattle.fm_base.proofs.{Placing.{there_by_way}, Faith.{Makes-alone}}
 
 abbrev pub words_of : View → ArenaId → List ℕ
 words_of x id = (arena_of x.state id).words

@@ -1,22 +1,13 @@
 -- Words that are only added to.
 use Rattle.std.proofs.Common.{◌≡◌, ◌≢◌, ℕ, ◌+◌, ◌%◌, ◌^◌, ◌<◌, ◌==◌, ◌&&◌, Bool, true, false, if◌then◌else◌, List, [], ◌∷◌, slice_index, slice_set, refl, ap, sym, ◌∙◌, subst, inl, inr, ◌⊎◌, arith}
-use Rattle.std.specs.Prelude.{cond, ⊤}
-use Rattle.std.proofs.lemmas.Bool.Decides.{nat_tests}
-use Rattle.std.proofs.lemmas.List.{get_or-set_same, get_or-set_other}
-use Rattle.std.specs.List.{AllByRecursion}
-use Rattle.fm_base_lists.specs.Among.{IsAmong, AreApart}
-use Rattle.fm_base_lists.proofs.Each.{all_weaker}
-use Rattle.fm_base.specs.declared.caller.Caller.{Caller}
-use Rattle.fm_base.specs.declared.arena_id.ArenaId.{ArenaId}
-use Rattle.fm_base.specs.Arenas.{State, Arena, arena_of, same_id, word_in, are_one}
+use Rattle.std.{specs.{Prelude.{cond, ⊤}, List.{AllByRecursion}}, proofs.lemmas.{Bool.Decides.{nat_tests}, List.{get_or-set_same, get_or-set_other}}}
+use Rattle.fm_base_lists.{specs.Among.{IsAmong, AreApart}, proofs.Each.{all_weaker}}
+use Rattle.fm_base.specs.{declared.{caller.Caller.{Caller}, arena_id.ArenaId.{ArenaId}}, Arenas.{State, Arena, arena_of, same_id, word_in, are_one}}
 use Rattle.fm_base.specs.Calls.{Call, Open, Enter, Write, SwapIf, Add, Allocate, Leave, Hold, Unhold, Shut, End, Reply, Fine, Found, Given, Entry}
-use Rattle.fm_base.specs.Machine.{MayCall, reply_to, change_of, state_by, after, written, words_within}
-use Rattle.fm_base.specs.Histories.{made_by}
+use Rattle.fm_base.specs.{Machine.{MayCall, reply_to, change_of, state_by, after, written, words_within}, Histories.{made_by}}
 use Rattle.fm_base.specs.Counting.{adds_to, all_added, OnlyAdds, AddsCount, total, AddsByCallers}
-use Rattle.fm_base.proofs.Lookup.{Relates, Same, made_lookup, lookup_changed, arena_of-id}
-use Rattle.fm_base.proofs.Names.{same_id-true, same_id-self, are_one-self, are_one-not}
-use Rattle.fm_base.proofs.Placing.{there_by_way}
-use Rattle.fm_base.proofs.Tidiness.{zeros_at}
+use Rattle.fm_base.proofs.{Lookup.{Relates, Same, made_lookup, lookup_changed, arena_of-id}, Names.{same_id-true, same_id-self, are_one-self, are_one-not}}
+use Rattle.fm_base.proofs.{Placing.{there_by_way}, Tidiness.{zeros_at}}
 
 -- ---- one word
 

@@ -1,12 +1,7 @@
 -- What is told moves on faithfully, and what the only caller knows.
-use Rattle.std.proofs.Common.{◌≡◌, ℕ, List, [], refl, ap, ◌∙◌, subst, Option, Some, None}
-use Rattle.std.proofs.lemmas.List.Elements.{filter-append}
-use Rattle.fm_base.specs.declared.caller.Caller.{Caller}
-use Rattle.fm_base.specs.Arenas.{State}
-use Rattle.fm_base.specs.Calls.{Entry}
-use Rattle.fm_base.specs.Histories.{IsLegal, state_after, made_by}
-use Rattle.fm_base.specs.View.{View, Told, Makes, TellsOn, IsToldOf, IsSound, KeepsFaith, IsByItself}
-use Rattle.fm_base.specs.Lasting.{AlwaysKeepsFaith}
+use Rattle.std.proofs.{Common.{◌≡◌, ℕ, List, [], refl, ap, ◌∙◌, subst, Option, Some, None}, lemmas.List.Elements.{filter-append}}
+use Rattle.fm_base.specs.{declared.caller.Caller.{Caller}, Arenas.{State}, Calls.{Entry}, Histories.{IsLegal, state_after, made_by}}
+use Rattle.fm_base.specs.{View.{View, Told, Makes, TellsOn, IsToldOf, IsSound, KeepsFaith, IsByItself}, Lasting.{AlwaysKeepsFaith}}
 use Rattle.fm_base.proofs.Making.{state_after-append, IsLegal-append}
 
 told_on : (limit : ℕ) (c : Caller) (s u : State) (t v : Option Told) (all own : List Entry) → TellsOn t v all own → IsLegal limit s all

@@ -1,17 +1,11 @@
 -- Arenas stay, what is given only grows, and what has ended is over.
 use Rattle.std.proofs.Common.{◌≡◌, ◌≢◌, ℕ, ◌+◌, ◌-◌, ◌*◌, ◌/◌, ◌<◌, ◌≤◌, Bool, true, false, List, [], ◌∷◌, refl, ap, sym, ◌∙◌, arith, if◌then◌else◌, filter, not, All}
-use Rattle.std.specs.Prelude.{⊤, count_ones, nat_le}
-use Rattle.std.proofs.lemmas.Nat.{ones_le_self}
-use Rattle.std.proofs.lemmas.Bool.Decides.{nat_tests}
-use Rattle.std.proofs.lemmas.List.Elements.{All-nil, All-cons}
-use Rattle.fm_base.specs.declared.caller.Caller.{Caller}
-use Rattle.fm_base.specs.declared.arena_id.ArenaId.{ArenaId}
+use Rattle.std.{specs.Prelude.{⊤, count_ones, nat_le}, proofs.lemmas.{Nat.{ones_le_self}, Bool.Decides.{nat_tests}, List.Elements.{All-nil, All-cons}}}
+use Rattle.fm_base.specs.declared.{caller.Caller.{Caller}, arena_id.ArenaId.{ArenaId}}
 use Rattle.fm_base.specs.Arenas.{State, Arena, Closing, Ended, arena_of, has_arena, changed, are_one}
 use Rattle.fm_base.specs.Calls.{Call, Open, Enter, Write, SwapIf, Add, Allocate, Leave, Hold, Unhold, Shut, End, Reply, Fine, Closed, Found, Given, NoRoom, Entry, entry_of}
 use Rattle.fm_base.specs.Machine.{MayCall, IsPower, reply_to, enter_reply, shut_reply, allocate_reply, rounded_up, Change, Opens, Alters, Rests, made, change_of, after, ended}
-use Rattle.fm_base.specs.Histories.{IsLegal, state_after}
-use Rattle.fm_base.specs.View.{View, Makes}
-use Rattle.fm_base.specs.Lasting.{StaysForEver, EndsForGood}
+use Rattle.fm_base.specs.{Histories.{IsLegal, state_after}, View.{View, Makes}, Lasting.{StaysForEver, EndsForGood}}
 use Rattle.fm_base.proofs.Lookup.{Relates, changed_lookup, changed_has, arena_of-append, lookup_changed, arena_of-none, made_lookup, made_has}
 use Rattle.fm_base.proofs.Making.{IsLegal-split, state_after-append}
 

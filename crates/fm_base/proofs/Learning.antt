@@ -1,22 +1,15 @@
 -- What a caller learns of each call of a `Memory`, from what the call did.
 use Rattle.std.proofs.Common.{◌≡◌, ℕ, true, false, Bool, List, [], ◌∷◌, refl, ap, sym, ◌∙◌, cond, Option, Some, None, Result, Ok, Err, IfOk, inl, inr}
 use Rattle.std.specs.Prelude.{IfErr, filter, not}
-use Rattle.fm_base.specs.declared.arena_id.ArenaId.{ArenaId}
-use Rattle.fm_base.specs.declared.kind.Kind.{Kind}
-use Rattle.fm_base.specs.declared.refusal.Refusal.{Refusal}
-use Rattle.fm_base.specs.declared.refusal.Refusal.TheVariants as refusal
-use Rattle.fm_base.specs.declared.refusal.Refusal.TheVariants.{NoSlot, PoolFull}
+use Rattle.fm_base.specs.declared.{arena_id.ArenaId.{ArenaId}, kind.Kind.{Kind}, refusal.Refusal.{Refusal, TheVariants.{NoSlot, PoolFull}}}
 use Rattle.fm_base.specs.Arenas.{Ended, arena_of}
 use Rattle.fm_base.specs.Calls.{Call, Reply, Open, Enter, Read, Write, SwapIf, Add, Allocate, Leave, Hold, Unhold, Shut, End, Lend, Back, Fine, Entry}
-use Rattle.fm_base.specs.Visits.{entries_of}
-use Rattle.fm_base.specs.View.{View, Makes, IsSound, inside_after, inside_next, is_loan, but_loans}
-use Rattle.fm_base.specs.Does.{DoesAct, DoesPatch, DidEnter, DidAct, DidPatch, DidOpen, DidAllocate, DidClose, patched}
-use Rattle.fm_base.specs.Finds.{is_slot, is_page}
+use Rattle.fm_base.specs.{Visits.{entries_of}, View.{View, Makes, IsSound, inside_after, inside_next, is_loan, but_loans}}
+use Rattle.fm_base.specs.{Does.{DoesAct, DoesPatch, DidEnter, DidAct, DidPatch, DidOpen, DidAllocate, DidClose, patched}, Finds.{is_slot, is_page}}
 use Rattle.fm_base.specs.Outcomes.{Nature, MayCome, FoundNoneFree, IsNew, Gives}
-use Rattle.fm_base.specs.Learnt.{CanVisit, AfterEnter, AfterAct, AfterPatch, AfterLeave, AfterOpen, AfterAllocate, AfterClose}
-use Rattle.fm_base.proofs.Faith.{Makes-sound}
-use Rattle.fm_base.proofs.Outcomes.{Did-lasts, opened_new, allocated_gives, closed_ended}
-use Rattle.fm_base.proofs.Visiting.{tries_stay}
+use Rattle.fm_base.{specs.Learnt.{CanVisit, AfterEnter, AfterAct, AfterPatch, AfterLeave, AfterOpen, AfterAllocate, AfterClose}, proofs.Faith.{Makes-sound}}
+use Rattle.fm_base.proofs.{Outcomes.{Did-lasts, opened_new, allocated_gives, closed_ended}, Visiting.{tries_stay}}
+use Rattle.fm_base.specs.declared.refusal.Refusal.TheVariants as refusal
 
 -- ---- where the caller is
 

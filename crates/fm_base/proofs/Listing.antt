@@ -1,16 +1,10 @@
 -- The list of arenas, and the look-up by name.
-use Rattle.std.proofs.Common.{◌≡◌, ℕ, Bool, true, false, List, [], ◌∷◌, ◌++◌, refl, ap, sym, ◌∙◌, subst, if◌then◌else◌, All}
-use Rattle.std.specs.Prelude.{⊤}
+use Rattle.std.{proofs.Common.{◌≡◌, ℕ, Bool, true, false, List, [], ◌∷◌, ◌++◌, refl, ap, sym, ◌∙◌, subst, if◌then◌else◌, All}, specs.Prelude.{⊤}}
 use Rattle.std.proofs.lemmas.List.Elements.{All-nil, All-cons, All-weaker}
-use Rattle.fm_base.specs.declared.caller.Caller.{Caller}
-use Rattle.fm_base.specs.declared.arena_id.ArenaId.{ArenaId}
-use Rattle.fm_base.specs.Arenas.{State, Arena, arena_of, has_arena, changed, same_id}
+use Rattle.fm_base.specs.{declared.{caller.Caller.{Caller}, arena_id.ArenaId.{ArenaId}}, Arenas.{State, Arena, arena_of, has_arena, changed, same_id}}
 use Rattle.fm_base.specs.Calls.{Call, Open, Enter, SwapIf, Add, Allocate, Hold, Shut, Reply, Fine, Found, Given, Entry}
-use Rattle.fm_base.specs.Machine.{MayCall, Change, Opens, Alters, Rests, made, change_of, after}
-use Rattle.fm_base.specs.Histories.{IsLegal, state_after}
-use Rattle.fm_base.specs.Lasting.{LooksUp}
-use Rattle.fm_base.proofs.Names.{same_id-self, same_id-true}
-use Rattle.fm_base.proofs.Lookup.{KeepsName, changed_has}
+use Rattle.fm_base.specs.{Machine.{MayCall, Change, Opens, Alters, Rests, made, change_of, after}, Histories.{IsLegal, state_after}, Lasting.{LooksUp}}
+use Rattle.fm_base.proofs.{Names.{same_id-self, same_id-true}, Lookup.{KeepsName, changed_has}}
 
 -- no name stands twice in the list
 abbrev AreDistinct : State → Type 0

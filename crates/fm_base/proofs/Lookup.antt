@@ -1,8 +1,6 @@
 -- Arenas that are looked up after a change of one.
-use Rattle.std.proofs.Common.{◌≡◌, ℕ, ◌==◌, slice_set, ◌∙◌, Bool, true, false, [], ◌∷◌, ◌++◌, refl, ap, sym, subst, if◌then◌else◌}
-use Rattle.std.specs.Prelude.{⊤}
-use Rattle.fm_base.proofs.Names.{same_id-self, same_id-true}
-use Rattle.fm_base.specs.declared.arena_id.ArenaId.{ArenaId}
+use Rattle.std.{proofs.Common.{◌≡◌, ℕ, ◌==◌, slice_set, ◌∙◌, Bool, true, false, [], ◌∷◌, ◌++◌, refl, ap, sym, subst, if◌then◌else◌}, specs.Prelude.{⊤}}
+use Rattle.fm_base.{proofs.Names.{same_id-self, same_id-true}, specs.declared.arena_id.ArenaId.{ArenaId}}
 use Rattle.fm_base.specs.Arenas.{State, Arena, arena_of, has_arena, changed, same_id, no_arena}
 use Rattle.fm_base.specs.Machine.{Change, Opens, Alters, Rests, made, written, swapped}
 

@@ -1,12 +1,7 @@
 -- Histories put together, and calls one after another.
 use Rattle.std.proofs.Common.{◌≡◌, ℕ, false, List, [], ◌∷◌, ◌++◌, refl, ap, sym, ◌∙◌, subst, append_assoc, Option, Some, None, inl, inr, All, get_or}
-use Rattle.std.proofs.lemmas.List.{append-nil}
-use Rattle.std.proofs.lemmas.List.Elements.{filter-append, All-append, All-nil}
-use Rattle.fm_base.specs.declared.arena_id.ArenaId.{ArenaId}
-use Rattle.fm_base.specs.Arenas.{State}
-use Rattle.fm_base.specs.Calls.{Entry}
-use Rattle.fm_base.specs.Machine.{after}
-use Rattle.fm_base.specs.Histories.{IsLegal, state_after, made_by}
+use Rattle.std.proofs.lemmas.List.{append-nil, Elements.{filter-append, All-append, All-nil}}
+use Rattle.fm_base.specs.{declared.arena_id.ArenaId.{ArenaId}, Arenas.{State}, Calls.{Entry}, Machine.{after}, Histories.{IsLegal, state_after, made_by}}
 use Rattle.fm_base.specs.Finds.{Find, Rest, FindsMore, is_draw}
 use Rattle.fm_base.specs.View.{View, Told, Makes, TellsOn, IsToldWhole, IsByItself, inside_after, inside_next, but_loans}
 

@@ -1,17 +1,10 @@
 -- What stands after calls that were answered so.
 use Rattle.std.proofs.Common.{◌≡◌, ℕ, ◌+◌, Bool, true, false, List, [], ◌∷◌, ◌++◌, refl, ap, sym, ◌∙◌, subst, arith, inl, inr}
-use Rattle.fm_base_lists.specs.Among.{IsAmong}
-use Rattle.fm_base_lists.proofs.Among.{among_kept}
-use Rattle.fm_base.specs.declared.caller.Caller.{Caller}
-use Rattle.fm_base.specs.declared.arena_id.ArenaId.{ArenaId}
-use Rattle.fm_base.specs.Arenas.{State, Arena, Ended, has_arena, arena_of, changed}
-use Rattle.fm_base.specs.Calls.{Open, End, Allocate, Given, Reply, Fine, Entry, entry_of}
-use Rattle.fm_base.specs.Machine.{MayCall, reply_to, after, opened, given_up_to}
-use Rattle.fm_base.specs.Histories.{IsLegal, state_after, made_by}
-use Rattle.fm_base.specs.View.{View, Makes, Did, but_loans}
-use Rattle.fm_base.specs.Outcomes.{IsNew, Gives, Lasts}
-use Rattle.fm_base.proofs.Lookup.{has_arena-opened, lookup_changed}
-use Rattle.fm_base.proofs.Making.{IsLegal-split, state_after-append}
+use Rattle.fm_base_lists.{specs.Among.{IsAmong}, proofs.Among.{among_kept}}
+use Rattle.fm_base.specs.{declared.{caller.Caller.{Caller}, arena_id.ArenaId.{ArenaId}}, Arenas.{State, Arena, Ended, has_arena, arena_of, changed}}
+use Rattle.fm_base.specs.{Calls.{Open, End, Allocate, Given, Reply, Fine, Entry, entry_of}, Machine.{MayCall, reply_to, after, opened, given_up_to}}
+use Rattle.fm_base.specs.{Histories.{IsLegal, state_after, made_by}, View.{View, Makes, Did, but_loans}, Outcomes.{IsNew, Gives, Lasts}}
+use Rattle.fm_base.proofs.{Lookup.{has_arena-opened, lookup_changed}, Making.{IsLegal-split, state_after-append}}
 use Rattle.fm_base.proofs.Growing.{Makes-grows, Grows, Grows-state_after, given_is, le-rounded_up, power_pos, over_at_end}
 use Rattle.fm_base.proofs.Placing.{there_by_way, rounded_even}
 

@@ -1,15 +1,8 @@
 -- The places that one arena gives.
 use Rattle.std.proofs.Common.{◌≡◌, ℕ, ◌+◌, ◌%◌, ◌<◌, Bool, true, false, [], ◌∷◌, ◌++◌, refl, ap, arith, append_assoc, length}
-use Rattle.fm_base.specs.declared.caller.Caller.{Caller}
-use Rattle.fm_base.specs.declared.arena_id.ArenaId.{ArenaId}
-use Rattle.fm_base.specs.Arenas.{State, Arena, arena_of, has_arena, changed, IsUnderWay}
-use Rattle.fm_base.specs.Calls.{Allocate, Given, entry_of}
-use Rattle.fm_base.specs.Machine.{rounded_up, given_up_to}
-use Rattle.fm_base.specs.Histories.{IsLegal, state_after}
-use Rattle.fm_base.specs.Lasting.{PlacesApart}
-use Rattle.fm_base.proofs.Lookup.{lookup_changed, arena_of-none}
-use Rattle.fm_base.proofs.Making.{IsLegal-split}
-use Rattle.fm_base.proofs.Growing.{given_is, le-rounded_up, power_pos, Grows-state_after}
+use Rattle.fm_base.specs.{declared.{caller.Caller.{Caller}, arena_id.ArenaId.{ArenaId}}, Arenas.{State, Arena, arena_of, has_arena, changed, IsUnderWay}}
+use Rattle.fm_base.specs.{Calls.{Allocate, Given, entry_of}, Machine.{rounded_up, given_up_to}, Histories.{IsLegal, state_after}, Lasting.{PlacesApart}}
+use Rattle.fm_base.proofs.{Lookup.{lookup_changed, arena_of-none}, Making.{IsLegal-split}, Growing.{given_is, le-rounded_up, power_pos, Grows-state_after}}
 
 -- a multiple leaves no rest
 pub rounded_even : (n align : ℕ) → 0 < align → rounded_up n align % align ≡ 0

@@ -1,11 +1,7 @@
 -- A run of visits so far, proved once for every kind of step.
 use Rattle.std.proofs.Common.{◌≡◌, List, [], ◌∷◌, ◌++◌, append_assoc, ap, ◌∙◌, Option, Some, None}
-use Rattle.fm_base.specs.declared.caller.Caller.{Caller}
-use Rattle.fm_base.specs.declared.arena_id.ArenaId.{ArenaId}
-use Rattle.fm_base.specs.Calls.{Leave, Fine, Entry, entry_of}
-use Rattle.fm_base.specs.Visits.{Acts, entries_of, visit, Run, ends, goes_on}
-use Rattle.fm_base.specs.View.{inside_after}
-use Rattle.fm_base.proofs.Making.{inside_after-append}
+use Rattle.fm_base.specs.{declared.{caller.Caller.{Caller}, arena_id.ArenaId.{ArenaId}}, Calls.{Leave, Fine, Entry, entry_of}}
+use Rattle.fm_base.{specs.{Visits.{Acts, entries_of, visit, Run, ends, goes_on}, View.{inside_after}}, proofs.Making.{inside_after-append}}
 
 module _ {X Y : Type 0} (Step : X → List Entry → X → Type 0) (Ends : X → List Entry → Y → Type 0) where
   -- `own` led from `first` to `now`: whatever completes the run from here completes it from there

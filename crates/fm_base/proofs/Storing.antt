@@ -1,14 +1,8 @@
 -- Words that are stored one after the other inside an arena.
 use Rattle.std.proofs.Common.{◌≡◌, ℕ, suc, ◌+◌, ◌<◌, ◌≤◌, List, [], ◌∷◌, ◌++◌, length, refl, ap, ◌∙◌, arith, Option, Some, None}
-use Rattle.fm_base.specs.declared.caller.Caller.{Caller}
-use Rattle.fm_base.specs.declared.arena_id.ArenaId.{ArenaId}
-use Rattle.fm_base.specs.Calls.{Write, Fine, Entry, entry_of}
-use Rattle.fm_base.specs.Does.{CanReach, CanReachAll, DoesAct, DoesActs}
-use Rattle.fm_base.specs.Learnt.{AfterAct, AfterStores}
-use Rattle.fm_base.specs.View.{View, IsSound}
-use Rattle.fm_base.specs.Visits.{entries_of, writes}
-use Rattle.fm_base.proofs.Making.{Makes-none, Makes-then}
-use Rattle.fm_base.proofs.Outcomes.{Makes-lasts}
+use Rattle.fm_base.specs.{declared.{caller.Caller.{Caller}, arena_id.ArenaId.{ArenaId}}, Calls.{Write, Fine, Entry, entry_of}}
+use Rattle.fm_base.specs.{Does.{CanReach, CanReachAll, DoesAct, DoesActs}, Learnt.{AfterAct, AfterStores}, View.{View, IsSound}, Visits.{entries_of, writes}}
+use Rattle.fm_base.proofs.{Making.{Makes-none, Makes-then}, Outcomes.{Makes-lasts}}
 
 -- the entries of these words, and behind them of those
 pub writes-append : (c : Caller) (id : ArenaId) (word : ℕ) (vs us : List ℕ)

@@ -1,18 +1,12 @@
 -- Bytes past the given count, in legal and tidy histories.
 use Rattle.std.proofs.Common.{◌≡◌, ◌≢◌, ℕ, zero, suc, ◌+◌, ◌/◌, ◌%◌, ◌^◌, ◌<◌, ◌≤◌, ◌==◌, Bool, true, false, if◌then◌else◌, List, [], ◌∷◌, length, replicate, slice_index, slice_set, refl, ap, sym, ◌∙◌, subst, arith, eqb-true}
-use Rattle.std.proofs.lemmas.List.{get_or-set_same, get_or-set_other}
-use Rattle.std.proofs.lemmas.Bool.Decides.{nat_tests}
+use Rattle.std.proofs.lemmas.{List.{get_or-set_same, get_or-set_other}, Bool.Decides.{nat_tests}}
 use Rattle.fm_base_bytes.specs.Words.{byte_of, byte_at}
-use Rattle.fm_base.specs.declared.caller.Caller.{Caller}
-use Rattle.fm_base.specs.declared.arena_id.ArenaId.{ArenaId}
-use Rattle.fm_base.specs.Arenas.{State, Arena, arena_of, no_arena, word_in}
+use Rattle.fm_base.specs.{declared.{caller.Caller.{Caller}, arena_id.ArenaId.{ArenaId}}, Arenas.{State, Arena, arena_of, no_arena, word_in}}
 use Rattle.fm_base.specs.Calls.{Call, Open, Enter, Write, SwapIf, Add, Allocate, Leave, Hold, Unhold, Shut, End, Reply, Fine, Found, Given, Entry, entry_of}
 use Rattle.fm_base.specs.Machine.{MayCall, reply_to, change_of, after, opened, written, words_within}
-use Rattle.fm_base.specs.Histories.{IsLegal, state_after, DifferBelow, IsTidyIn, IsTidy}
-use Rattle.fm_base.specs.Lasting.{ZeroPastGiven, GivesZeros}
-use Rattle.fm_base.proofs.Lookup.{Relates, made_lookup}
-use Rattle.fm_base.proofs.Making.{IsLegal-split}
-use Rattle.fm_base.proofs.Growing.{given_is, le-rounded_up, power_pos}
+use Rattle.fm_base.specs.{Histories.{IsLegal, state_after, DifferBelow, IsTidyIn, IsTidy}, Lasting.{ZeroPastGiven, GivesZeros}}
+use Rattle.fm_base.proofs.{Lookup.{Relates, made_lookup}, Making.{IsLegal-split}, Growing.{given_is, le-rounded_up, power_pos}}
 
 -- every byte of the arena at or past its given count is 0
 abbrev pub IsZeroPast : Arena → Type 0

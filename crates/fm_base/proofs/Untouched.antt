@@ -1,20 +1,12 @@
 -- Bytes that no entry of a history changes, what Reads find there, and arenas that no entry closes.
 use Rattle.std.proofs.Common.{◌≡◌, ◌≢◌, ℕ, ◌+◌, ◌/◌, ◌%◌, ◌^◌, ◌<◌, ◌==◌, Bool, true, false, if◌then◌else◌, List, [], ◌∷◌, refl, ap, sym, ◌∙◌, subst, arith, slice_index, slice_set, length}
-use Rattle.std.specs.Prelude.{⊤}
-use Rattle.std.specs.List.{AllByRecursion}
-use Rattle.std.proofs.lemmas.Bool.{eqb-true}
-use Rattle.std.proofs.lemmas.Bool.Decides.{nat_tests}
-use Rattle.std.proofs.lemmas.List.{get_or-set_same, get_or-set_other}
+use Rattle.std.{specs.{Prelude.{⊤}, List.{AllByRecursion}}, proofs.lemmas.{Bool.{eqb-true, Decides.{nat_tests}}, List.{get_or-set_same, get_or-set_other}}}
 use Rattle.fm_base_bytes.specs.Words.{byte_of, byte_at}
-use Rattle.fm_base.specs.declared.caller.Caller.{Caller}
-use Rattle.fm_base.specs.declared.arena_id.ArenaId.{ArenaId}
-use Rattle.fm_base.specs.Arenas.{State, Arena, arena_of, has_arena, word_in}
+use Rattle.fm_base.specs.{declared.{caller.Caller.{Caller}, arena_id.ArenaId.{ArenaId}}, Arenas.{State, Arena, arena_of, has_arena, word_in}}
 use Rattle.fm_base.specs.Calls.{Call, Open, Enter, Write, SwapIf, Add, Allocate, Leave, Hold, Unhold, Shut, End, Reply, Fine, Found, Given, Entry}
 use Rattle.fm_base.specs.Machine.{MayCall, reply_to, enter_reply, Change, Opens, Alters, Rests, made, change_of, after, words_within}
-use Rattle.fm_base.specs.Untouched.{Spares, SparedStays, FindsByte, SparedIsFound, LeavesOpen, StaysAlive}
-use Rattle.fm_base.proofs.Growing.{Grows-after}
-use Rattle.fm_base.proofs.Lookup.{Relates, Same, made_lookup, changed_lookup, arena_of-append, arena_of-id}
-use Rattle.fm_base.proofs.Tidiness.{zeros_at}
+use Rattle.fm_base.{specs.Untouched.{Spares, SparedStays, FindsByte, SparedIsFound, LeavesOpen, StaysAlive}, proofs.Growing.{Grows-after}}
+use Rattle.fm_base.proofs.{Lookup.{Relates, Same, made_lookup, changed_lookup, arena_of-append, arena_of-id}, Tidiness.{zeros_at}}
 
 -- ---- bytes
 

@@ -1,17 +1,10 @@
 -- A visit, put together from its calls.
-use Rattle.std.proofs.Common.{◌≡◌, ℕ, ◌*◌, ◌<◌, ◌≤◌, true, List, [], ◌∷◌, refl, ap, sym, ◌∙◌, subst, arith, Some}
-use Rattle.fm_base.specs.declared.caller.Caller.{Caller}
-use Rattle.fm_base.specs.declared.arena_id.ArenaId.{ArenaId}
-use Rattle.fm_base.specs.declared.refusal.Refusal.{Refusal}
+use Rattle.std.{proofs.Common.{◌≡◌, ℕ, ◌*◌, ◌<◌, ◌≤◌, true, List, [], ◌∷◌, refl, ap, sym, ◌∙◌, subst, arith, Some}, specs.Prelude.{Ok, Err}}
+use Rattle.fm_base.specs.{declared.{caller.Caller.{Caller}, arena_id.ArenaId.{ArenaId}, refusal.Refusal.{Refusal}}, Arenas.{has_arena, MayUse}}
+use Rattle.fm_base.specs.{Calls.{Call, Reply, Enter, Leave, Fine, SwapIf, Found, Entry, entry_of}, View.{View, Makes, Did, given_in, inside_next, inside_after}}
+use Rattle.fm_base.specs.{Does.{CanReach, DoesEnter, DoesAct, DoesPatch, patched}, Visits.{visit, refused_visit, Acts, entries_of, Tries, looked, missed, hit}}
+use Rattle.fm_base.proofs.{Making.{Makes-then}, Growing.{Makes-grows}}
 use Rattle.fm_base.specs.declared.refusal.Refusal.TheVariants as refusal
-use Rattle.std.specs.Prelude.{Ok, Err}
-use Rattle.fm_base.specs.Arenas.{has_arena, MayUse}
-use Rattle.fm_base.specs.Calls.{Call, Reply, Enter, Leave, Fine, SwapIf, Found, Entry, entry_of}
-use Rattle.fm_base.specs.View.{View, Makes, Did, given_in, inside_next, inside_after}
-use Rattle.fm_base.specs.Does.{CanReach, DoesEnter, DoesAct, DoesPatch, patched}
-use Rattle.fm_base.specs.Visits.{visit, refused_visit, Acts, entries_of, Tries, looked, missed, hit}
-use Rattle.fm_base.proofs.Making.{Makes-then}
-use Rattle.fm_base.proofs.Growing.{Makes-grows}
 
 -- ---- what single calls made
 

@@ -1,16 +1,10 @@
 -- Arenas have all their words, and give no more bytes than they have.
 use Rattle.std.proofs.Common.{◌≡◌, ℕ, ◌+◌, ◌%◌, ◌^◌, ◌<◌, true, false, List, [], ◌∷◌, ◌==◌, if◌then◌else◌, slice_set, refl, ◌∙◌, arith, length-set}
-use Rattle.std.proofs.lemmas.List.{length-replicate}
-use Rattle.std.proofs.lemmas.List.Elements.{All-set, All-replicate}
-use Rattle.fm_base.specs.declared.caller.Caller.{Caller}
-use Rattle.fm_base.specs.declared.arena_id.ArenaId.{ArenaId}
-use Rattle.fm_base.specs.Arenas.{State, Arena, arena_of, has_arena}
+use Rattle.std.proofs.lemmas.List.{length-replicate, Elements.{All-set, All-replicate}}
+use Rattle.fm_base.specs.{declared.{caller.Caller.{Caller}, arena_id.ArenaId.{ArenaId}}, Arenas.{State, Arena, arena_of, has_arena}}
 use Rattle.fm_base.specs.Calls.{Call, Open, Enter, Write, SwapIf, Add, Allocate, Leave, Hold, Unhold, Shut, End, Reply, Fine, Found, Given, Entry}
-use Rattle.fm_base.specs.Machine.{MayCall, reply_to, change_of, after, words_within}
-use Rattle.fm_base.specs.Histories.{IsLegal, IsWhole, state_after}
-use Rattle.fm_base.specs.Lasting.{StaysWhole}
-use Rattle.fm_base.proofs.Lookup.{Becomes, made_known}
-use Rattle.fm_base.proofs.Growing.{given_is}
+use Rattle.fm_base.specs.{Machine.{MayCall, reply_to, change_of, after, words_within}, Histories.{IsLegal, IsWhole, state_after}, Lasting.{StaysWhole}}
+use Rattle.fm_base.proofs.{Lookup.{Becomes, made_known}, Growing.{given_is}}
 
 -- a word that fits is put
 put : (limit : ℕ) (a : Arena) (word value : ℕ) → value < 2 ^ 64 → IsWhole limit a → IsWhole limit (record a { words = slice_set a.words word value })

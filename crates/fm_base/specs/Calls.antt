@@ -1,7 +1,6 @@
 -- The calls on the one-thread machine, its replies, and the entries of a history.
 use Rattle.std.specs.Prelude.{ℕ}
-use Rattle.fm_base.specs.declared.caller.Caller.{Caller}
-use Rattle.fm_base.specs.declared.arena_id.ArenaId.{ArenaId}
+use Rattle.fm_base.specs.declared.{caller.Caller.{Caller}, arena_id.ArenaId.{ArenaId}}
 
 pub data Call : Type 0 where
   Open : (id : ArenaId) → Call

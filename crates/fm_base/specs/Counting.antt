@@ -1,12 +1,8 @@
 -- Words that are only added to.
-use Rattle.std.specs.Prelude.{◌≡◌, ℕ, ◌+◌, ◌%◌, ◌^◌, ◌<◌, ◌==◌, ◌&&◌, if◌then◌else◌, List, [], ◌∷◌, ⊤}
-use Rattle.std.specs.List.{AllByRecursion}
+use Rattle.std.specs.{Prelude.{◌≡◌, ℕ, ◌+◌, ◌%◌, ◌^◌, ◌<◌, ◌==◌, ◌&&◌, if◌then◌else◌, List, [], ◌∷◌, ⊤}, List.{AllByRecursion}}
 use Rattle.fm_base_lists.specs.Among.{IsAmong, AreApart}
-use Rattle.fm_base.specs.declared.caller.Caller.{Caller}
-use Rattle.fm_base.specs.declared.arena_id.ArenaId.{ArenaId}
-use Rattle.fm_base.specs.Arenas.{State, same_id, word_in}
-use Rattle.fm_base.specs.Calls.{Call, Write, SwapIf, Add, Entry}
-use Rattle.fm_base.specs.Histories.{IsLegal, state_after, made_by}
+use Rattle.fm_base.specs.{declared.{caller.Caller.{Caller}, arena_id.ArenaId.{ArenaId}}, Arenas.{State, same_id, word_in}}
+use Rattle.fm_base.specs.{Calls.{Call, Write, SwapIf, Add, Entry}, Histories.{IsLegal, state_after, made_by}}
 
 -- what the call adds to the word
 abbrev pub adds_to : ArenaId → ℕ → Call → ℕ

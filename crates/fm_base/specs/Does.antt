@@ -1,17 +1,11 @@
 -- What each call of `Memory`, and of a pool beside, does: the caller's own entries and the answer. Cases in the order of the checks.
 use Rattle.std.specs.Prelude.{◌≡◌, ◌≢◌, ℕ, ◌+◌, ◌-◌, ◌*◌, ◌^◌, ◌<◌, ◌≤◌, bit_and, bit_or, Bool, true, false, List, [], ◌∷◌, Option, Some, None, Result, Ok, Err}
-use Rattle.fm_base.specs.declared.caller.Caller.{Caller}
-use Rattle.fm_base.specs.declared.arena_id.ArenaId.{ArenaId}
-use Rattle.fm_base.specs.declared.kind.Kind.{Kind}
-use Rattle.fm_base.specs.declared.kind.Kind.TheVariants.{Global, Automatic}
+use Rattle.fm_base.specs.declared.{caller.Caller.{Caller}, arena_id.ArenaId.{ArenaId}, kind.Kind.{Kind, TheVariants.{Global, Automatic}}}
 use Rattle.fm_base.specs.declared.refusal.Refusal.{Refusal}
 use Rattle.fm_base.specs.declared.refusal.Refusal.TheVariants.{Closed, WrongThread, Unsupported, TooManyHolds, BadAlignment, NoRoom, PoolFull, NoSlot, Memory, CannotClose, Held}
-use Rattle.fm_base.specs.Arenas.{MayUse, owner_of}
-use Rattle.fm_base.specs.Calls as machine
-use Rattle.fm_base.specs.Calls.{Call, Reply, Entry, entry_of}
-use Rattle.fm_base.specs.Machine.{IsPower}
-use Rattle.fm_base.specs.View.{View, Did, but_loans, given_in}
+use Rattle.fm_base.specs.{Arenas.{MayUse, owner_of}, Calls.{Call, Reply, Entry, entry_of}, Machine.{IsPower}, View.{View, Did, but_loans, given_in}}
 use Rattle.fm_base.specs.Visits.{Acts, entries_of, visit, refused_visit, Tries}
+use Rattle.fm_base.specs.Calls as machine
 
 -- inside an arena, where the word has a given byte
 pub record CanReach (v : View) (word : ℕ) : Type 0 where

@@ -1,7 +1,6 @@
 -- What a caller of a pool is told of beside the history: the words that certain steps found, and what it has.
 use Rattle.std.specs.Prelude.{◌≡◌, ℕ, Bool, true, false, List, ◌++◌, Option, Contains, All}
-use Rattle.fm_base.specs.declared.caller.Caller.{Caller}
-use Rattle.fm_base.specs.declared.arena_id.ArenaId.{ArenaId}
+use Rattle.fm_base.specs.declared.{caller.Caller.{Caller}, arena_id.ArenaId.{ArenaId}}
 
 -- the steps whose finds are kept, with their arguments
 pub data FindStep : Type 0 where

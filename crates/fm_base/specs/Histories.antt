@@ -1,9 +1,7 @@
 -- Histories: lists of entries in order. Which are legal and which tidy, and what state one leaves.
 use Rattle.std.specs.Prelude.{◌≡◌, ℕ, ◌+◌, ◌*◌, ◌%◌, ◌^◌, ◌<◌, ◌≤◌, List, [], ◌∷◌, length, filter, ⊤}
 use Rattle.fm_base_bytes.specs.Words.{AreWords, byte_of}
-use Rattle.fm_base.specs.declared.caller.Caller.{Caller}
-use Rattle.fm_base.specs.Arenas.{Arena, State, arena_of, word_in, are_one}
-use Rattle.fm_base.specs.Calls.{Call, Write, SwapIf, Add, Entry}
+use Rattle.fm_base.specs.{declared.caller.Caller.{Caller}, Arenas.{Arena, State, arena_of, word_in, are_one}, Calls.{Call, Write, SwapIf, Add, Entry}}
 use Rattle.fm_base.specs.Machine.{MayCall, reply_to, after, words_within}
 
 -- the state that entries leave

@@ -1,11 +1,8 @@
 -- What holds of every legal history.
 use Rattle.std.specs.Prelude.{◌≡◌, ◌≢◌, ℕ, ◌+◌, ◌%◌, ◌≤◌, true, List, [], ◌∷◌, ◌++◌, All, Some}
 use Rattle.fm_base_bytes.specs.Words.{byte_at}
-use Rattle.fm_base.specs.declared.caller.Caller.{Caller}
-use Rattle.fm_base.specs.declared.arena_id.ArenaId.{ArenaId}
-use Rattle.fm_base.specs.Arenas.{has_arena, arena_of}
-use Rattle.fm_base.specs.Calls.{Open, Enter, Allocate, End, Closed, Given, Reply, Entry, entry_of}
-use Rattle.fm_base.specs.Histories.{state_after, IsLegal, IsTidy, IsWhole}
+use Rattle.fm_base.specs.{declared.{caller.Caller.{Caller}, arena_id.ArenaId.{ArenaId}}, Arenas.{has_arena, arena_of}}
+use Rattle.fm_base.specs.{Calls.{Open, Enter, Allocate, End, Closed, Given, Reply, Entry, entry_of}, Histories.{state_after, IsLegal, IsTidy, IsWhole}}
 use Rattle.fm_base.specs.View.{View, Told, Makes, IsSound, KeepsFaith}
 
 -- where a history is legal and tidy, every byte at or past the given count is 0

@@ -1,17 +1,9 @@
 -- What each call of a `Memory` asks for, and what its caller learns: one record each.
 use Rattle.std.specs.Prelude.{◌≡◌, ◌≢◌, ℕ, List, true, bit_and, Some, None, Result, Err, IfOk, IfErr}
-use Rattle.fm_base.specs.declared.arena_id.ArenaId.{ArenaId}
-use Rattle.fm_base.specs.declared.kind.Kind.{Kind}
-use Rattle.fm_base.specs.declared.kind.Kind.TheVariants.{Automatic}
-use Rattle.fm_base.specs.declared.refusal.Refusal.{Refusal}
-use Rattle.fm_base.specs.declared.refusal.Refusal.TheVariants.{NoSlot, PoolFull}
-use Rattle.fm_base.specs.Arenas.{Ended, has_arena, arena_of}
-use Rattle.fm_base.specs.Calls.{Call, Reply, Leave, Fine}
-use Rattle.fm_base.specs.Does.{CanReach, DidEnter, DidAct, DidActs, DidPatch, DidOpen, DidAllocate, DidClose}
-use Rattle.fm_base.specs.Finds.{is_slot, is_page}
-use Rattle.fm_base.specs.Outcomes.{Nature, MayCome, FoundNoneFree, IsNew, Gives, Lasts}
-use Rattle.fm_base.specs.View.{View, IsSound}
-use Rattle.fm_base.specs.Visits.{writes}
+use Rattle.fm_base.specs.declared.{arena_id.ArenaId.{ArenaId}, kind.Kind.{Kind, TheVariants.{Automatic}}, refusal.Refusal.{Refusal}}
+use Rattle.fm_base.specs.{declared.refusal.Refusal.TheVariants.{NoSlot, PoolFull}, Arenas.{Ended, has_arena, arena_of}, Calls.{Call, Reply, Leave, Fine}}
+use Rattle.fm_base.specs.{Does.{CanReach, DidEnter, DidAct, DidActs, DidPatch, DidOpen, DidAllocate, DidClose}, Finds.{is_slot, is_page}}
+use Rattle.fm_base.specs.{Outcomes.{Nature, MayCome, FoundNoneFree, IsNew, Gives, Lasts}, View.{View, IsSound}, Visits.{writes}}
 
 -- ---- what is asked for
 

@@ -1,7 +1,6 @@
 -- A refusal's arguments, as the code keeps them.
 use Rattle.std.specs.Prelude.{ℕ, List, [], ◌∷◌}
-use Rattle.fm_base.specs.declared.refusal.Arguments.{Arguments}
-use Rattle.fm_base.specs.declared.refusal.Arguments.TheVariants.{None, One, Two}
+use Rattle.fm_base.specs.declared.refusal.Arguments.{Arguments, TheVariants.{None, One, Two}}
 
 abbrev pub listed : Arguments → List ℕ
 listed None = []

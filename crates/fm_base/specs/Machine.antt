@@ -1,9 +1,7 @@
 -- One step of the machine: where a call may be made, the reply, and the state after it.
 use Rattle.std.specs.Prelude.{◌≡◌, ◌≢◌, ℕ, ◌+◌, ◌-◌, ◌*◌, ◌/◌, ◌%◌, ◌^◌, ◌<◌, nat_le, ◌==◌, true, false, if◌then◌else◌, [], ◌∷◌, ◌++◌, refl, slice_set, length, replicate, filter, not, ⊤}
 use Rattle.std.specs.Int.{is_power_of_two}
-use Rattle.fm_base.specs.declared.caller.Caller.{Caller}
-use Rattle.fm_base.specs.declared.arena_id.ArenaId.{ArenaId}
-use Rattle.fm_base.specs.declared.kind.Kind.TheVariants.{Global}
+use Rattle.fm_base.specs.declared.{caller.Caller.{Caller}, arena_id.ArenaId.{ArenaId}, kind.Kind.TheVariants.{Global}}
 use Rattle.fm_base.specs.Arenas.{Life, Alive, Closing, Ended, Arena, State, has_arena, arena_of, changed, word_in, IsUnderWay, MayUse, are_one, owner_of}
 use Rattle.fm_base.specs.Calls.{Call, Open, Enter, Read, Write, SwapIf, Add, Allocate, Leave, Hold, Unhold, Shut, End, Lend, Back, Reply, Fine, Closed, Held, TooManyHolds, Found, Given, NoRoom, Entry}
 

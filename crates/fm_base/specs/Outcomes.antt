@@ -1,11 +1,7 @@
 -- What a type of memory may answer, and what stands after a call that was answered so.
 use Rattle.std.specs.Prelude.{◌≡◌, ℕ, ◌+◌, ◌%◌, ◌≤◌, Bool, true, false, IsTrue, Option, Some, None, Result, Ok, Err, ⊤}
-use Rattle.fm_base.specs.declared.arena_id.ArenaId.{ArenaId}
-use Rattle.fm_base.specs.declared.refusal.Refusal.{Refusal}
-use Rattle.fm_base.specs.declared.refusal.Refusal.TheVariants.{Memory, NoSlot, PoolFull}
-use Rattle.fm_base.specs.Arenas.{has_arena}
-use Rattle.fm_base.specs.Finds.{FindStep, FoundNothing}
-use Rattle.fm_base.specs.View.{View, Told, given_in}
+use Rattle.fm_base.specs.{declared.{arena_id.ArenaId.{ArenaId}, refusal.Refusal.{Refusal, TheVariants.{Memory, NoSlot, PoolFull}}}, Arenas.{has_arena}}
+use Rattle.fm_base.specs.{Finds.{FindStep, FoundNothing}, View.{View, Told, given_in}}
 
 -- constants of a type of memory
 pub record Nature : Type 0 where

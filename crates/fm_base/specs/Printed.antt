@@ -1,6 +1,5 @@
 -- The text of a refusal: its number and then its arguments, separated by spaces.
-use Rattle.std.specs.Prelude.{ℕ, List, [], ◌∷◌, ◌++◌}
-use Rattle.std.specs.Fmt.{decimal}
+use Rattle.std.specs.{Prelude.{ℕ, List, [], ◌∷◌, ◌++◌}, Fmt.{decimal}}
 use Rattle.fm_base.specs.declared.refusal.Refusal.{Refusal}
 use Rattle.fm_base.specs.declared.refusal.Refusal.TheVariants.{Closed, WrongThread, Bounds, Misaligned, ReadOnly, Unsupported, Held, CannotClose, BadAlignment, NoRoom, PoolFull, NoSlot, NoPass, TooManyHolds, Overflow, MemberMisaligned, ElementRagged, BadPadding, AlignmentBelow, NoSize, NotGroup, NoMember, NotSequence, IndexOut, StillOpen, NotValue, BadStep, BadJson, BadShape, BadQuery, Ragged, BadScript, NotText, NoZero, TableFull, Memory}
 use Rattle.fm_base.specs.Arenas.{kind_number}

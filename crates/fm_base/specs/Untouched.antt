@@ -1,11 +1,8 @@
 -- Bytes that no entry of a history changes, and arenas that no entry closes.
-use Rattle.std.specs.Prelude.{◌≡◌, ◌≢◌, ℕ, ◌/◌, ◌%◌, true, List, ⊤}
-use Rattle.std.specs.List.{AllByRecursion}
+use Rattle.std.specs.{Prelude.{◌≡◌, ◌≢◌, ℕ, ◌/◌, ◌%◌, true, List, ⊤}, List.{AllByRecursion}}
 use Rattle.fm_base_bytes.specs.Words.{byte_of, byte_at}
-use Rattle.fm_base.specs.declared.arena_id.ArenaId.{ArenaId}
-use Rattle.fm_base.specs.Arenas.{Alive, State, arena_of, has_arena}
-use Rattle.fm_base.specs.Calls.{Call, Enter, Read, Write, SwapIf, Add, Shut, End, Fine, Found, Entry}
-use Rattle.fm_base.specs.Histories.{IsLegal, state_after}
+use Rattle.fm_base.specs.{declared.arena_id.ArenaId.{ArenaId}, Arenas.{Alive, State, arena_of, has_arena}}
+use Rattle.fm_base.specs.{Calls.{Call, Enter, Read, Write, SwapIf, Add, Shut, End, Fine, Found, Entry}, Histories.{IsLegal, state_after}}
 
 -- ---- bytes
 

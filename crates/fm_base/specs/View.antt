@@ -1,11 +1,7 @@
 -- What contracts see of a `Memory`, and what a call does to it.
 use Rattle.std.specs.Prelude.{◌≡◌, ℕ, ◌≤◌, ◌^◌, ◌++◌, ◌⊎◌, Bool, true, List, [], ◌∷◌, Option, Some, None, false, filter, not, All, ⊤}
-use Rattle.fm_base.specs.declared.caller.Caller.{Caller}
-use Rattle.fm_base.specs.declared.arena_id.ArenaId.{ArenaId}
-use Rattle.fm_base.specs.Arenas.{State, arena_of}
-use Rattle.fm_base.specs.Calls.{Call, Enter, Leave, Lend, Back, Reply, Fine, Entry}
-use Rattle.fm_base.specs.Histories.{IsLegal, state_after, made_by}
-use Rattle.fm_base.specs.Finds.{Find, Rest, FindsMore}
+use Rattle.fm_base.specs.{declared.{caller.Caller.{Caller}, arena_id.ArenaId.{ArenaId}}, Arenas.{State, arena_of}}
+use Rattle.fm_base.specs.{Calls.{Call, Enter, Leave, Lend, Back, Reply, Fine, Entry}, Histories.{IsLegal, state_after, made_by}, Finds.{Find, Rest, FindsMore}}
 
 -- what an implementation may tell of its caller
 pub record Told : Type 0 where

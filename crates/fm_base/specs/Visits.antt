@@ -1,8 +1,6 @@
 -- Visits to an arena, tries on a word, pieces of a run of bytes, and calls that are a run of visits.
-use Rattle.std.specs.Prelude.{◌≡◌, ℕ, ◌+◌, ◌-◌, ◌%◌, min, List, [], ◌∷◌, ◌++◌}
-use Rattle.fm_base.specs.declared.caller.Caller.{Caller}
-use Rattle.fm_base.specs.declared.arena_id.ArenaId.{ArenaId}
-use Rattle.std.proofs.Common.{suc}
+use Rattle.std.{specs.Prelude.{◌≡◌, ℕ, ◌+◌, ◌-◌, ◌%◌, min, List, [], ◌∷◌, ◌++◌}, proofs.Common.{suc}}
+use Rattle.fm_base.specs.declared.{caller.Caller.{Caller}, arena_id.ArenaId.{ArenaId}}
 use Rattle.fm_base.specs.Calls.{Call, Enter, Read, Write, SwapIf, Leave, Reply, Fine, Closed, Found, Entry, entry_of}
 
 -- ---- visits

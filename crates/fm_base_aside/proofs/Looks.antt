@@ -1,15 +1,11 @@
 -- Where others only look, one caller's own entries are a legal history, which leaves what all entries leave.
 use Rattle.std.proofs.Common.{◌≡◌, ℕ, Bool, true, false, List, [], ◌∷◌, ◌++◌, refl, ap, sym, ◌∙◌, subst, inl, inr, ⊎_elim, if◌then◌else◌, filter, not, length, Contains, ◌⊎◌, ◌<◌, arith, zero, suc, slice_index, cond}
-use Rattle.std.specs.Prelude.{⊤}
-use Rattle.std.proofs.lemmas.List.Elements.{Contains-append_right, All-contains, All-filter, All-contains_itself}
-use Rattle.fm_base.specs.declared.caller.Caller.{Caller}
-use Rattle.fm_base.specs.declared.arena_id.ArenaId.{ArenaId}
+use Rattle.std.{specs.Prelude.{⊤}, proofs.lemmas.List.Elements.{Contains-append_right, All-contains, All-filter, All-contains_itself}}
+use Rattle.fm_base.specs.declared.{caller.Caller.{Caller}, arena_id.ArenaId.{ArenaId}}
 use Rattle.fm_base.specs.Arenas.{Arena, State, arena_of, has_arena, changed, same_id, are_one, IsUnderWay}
 use Rattle.fm_base.specs.Calls.{Call, Open, Enter, Read, Write, SwapIf, Add, Allocate, Leave, Hold, Unhold, Shut, End, Lend, Back, Reply, Fine, Found, Given, Entry}
 use Rattle.fm_base.specs.Machine.{MayCall, MayReach, MayPut, enter_reply, allocate_reply, hold_reply, shut_reply, reply_to, Change, Opens, Alters, Rests, made, change_of, after}
-use Rattle.fm_base.specs.Histories.{IsLegal, state_after, made_by}
-use Rattle.fm_base.proofs.Names.{are_one-true}
-use Rattle.fm_base.proofs.Lookup.{KeepsName}
+use Rattle.fm_base.{specs.Histories.{IsLegal, state_after, made_by}, proofs.{Names.{are_one-true}, Lookup.{KeepsName}}}
 use Rattle.fm_base_aside.specs.Aside.{IsLook, OthersLook, arena_for, state_for}
 
 module _ (c : Caller) where

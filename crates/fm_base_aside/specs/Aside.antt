@@ -1,9 +1,6 @@
 -- What one caller sees of a machine in which the others only look.
-use Rattle.std.specs.Prelude.{◌≡◌, ◌⊎◌, true, false, List, map, filter, ⊤}
-use Rattle.std.specs.List.{AllByRecursion}
-use Rattle.fm_base.specs.declared.caller.Caller.{Caller}
-use Rattle.fm_base.specs.Arenas.{Arena, State, are_one}
-use Rattle.fm_base.specs.Calls.{Call, Enter, Read, Leave, Lend, Back, Entry}
+use Rattle.std.specs.{Prelude.{◌≡◌, ◌⊎◌, true, false, List, map, filter, ⊤}, List.{AllByRecursion}}
+use Rattle.fm_base.specs.{declared.caller.Caller.{Caller}, Arenas.{Arena, State, are_one}, Calls.{Call, Enter, Read, Leave, Lend, Back, Entry}}
 
 -- a call that changes no arena but for who is under way in it
 abbrev pub IsLook : Call → Type 0

@@ -1,10 +1,8 @@
 -- Bytes of numbers and the numbers of bytes, back and forth.
 use Rattle.std.proofs.Common.{◌≡◌, ℕ, zero, suc, ◌+◌, ◌-◌, ◌*◌, ◌/◌, ◌%◌, ◌^◌, ◌<◌, ◌≤◌, List, [], ◌∷◌, ◌++◌, length, take, drop, get_or, replicate, lit<, refl, sym, ap, subst, ◌∙◌, arith}
-use Rattle.std.proofs.lemmas.List.{take_at, drop_at}
-use Rattle.std.proofs.lemmas.List.Elements.{All-nil, All-cons, All-head, All-tail}
+use Rattle.std.proofs.lemmas.List.{take_at, drop_at, Elements.{All-nil, All-cons, All-head, All-tail}}
 use Rattle.std.proofs.lemmas.Nat.{pow_pos, pow-add, mod_below, mod-pow-add, shr-shr, field_of, shr_high, mod_low, shr_split, shr_below, mul-add-lt}
-use Rattle.fm_base_bytes.specs.Bytes.{AreBytes, bytes_of, number_of, lane, replaced}
-use Rattle.fm_base_bytes.specs.Words.{byte_of}
+use Rattle.fm_base_bytes.specs.{Bytes.{AreBytes, bytes_of, number_of, lane, replaced}, Words.{byte_of}}
 
 -- ---- widths
 

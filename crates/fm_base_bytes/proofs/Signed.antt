@@ -1,9 +1,6 @@
 -- Two's complement back and forth, and that it is the library's at eight bytes.
 use Rattle.std.proofs.Common.{◌≡◌, ℕ, suc, ◌-◌, ◌*◌, ◌^◌, ◌<◌, ◌≤◌, refl, sym, ap, subst, ◌∙◌, arith, inl, inr, ℤ, pos, negsuc}
-use Rattle.std.specs.Int.{w64, cast_unsigned}
-use Rattle.std.proofs.lemmas.Bool.{cases_lt, cond-true, cond-false, lt-ltb, le-ltb}
-use Rattle.std.proofs.lemmas.Nat.{pow_pos}
-use Rattle.std.proofs.Math.Nat.{pow-succ'}
+use Rattle.std.{specs.Int.{w64, cast_unsigned}, proofs.{lemmas.{Bool.{cases_lt, cond-true, cond-false, lt-ltb, le-ltb}, Nat.{pow_pos}}, Math.Nat.{pow-succ'}}}
 use Rattle.fm_base_bytes.specs.Signed.{signed_of, unsigned_of, FitsBytes}
 
 -- A width holds twice what its numbers that aren't negative are.

@@ -1,11 +1,8 @@
 -- The words of bytes and the bytes of words.
 use Rattle.std.proofs.Common.{◌≡◌, ℕ, zero, suc, ◌+◌, ◌-◌, ◌*◌, ◌/◌, ◌%◌, ◌^◌, ◌<◌, ◌≤◌, lit<, List, [], ◌∷◌, ◌++◌, length, take, drop, get_or, set, replicate, refl, sym, ap, ◌∙◌, arith, inl, inr}
 use Rattle.std.proofs.lemmas.List.{append_assoc, take_at, drop_at, take_all, drop_all, drop-drop, take-append-le, drop-append-le, length-append, length-drop, length-take-le, length-replicate, take-append-drop, set_split, drop_more, get_or-take, get_or-drop}
-use Rattle.std.proofs.lemmas.List.Elements.{All-append, All-replicate}
-use Rattle.std.proofs.Math.Seq.{take-add}
-use Rattle.std.proofs.lemmas.Bool.{cases_lt}
-use Rattle.fm_base_bytes.specs.Bytes.{AreBytes, bytes_of, number_of, lane, replaced}
-use Rattle.fm_base_bytes.specs.Words.{byte_of, bytes_in, words_from}
+use Rattle.std.proofs.{lemmas.{List.Elements.{All-append, All-replicate}, Bool.{cases_lt}}, Math.Seq.{take-add}}
+use Rattle.fm_base_bytes.specs.{Bytes.{AreBytes, bytes_of, number_of, lane, replaced}, Words.{byte_of, bytes_in, words_from}}
 use Rattle.fm_base_bytes.proofs.Bytes.{length-bytes_of, bytes_of-number_of, number_of-filled, bytes_of-lane, bytes_of-replaced, get_or-bytes_of}
 
 -- ---- the bytes of words

@@ -1,7 +1,5 @@
 -- Bytes and the numbers that they make, by division and remainder, the lowest byte first.
-use Rattle.std.specs.Prelude.{ℕ, ◌+◌, ◌*◌, ◌/◌, ◌%◌, ◌^◌, ◌<◌, List, [], ◌∷◌}
-use Rattle.std.specs.List.{All}
-use Rattle.std.proofs.Common.{zero, suc}
+use Rattle.std.{specs.{Prelude.{ℕ, ◌+◌, ◌*◌, ◌/◌, ◌%◌, ◌^◌, ◌<◌, List, [], ◌∷◌}, List.{All}}, proofs.Common.{zero, suc}}
 
 -- each number of the list is a byte
 abbrev pub AreBytes : List ℕ → Type 0

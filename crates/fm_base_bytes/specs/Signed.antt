@@ -1,6 +1,5 @@
 -- Two's complement in a width of bytes.
-use Rattle.std.specs.Prelude.{ℕ, ◌-◌, ◌*◌, ◌^◌, ◌<◌, nat_lt, if◌then◌else◌, ℤ, pos, negsuc}
-use Rattle.std.proofs.Common.{suc}
+use Rattle.std.{specs.Prelude.{ℕ, ◌-◌, ◌*◌, ◌^◌, ◌<◌, nat_lt, if◌then◌else◌, ℤ, pos, negsuc}, proofs.Common.{suc}}
 
 -- the signed number whose two's complement in `width` bytes is n
 abbrev pub signed_of : ℕ → ℕ → ℤ

@@ -1,7 +1,5 @@
 -- Words of eight bytes, the lowest byte first: word w holds the bytes 8w to 8w + 7.
-use Rattle.std.specs.Prelude.{ℕ, ◌+◌, ◌/◌, ◌%◌, ◌^◌, ◌<◌, List, [], ◌∷◌, ◌++◌, length, take, drop, slice_index}
-use Rattle.std.specs.List.{All}
-use Rattle.std.proofs.Common.{zero, suc}
+use Rattle.std.{specs.{Prelude.{ℕ, ◌+◌, ◌/◌, ◌%◌, ◌^◌, ◌<◌, List, [], ◌∷◌, ◌++◌, length, take, drop, slice_index}, List.{All}}, proofs.Common.{zero, suc}}
 use Rattle.fm_base_bytes.specs.Bytes.{bytes_of, number_of, lane}
 
 -- each number of the list is a word

@@ -1,11 +1,8 @@
 -- An arena's count of given bytes, and its holds, where no entry changes them.
 use Rattle.std.proofs.Common.{◌≡◌, ℕ, [], ◌∷◌, refl, sym, ◌∙◌, arith}
-use Rattle.fm_base.specs.declared.caller.Caller.{Caller}
-use Rattle.fm_base.specs.declared.arena_id.ArenaId.{ArenaId}
-use Rattle.fm_base.specs.Arenas.{State, Arena, arena_of}
+use Rattle.fm_base.specs.{declared.{caller.Caller.{Caller}, arena_id.ArenaId.{ArenaId}}, Arenas.{State, Arena, arena_of}}
 use Rattle.fm_base.specs.Calls.{Call, Open, Enter, Write, SwapIf, Add, Allocate, Leave, Hold, Unhold, Shut, End, Reply, Fine, Found, Given, Entry}
-use Rattle.fm_base.specs.Machine.{change_of, after}
-use Rattle.fm_base.proofs.Lookup.{Relates, Same, made_lookup, arena_of-id}
+use Rattle.fm_base.{specs.Machine.{change_of, after}, proofs.Lookup.{Relates, Same, made_lookup, arena_of-id}}
 use Rattle.fm_base_laws.specs.Counts.{AsksNone, GivenStays, HoldsNone, StaysUnheld}
 
 -- ---- what was given

@@ -1,13 +1,9 @@
 -- A state has the arenas that were opened, in that order.
-use Rattle.std.proofs.Common.{◌≡◌, ℕ, true, false, if◌then◌else◌, List, [], ◌∷◌, ◌++◌, map, refl, ap, sym, ◌∙◌, append_assoc}
-use Rattle.std.specs.List.{flat_map}
+use Rattle.std.{proofs.Common.{◌≡◌, ℕ, true, false, if◌then◌else◌, List, [], ◌∷◌, ◌++◌, map, refl, ap, sym, ◌∙◌, append_assoc}, specs.List.{flat_map}}
 use Rattle.std.proofs.lemmas.List.{map-append, append-nil}
-use Rattle.fm_base.specs.declared.caller.Caller.{Caller}
-use Rattle.fm_base.specs.declared.arena_id.ArenaId.{ArenaId}
-use Rattle.fm_base.specs.Arenas.{State, Arena, changed, same_id}
+use Rattle.fm_base.specs.{declared.{caller.Caller.{Caller}, arena_id.ArenaId.{ArenaId}}, Arenas.{State, Arena, changed, same_id}}
 use Rattle.fm_base.specs.Calls.{Call, Open, Enter, Write, SwapIf, Add, Allocate, Leave, Hold, Unhold, Shut, End, Reply, Fine, Found, Given, Entry}
-use Rattle.fm_base.specs.Histories.{state_after}
-use Rattle.fm_base.specs.Machine.{Change, Opens, Alters, Rests, made, change_of, after}
+use Rattle.fm_base.specs.{Histories.{state_after}, Machine.{Change, Opens, Alters, Rests, made, change_of, after}}
 use Rattle.fm_base_laws.specs.Opened.{opened_by, OpenedInOrder}
 
 -- the names of the arenas of a state

@@ -1,15 +1,11 @@
 -- A byte is what one caller's entries leave, where all others spare it.
 use Rattle.std.proofs.Common.{◌≡◌, ◌≢◌, ℕ, ◌+◌, ◌/◌, ◌%◌, ◌^◌, ◌<◌, ◌==◌, Bool, true, false, if◌then◌else◌, cond, [], ◌∷◌, refl, ap, sym, ◌∙◌, subst, arith, length}
 use Rattle.fm_base_bytes.specs.Words.{byte_of, byte_at}
-use Rattle.fm_base.specs.declared.caller.Caller.{Caller}
-use Rattle.fm_base.specs.declared.arena_id.ArenaId.{ArenaId}
-use Rattle.fm_base.specs.Arenas.{State, Arena, are_one, arena_of, changed, has_arena, same_id}
-use Rattle.fm_base.specs.Calls.{Call, Write, SwapIf, Add, Reply, Found, entry_of}
-use Rattle.fm_base.specs.Histories.{made_by}
+use Rattle.fm_base.specs.{declared.{caller.Caller.{Caller}, arena_id.ArenaId.{ArenaId}}, Arenas.{State, Arena, are_one, arena_of, changed, has_arena, same_id}}
+use Rattle.fm_base.specs.{Calls.{Call, Write, SwapIf, Add, Reply, Found, entry_of}, Histories.{made_by}}
 use Rattle.fm_base.specs.Machine.{MayCall, reply_to, Alters, made, change_of, after, written}
 use Rattle.fm_base.proofs.Lookup.{Same, made_lookup, arena_of-id, arena_of-none, lookup_changed, swapped_hit, swapped_miss}
-use Rattle.fm_base.proofs.Names.{same_id-true, same_id-self, are_one-self}
-use Rattle.fm_base.proofs.Untouched.{put_at, spared}
+use Rattle.fm_base.proofs.{Names.{same_id-true, same_id-self, are_one-self}, Untouched.{put_at, spared}}
 use Rattle.fm_base_laws.specs.Own.{byte_put, byte_left, byte_behind, OwnDecide}
 
 -- ---- one word is put

@@ -1,10 +1,6 @@
 -- Counts of an arena that no entry changes: its given bytes and its holds.
-use Rattle.std.specs.Prelude.{◌≡◌, ◌≢◌, ℕ, List, ⊤}
-use Rattle.std.specs.List.{AllByRecursion}
-use Rattle.fm_base.specs.declared.arena_id.ArenaId.{ArenaId}
-use Rattle.fm_base.specs.Arenas.{State, arena_of}
-use Rattle.fm_base.specs.Calls.{Call, Allocate, Hold, Entry}
-use Rattle.fm_base.specs.Histories.{state_after}
+use Rattle.std.specs.{Prelude.{◌≡◌, ◌≢◌, ℕ, List, ⊤}, List.{AllByRecursion}}
+use Rattle.fm_base.specs.{declared.arena_id.ArenaId.{ArenaId}, Arenas.{State, arena_of}, Calls.{Call, Allocate, Hold, Entry}, Histories.{state_after}}
 
 -- the call asks no bytes of the arena
 abbrev pub AsksNone : ArenaId → Call → Type 0

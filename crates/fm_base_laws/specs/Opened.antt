@@ -1,9 +1,6 @@
 -- The order in which arenas were opened.
-use Rattle.std.specs.Prelude.{◌≡◌, ℕ, List, [], ◌∷◌, map}
-use Rattle.std.specs.List.{flat_map}
-use Rattle.fm_base.specs.declared.arena_id.ArenaId.{ArenaId}
-use Rattle.fm_base.specs.Calls.{Call, Open, Entry}
-use Rattle.fm_base.specs.Histories.{state_after}
+use Rattle.std.specs.{Prelude.{◌≡◌, ℕ, List, [], ◌∷◌, map}, List.{flat_map}}
+use Rattle.fm_base.specs.{declared.arena_id.ArenaId.{ArenaId}, Calls.{Call, Open, Entry}, Histories.{state_after}}
 
 -- the arena that the call opens
 abbrev pub opened_by : Call → List ArenaId

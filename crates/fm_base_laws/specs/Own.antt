@@ -1,13 +1,8 @@
 -- What one caller's entries leave of a byte, where all other callers spare it.
-use Rattle.std.specs.Prelude.{◌≡◌, ◌≢◌, ◌+◌, ℕ, ◌/◌, ◌%◌, ◌^◌, ◌==◌, if◌then◌else◌, List, [], ◌∷◌}
-use Rattle.std.specs.List.{AllByRecursion}
+use Rattle.std.specs.{Prelude.{◌≡◌, ◌≢◌, ◌+◌, ℕ, ◌/◌, ◌%◌, ◌^◌, ◌==◌, if◌then◌else◌, List, [], ◌∷◌}, List.{AllByRecursion}}
 use Rattle.fm_base_bytes.specs.Words.{byte_of, byte_at}
-use Rattle.fm_base.specs.declared.arena_id.ArenaId.{ArenaId}
-use Rattle.fm_base.specs.declared.caller.Caller.{Caller}
-use Rattle.fm_base.specs.Arenas.{State, arena_of, same_id}
-use Rattle.fm_base.specs.Calls.{Call, Write, SwapIf, Add, Reply, Found, Entry}
-use Rattle.fm_base.specs.Histories.{IsLegal, made_by, state_after}
-use Rattle.fm_base.specs.Untouched.{Spares}
+use Rattle.fm_base.specs.{declared.{arena_id.ArenaId.{ArenaId}, caller.Caller.{Caller}}, Arenas.{State, arena_of, same_id}}
+use Rattle.fm_base.specs.{Calls.{Call, Write, SwapIf, Add, Reply, Found, Entry}, Histories.{IsLegal, made_by, state_after}, Untouched.{Spares}}
 
 -- the byte at this place once the word `word` of the arena `a` has this value
 abbrev pub byte_put : ArenaId → ℕ → ArenaId → ℕ → ℕ → ℕ → ℕ

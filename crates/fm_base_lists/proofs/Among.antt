@@ -1,6 +1,5 @@
 -- What stands in lists that were put together, mapped or filtered.
-use Rattle.std.proofs.Common.{◌≡◌, Bool, true, false, List, [], ◌∷◌, ◌++◌, map, refl, ap, sym, subst, cond, ◌⊎◌, inl, inr, ◌∙◌}
-use Rattle.std.specs.Prelude.{filter}
+use Rattle.std.{proofs.Common.{◌≡◌, Bool, true, false, List, [], ◌∷◌, ◌++◌, map, refl, ap, sym, subst, cond, ◌⊎◌, inl, inr, ◌∙◌}, specs.Prelude.{filter}}
 use Rattle.fm_base_lists.specs.Among.{IsAmong}
 
 -- In the first of two.

@@ -1,16 +1,11 @@
 -- What the functions allow is legal.
-use Rattle.std.proofs.Common.{◌≡◌, ◌≢◌, ℕ, Bool, true, false, List, [], ◌∷◌, refl, ap, sym, ◌∙◌, arith}
-use Rattle.std.specs.Prelude.{Contains}
-use Rattle.fm_base.specs.declared.caller.Caller.{Caller}
-use Rattle.fm_base.specs.declared.arena_id.ArenaId.{ArenaId}
-use Rattle.fm_base.specs.Arenas.{Life, Alive, Closing, Ended, State, arena_of, has_arena}
+use Rattle.std.{proofs.Common.{◌≡◌, ◌≢◌, ℕ, Bool, true, false, List, [], ◌∷◌, refl, ap, sym, ◌∙◌, arith}, specs.Prelude.{Contains}}
+use Rattle.fm_base.specs.{declared.{caller.Caller.{Caller}, arena_id.ArenaId.{ArenaId}}, Arenas.{Life, Alive, Closing, Ended, State, arena_of, has_arena}}
 use Rattle.fm_base.specs.Calls.{Call, Open, Enter, Read, Write, SwapIf, Add, Allocate, Leave, Hold, Unhold, Shut, End, Lend, Back, Found}
-use Rattle.fm_base.specs.Machine.{MayReach, MayCall, reply_to, enter_reply, hold_reply, shut_reply, allocate_reply}
-use Rattle.fm_base.proofs.Placing.{there_by_way}
+use Rattle.fm_base.{specs.Machine.{MayReach, MayCall, reply_to, enter_reply, hold_reply, shut_reply, allocate_reply}, proofs.Placing.{there_by_way}}
 use Rattle.fm_base.proofs.Lookup.{arena_of-none}
 use Rattle.fm_base_machine.specs.Functions.{Fresh, Lives, Closes, stage_of, Machine, Depicts, enter_stage, hold_stage, shut_stage, reply_by, Reaches, MayBy}
-use Rattle.fm_base_machine.specs.Steps.{AlwaysAllows}
-use Rattle.fm_base_machine.proofs.Putting.{contains_first}
+use Rattle.fm_base_machine.{specs.Steps.{AlwaysAllows}, proofs.Putting.{contains_first}}
 
 is_fresh : (b : Bool) (l : Life) → Fresh ≡ stage_of b l → b ≡ false
 is_fresh false l e = refl

@@ -1,20 +1,15 @@
 -- The functions after each call.
 use Rattle.std.proofs.Common.{◌≡◌, ℕ, ◌+◌, ◌-◌, ◌%◌, ◌^◌, ◌<◌, ◌==◌, Bool, true, false, if◌then◌else◌, not, List, [], ◌∷◌, ◌++◌, length, slice_index, slice_set, refl, ap, sym, ◌∙◌, subst, Some, None, inl, inr, arith}
+use Rattle.std.{specs.Prelude.{Contains}, proofs.{lemmas.List.{get_or-set_same, get_or-set_other, length-replicate}, Math.ListN.{length-set}}}
 use native.Mathlib.Decide.{ℕ_discrete}
 use mathlib.Core.Logic.{dite}
-use Rattle.std.specs.Prelude.{Contains}
-use Rattle.std.proofs.lemmas.List.{get_or-set_same, get_or-set_other, length-replicate}
-use Rattle.std.proofs.Math.ListN.{length-set}
-use Rattle.fm_base.specs.declared.caller.Caller.{Caller}
-use Rattle.fm_base.specs.declared.arena_id.ArenaId.{ArenaId}
+use Rattle.fm_base.specs.declared.{caller.Caller.{Caller}, arena_id.ArenaId.{ArenaId}}
 use Rattle.fm_base.specs.Arenas.{Life, Alive, Closing, Ended, State, Arena, arena_of, has_arena, changed, same_id, word_in, IsUnderWay, are_one}
 use Rattle.fm_base.specs.Calls.{Call, Open, Enter, Read, Write, SwapIf, Add, Allocate, Leave, Hold, Unhold, Shut, End, Lend, Back, Reply, Fine, Found, Given, Entry}
 use Rattle.fm_base.specs.Machine.{MayCall, state_by, after, words_within, opened, entered, left, written, swapped, given_up_to, held, released, closing, ended}
-use Rattle.fm_base.specs.Histories.{IsLegal, state_after}
-use Rattle.fm_base.proofs.Names.{same_id-self, are_one-not}
+use Rattle.fm_base.{specs.Histories.{IsLegal, state_after}, proofs.Names.{same_id-self, are_one-not}}
 use Rattle.fm_base.proofs.Lookup.{KeepsName, lookup_changed, changed_has, has_arena-opened, arena_of-opened, arena_of-none, swapped_hit, swapped_miss}
-use Rattle.fm_base.proofs.Growing.{there_by_life}
-use Rattle.fm_base.proofs.Placing.{there_by_way}
+use Rattle.fm_base.proofs.{Growing.{there_by_life}, Placing.{there_by_way}}
 use Rattle.fm_base_machine.specs.Functions.{Stage, Lives, Closes, Over, stage_of, put, put_at, put_by, Machine, moved, Depicts}
 use Rattle.fm_base_machine.specs.Steps.{opening, moved_by, AlwaysDepicts}
 use Rattle.fm_base_machine.proofs.Putting.{some_is, at_changed, stays_changed, zeros, put_here, put_else, at_here, at_else, by_here, by_else, are_one-equal, one_caller, by_name, changed_else, opened_else, has_else, contains_cases, contains_first, contains_more, kept_contains, contains_kept}

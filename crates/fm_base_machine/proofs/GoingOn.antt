@@ -1,13 +1,7 @@
 -- One entry more, beside the functions.
 use Rattle.std.proofs.Common.{[], ◌∷◌, sym, subst}
-use Rattle.fm_base.specs.Arenas.{State}
-use Rattle.fm_base.specs.Calls.{entry_of}
-use Rattle.fm_base.specs.Histories.{state_after}
-use Rattle.fm_base.proofs.Making.{state_after-append, IsLegal-append}
-use Rattle.fm_base_machine.specs.Functions.{Depicts, reply_by, moved}
-use Rattle.fm_base_machine.specs.Steps.{AlwaysGoesOn}
-use Rattle.fm_base_machine.proofs.Depicting.{depicts_by}
-use Rattle.fm_base_machine.proofs.Allowing.{allows}
+use Rattle.fm_base.{specs.{Arenas.{State}, Calls.{entry_of}, Histories.{state_after}}, proofs.Making.{state_after-append, IsLegal-append}}
+use Rattle.fm_base_machine.{specs.{Functions.{Depicts, reply_by, moved}, Steps.{AlwaysGoesOn}}, proofs.{Depicting.{depicts_by}, Allowing.{allows}}}
 
 pub goes_on : AlwaysGoesOn
 goes_on limit h t c call l d m =

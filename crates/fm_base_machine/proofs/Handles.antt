@@ -1,19 +1,12 @@
 -- A legal history counts the handles of each arena.
 use Rattle.std.proofs.Common.{◌≡◌, ◌≢◌, ℕ, ◌+◌, ◌<◌, Bool, true, List, [], ◌∷◌, ◌++◌, refl, ap, sym, ◌∙◌, subst, arith}
-use Rattle.fm_base.specs.declared.caller.Caller.{Caller}
-use Rattle.fm_base.specs.declared.arena_id.ArenaId.{ArenaId}
-use Rattle.fm_base.specs.Arenas.{Life, Alive, Closing, Ended, State, arena_of, has_arena}
+use Rattle.fm_base.specs.{declared.{caller.Caller.{Caller}, arena_id.ArenaId.{ArenaId}}, Arenas.{Life, Alive, Closing, Ended, State, arena_of, has_arena}}
 use Rattle.fm_base.specs.Calls.{Call, Open, Enter, Read, Write, SwapIf, Add, Allocate, Leave, Hold, Unhold, Shut, End, Lend, Back, Reply, Fine, Entry}
-use Rattle.fm_base.specs.Machine.{MayCall, reply_to, shut_reply, after}
-use Rattle.fm_base.specs.Histories.{IsLegal, state_after}
-use Rattle.fm_base.proofs.Growing.{there_by_life}
+use Rattle.fm_base.{specs.{Machine.{MayCall, reply_to, shut_reply, after}, Histories.{IsLegal, state_after}}, proofs.Growing.{there_by_life}}
 use Rattle.fm_base.proofs.Making.{IsLegal-split}
-use Rattle.fm_base_machine.specs.Functions.{Stage, Fresh, Lives, Closes, Over, stage_of, Machine, Depicts, moved}
-use Rattle.fm_base_machine.specs.Steps.{opening, moved_by}
-use Rattle.fm_base_machine.specs.Handles.{one_alive, handles_of, all_taken, all_given, AreLeft, HandlesAreCounted, LastHandleEnds}
-use Rattle.fm_base_machine.proofs.Allowing.{is_alive}
-use Rattle.fm_base_machine.proofs.Depicting.{always, depicts_none, depicts_by}
-use Rattle.fm_base_machine.proofs.Handling.{hold_alive, shut_alive, Counts, handled, OnlyAlive, only_alive}
+use Rattle.fm_base_machine.specs.{Functions.{Stage, Fresh, Lives, Closes, Over, stage_of, Machine, Depicts, moved}, Steps.{opening, moved_by}}
+use Rattle.fm_base_machine.{specs.Handles.{one_alive, handles_of, all_taken, all_given, AreLeft, HandlesAreCounted, LastHandleEnds}, proofs.Allowing.{is_alive}}
+use Rattle.fm_base_machine.proofs.{Depicting.{always, depicts_none, depicts_by}, Handling.{hold_alive, shut_alive, Counts, handled, OnlyAlive, only_alive}}
 
 -- ---- legal calls count
 

@@ -1,16 +1,11 @@
 -- How many handles of an arena there are, by the functions.
-use Rattle.std.proofs.Common.{◌≡◌, ◌≢◌, ℕ, ◌+◌, ◌-◌, ◌<◌, ◌==◌, Bool, true, false, if◌then◌else◌, refl, ap, sym, ◌∙◌, arith}
-use Rattle.std.proofs.lemmas.Bool.{eqb-true}
+use Rattle.std.proofs.{Common.{◌≡◌, ◌≢◌, ℕ, ◌+◌, ◌-◌, ◌<◌, ◌==◌, Bool, true, false, if◌then◌else◌, refl, ap, sym, ◌∙◌, arith}, lemmas.Bool.{eqb-true}}
 use Rattle.std.specs.Prelude.{⊤}
-use Rattle.fm_base.specs.declared.caller.Caller.{Caller}
-use Rattle.fm_base.specs.declared.arena_id.ArenaId.{ArenaId}
-use Rattle.fm_base.specs.Arenas.{Life, Alive, same_id}
+use Rattle.fm_base.specs.{declared.{caller.Caller.{Caller}, arena_id.ArenaId.{ArenaId}}, Arenas.{Life, Alive, same_id}}
 use Rattle.fm_base.specs.Calls.{Call, Open, Enter, Read, Write, SwapIf, Add, Allocate, Leave, Hold, Unhold, Shut, End, Lend, Back, Reply, Fine, Held, Found, Given}
-use Rattle.fm_base.specs.Machine.{hold_reply, shut_reply}
-use Rattle.fm_base.proofs.Names.{same_id-self}
+use Rattle.fm_base.{specs.Machine.{hold_reply, shut_reply}, proofs.Names.{same_id-self}}
 use Rattle.fm_base_machine.specs.Functions.{Stage, Fresh, Lives, Closes, Over, Machine, moved, put, put_at, life_of, reply_by, MayBy}
-use Rattle.fm_base_machine.specs.Handles.{one_if, one_alive, handles_of, taken_by, given_by}
-use Rattle.fm_base_machine.proofs.Putting.{at_cases, same_id-not}
+use Rattle.fm_base_machine.{specs.Handles.{one_if, one_alive, handles_of, taken_by, given_by}, proofs.Putting.{at_cases, same_id-not}}
 
 -- ---- one call
 

@@ -1,11 +1,10 @@
 -- Look-ups after a call, as functions changed at one place.
 use Rattle.std.proofs.Common.{Some, zero, suc, replicate, slice_index, ◌≡◌, ◌≢◌, ℕ, Bool, true, false, cond, if◌then◌else◌, List, [], ◌∷◌, ◌++◌, refl, ap, sym, ◌∙◌, subst, eq-eqb, ne_eqb, ◌⊎◌, inl, inr, arith}
-use native.Mathlib.Decide.{ℕ_discrete}
-use mathlib.Core.Logic.{dite}
 use Rattle.std.specs.Prelude.{Contains, filter}
 use Rattle.std.proofs.lemmas.List.Elements.{Contains-append_cases, Contains-append_left, Contains-append_right, Contains-push_cases, Contains-push, All-contains, All-filter, filter_passes, All-contains_itself}
-use Rattle.fm_base.specs.declared.caller.Caller.{Caller}
-use Rattle.fm_base.specs.declared.arena_id.ArenaId.{ArenaId}
+use native.Mathlib.Decide.{ℕ_discrete}
+use mathlib.Core.Logic.{dite}
+use Rattle.fm_base.specs.declared.{caller.Caller.{Caller}, arena_id.ArenaId.{ArenaId}}
 use Rattle.fm_base.specs.Arenas.{State, Arena, arena_of, has_arena, changed, same_id, no_arena, are_one}
 use Rattle.fm_base.proofs.Names.{not_true, same_id-self, same_id-true, are_one-self, are_one-true, are_one-false, are_one-not}
 use Rattle.fm_base.proofs.Lookup.{KeepsName, lookup_changed}

@@ -1,11 +1,9 @@
 -- The machine as functions, beside the list of arenas.
 use Rattle.std.specs.Prelude.{◌≡◌, ◌≢◌, ◌<◌, ⊤, ℕ, ◌+◌, ◌-◌, ◌%◌, ◌^◌, ◌==◌, Bool, true, false, if◌then◌else◌, Option, Some, None, length}
-use Rattle.fm_base.specs.declared.caller.Caller.{Caller}
-use Rattle.fm_base.specs.declared.arena_id.ArenaId.{ArenaId}
+use Rattle.fm_base.specs.declared.{caller.Caller.{Caller}, arena_id.ArenaId.{ArenaId}}
 use Rattle.fm_base.specs.Arenas.{Life, Alive, Closing, Ended, State, arena_of, has_arena, same_id, word_in, IsUnderWay, MayUse, are_one, owner_of}
 use Rattle.fm_base.specs.Calls.{Call, Open, Enter, Read, Write, SwapIf, Add, Allocate, Leave, Hold, Unhold, Shut, End, Lend, Back, Reply, Fine, Found, Given}
-use Rattle.fm_base.specs.Machine.{words_within, IsPower, enter_reply, hold_reply, shut_reply, allocate_reply}
-use Rattle.fm_base.specs.declared.kind.Kind.TheVariants.{Global}
+use Rattle.fm_base.specs.{Machine.{words_within, IsPower, enter_reply, hold_reply, shut_reply, allocate_reply}, declared.kind.Kind.TheVariants.{Global}}
 
 -- where an arena is in its life; Fresh where it was never opened
 pub data Stage : Type 0 where

@@ -1,8 +1,6 @@
 -- The handles of an automatic arena: opening it takes the first, a Hold another; an Unhold gives one back, a Shut the last.
 use Rattle.std.specs.Prelude.{◌≡◌, ◌≢◌, ℕ, ◌+◌, ◌<◌, Bool, true, false, List, [], ◌∷◌, ◌++◌}
-use Rattle.fm_base.specs.declared.arena_id.ArenaId.{ArenaId}
-use Rattle.fm_base.specs.Arenas.{Alive, arena_of, same_id}
-use Rattle.fm_base.specs.Calls.{Call, Open, Hold, Unhold, Shut, Reply, Fine, Entry}
+use Rattle.fm_base.specs.{declared.arena_id.ArenaId.{ArenaId}, Arenas.{Alive, arena_of, same_id}, Calls.{Call, Open, Hold, Unhold, Shut, Reply, Fine, Entry}}
 use Rattle.fm_base.specs.Histories.{IsLegal, state_after}
 use Rattle.fm_base_machine.specs.Functions.{Stage, Lives, Machine}
 

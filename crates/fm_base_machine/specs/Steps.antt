@@ -1,9 +1,6 @@
 -- A legal call keeps the two beside each other.
 use Rattle.std.specs.Prelude.{◌≡◌, ℕ, List, [], ◌∷◌, ◌++◌, None}
-use Rattle.fm_base.specs.declared.caller.Caller.{Caller}
-use Rattle.fm_base.specs.Arenas.{State}
-use Rattle.fm_base.specs.Calls.{Call, Entry, entry_of}
-use Rattle.fm_base.specs.Machine.{MayCall, reply_to}
+use Rattle.fm_base.specs.{declared.caller.Caller.{Caller}, Arenas.{State}, Calls.{Call, Entry, entry_of}, Machine.{MayCall, reply_to}}
 use Rattle.fm_base.specs.Histories.{IsLegal, state_after}
 use Rattle.fm_base_machine.specs.Functions.{Machine, Depicts, moved, Fresh, MayBy, reply_by}
 

@@ -1,15 +1,7 @@
 -- Words that spell numbers.
-use Rattle.std.proofs.Common.{◌≡◌, sym, ap, subst, ◌∙◌, ◌<◌, ◌^◌, Bool, false, Result, Ok, Err, List, ℕ, arith, w64}
-use Rattle.std.specs.Prelude.{ℤ}
-use Rattle.std.specs.Fmt.{decimal, signed_decimal}
-use Rattle.std.specs.Int.RustNames.{FitsSigned}
-use Rattle.std.specs.Int.Signed.{mag}
-use Rattle.std.specs.Str.{bytes_eq}
-use Rattle.std.specs.Str.Parse.{ParsesSigned, ParsesUnsigned}
-use Rattle.std.proofs.lemmas.Bool.Decides.{not_from_Decides}
-use Rattle.std.proofs.lemmas.Fmt.{parse-decimal, parse-signed_decimal}
-use Rattle.std.proofs.lemmas.Int.{ints, to_z-of_z}
-use Rattle.std.proofs.lemmas.Slice.Eq.{bytes_eq-Decides}
+use Rattle.std.{proofs.Common.{◌≡◌, sym, ap, subst, ◌∙◌, ◌<◌, ◌^◌, Bool, false, Result, Ok, Err, List, ℕ, arith, w64}, specs.Prelude.{ℤ}}
+use Rattle.std.specs.{Fmt.{decimal, signed_decimal}, Int.{RustNames.{FitsSigned}, Signed.{mag}}, Str.{bytes_eq, Parse.{ParsesSigned, ParsesUnsigned}}}
+use Rattle.std.proofs.lemmas.{Bool.Decides.{not_from_Decides}, Fmt.{parse-decimal, parse-signed_decimal}, Int.{ints, to_z-of_z}, Slice.Eq.{bytes_eq-Decides}}
 use mir.Val.{to_z, of_z}
 
 -- What spells a number is read as that number.

@@ -1,11 +1,8 @@
 -- A pass that visits an arena and can be gathered afterwards.
 use Rattle.std.proofs.Common.{ℕ, List, arith}
-use Rattle.fm_base.specs.declared.arena_id.ArenaId.{ArenaId}
-use Rattle.fm_base.specs.Calls.{Call, Reply, Entry}
+use Rattle.fm_base.specs.{declared.arena_id.ArenaId.{ArenaId}, Calls.{Call, Reply, Entry}}
 use Rattle.fm_rule_calls.specs.Kept.{Kept, Lasts}
-use Rattle.fm_gate.specs.Crews.{CrewStands, HasNothing}
-use Rattle.fm_gate.specs.Learnt.{AfterAct}
-use Rattle.fm_gate.specs.Needs.{CanReach, IsOutside}
+use Rattle.fm_gate.specs.{Crews.{CrewStands, HasNothing}, Learnt.{AfterAct}, Needs.{CanReach, IsOutside}}
 use Rattle.fm_rule_facts.specs.Views.{View}
 use Rattle.fm_rule.specs.declared.pool.Pool.{Pool}
 use Rattle.fm_bench.specs.Ready.{CanWork, IsIdle, IsOpen}

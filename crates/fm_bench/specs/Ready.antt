@@ -1,9 +1,7 @@
 -- Arenas that can be visited, and passes that can visit them.
 use Rattle.std.specs.Prelude.{◌≡◌, ◌≤◌, ℕ, List, [], None, All}
-use Rattle.fm_base.specs.declared.arena_id.ArenaId.{ArenaId}
-use Rattle.fm_base.specs.Arenas.{arena_of}
-use Rattle.fm_gate.specs.Crews.{HasNothing}
-use Rattle.fm_gate.specs.Needs.{IsOutside}
+use Rattle.fm_base.specs.{declared.arena_id.ArenaId.{ArenaId}, Arenas.{arena_of}}
+use Rattle.fm_gate.specs.{Crews.{HasNothing}, Needs.{IsOutside}}
 use Rattle.fm_mono.specs.Shown.{Arenas, IsKnown}
 use Rattle.fm_rule_facts.specs.Views.{View, IsKnown as IsKnownTo, given_of}
 use Rattle.fm_rule.specs.declared.pool.Pool.{Pool}

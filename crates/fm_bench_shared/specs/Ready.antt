@@ -1,8 +1,7 @@
 -- Segments that can be accessed.
 use Rattle.std.specs.Prelude.{◌≡◌, None}
 use Rattle.fm_base.specs.View.{View}
-use Rattle.fm_segment.specs.Access.{IsKnown}
-use Rattle.fm_segment.specs.Region.{Region}
+use Rattle.fm_segment.specs.{Access.{IsKnown}, Region.{Region}}
 
 -- the caller is in no arena, and the segment is known
 pub record CanAccess (v : View) (r : Region) : Type 0 where

@@ -1,32 +1,18 @@
 -- A handle of an automatic arena is given back.
 use Rattle.std.proofs.Common.{◌≡◌, ◌≢◌, ℕ, ◌<◌, ◌==◌, Bool, true, List, [], ◌∷◌, refl, ap, sym, ◌∙◌, subst, arith, Some, None, eq-eqb, ne_eqb}
-use Rattle.fm_base.specs.declared.caller.Caller.{Caller}
-use Rattle.fm_base.specs.declared.arena_id.ArenaId.{ArenaId}
-use Rattle.fm_base.specs.Calls.{Unhold, Shut, End, Fine, Entry, entry_of}
-use Rattle.fm_base.specs.Finds.{Close, Rest}
-use Rattle.fm_base.specs.declared.kind.Kind.TheVariants.{Automatic}
-use Rattle.fm_base.specs.Arenas.{Alive, Ended}
-use Rattle.fm_rule_facts.specs.Views.{View, In}
-use Rattle.fm_rule_facts.proofs.Gripping.{handles_are}
-use Rattle.fm_rule_facts.specs.Words.{alive_holds}
-use Rattle.fm_rule_facts.specs.Holds.{released}
+use Rattle.fm_base.specs.{declared.{caller.Caller.{Caller}, arena_id.ArenaId.{ArenaId}}, Calls.{Unhold, Shut, End, Fine, Entry, entry_of}, Finds.{Close, Rest}}
+use Rattle.fm_base.specs.{declared.kind.Kind.TheVariants.{Automatic}, Arenas.{Alive, Ended}}
+use Rattle.fm_rule_facts.{specs.{Views.{View, In}, Words.{alive_holds}, Holds.{released}}, proofs.Gripping.{handles_are}}
 use Rattle.fm_rule_facts.specs.Handles.{Giving, Missed, Kept, Last, last_if, giving_by, giving, given_back, giving_entries}
-use Rattle.fm_rule_facts.specs.Closes.{walk_of, passed_of, dropped}
-use Rattle.fm_rule_facts.specs.Steps.{Stepped, none_noted}
+use Rattle.fm_rule_facts.specs.{Closes.{walk_of, passed_of, dropped}, Steps.{Stepped, none_noted}}
 use Rattle.fm_rule.specs.declared.pool.Pool.{Pool}
 use Rattle.fm_rule_calls.specs.Kept.{Goes, rest_of, HasEnded, HasNoWords}
 use Rattle.fm_rule_calls.proofs.Going.{no_draws, made_by-one, rest_is, hand_is, inside_is, mark_is, known_on, lasts_on, goes_step}
 use Rattle.fm_rule_calls.proofs.Waiting.{Waited, waits_by, waits_on}
-use Rattle.fm_gate.specs.Makers.{Made, made_by_pass}
-use Rattle.fm_gate.specs.Needs.{IsOutside}
-use Rattle.fm_gate.proofs.Outside.{made_on, stands_outside, swept_is}
-use Rattle.fm_gate.proofs.Handles.{owner_low}
+use Rattle.fm_gate.{specs.{Makers.{Made, made_by_pass}, Needs.{IsOutside}}, proofs.{Outside.{made_on, stands_outside, swept_is}, Handles.{owner_low}}}
 use Rattle.fm_close.specs.declared.gave_back.GaveBack.TheVariants as gave
-use Rattle.fm_close.specs.declared.shutting.Shutting.{Shutting}
-use Rattle.fm_close.specs.Does.{begun}
-use Rattle.fm_close.specs.Learnt.{CanGiveBack, AfterBack, AfterSpend, AfterGiveBack}
-use Rattle.fm_close.proofs.Closes.{passed_of-begun}
-use Rattle.fm_close.proofs.Walks.{Finished, ends_so, closed_goes, closed_left}
+use Rattle.fm_close.specs.{declared.shutting.Shutting.{Shutting}, Does.{begun}, Learnt.{CanGiveBack, AfterBack, AfterSpend, AfterGiveBack}}
+use Rattle.fm_close.proofs.{Closes.{passed_of-begun}, Walks.{Finished, ends_so, closed_goes, closed_left}}
 
 -- ---- the exchanges
 

@@ -1,9 +1,6 @@
 -- The lists of a pass's closes and sweeps.
 use Rattle.std.proofs.Common.{◌≡◌, ℕ, ◌+◌, Bool, true, false, if◌then◌else◌, List, [], ◌∷◌, refl, ap, ◌∙◌, Some}
-use Rattle.fm_base.specs.declared.arena_id.ArenaId.{ArenaId}
-use Rattle.fm_base.specs.Arenas.{same_id}
-use Rattle.fm_base.specs.Finds.{Stretch, Walk}
-use Rattle.fm_base.proofs.Names.{same_id-self}
+use Rattle.fm_base.{specs.{declared.arena_id.ArenaId.{ArenaId}, Arenas.{same_id}, Finds.{Stretch, Walk}}, proofs.Names.{same_id-self}}
 use Rattle.fm_rule_facts.specs.Closes.{walk_of, passed_of, one_more, advanced, dropped}
 
 module _ {over : Stretch} where

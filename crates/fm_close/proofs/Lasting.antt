@@ -1,24 +1,12 @@
 -- What a close outlives.
-use Rattle.std.proofs.Common.{◌≡◌, ◌≢◌, List, [], ◌∷◌, Bool, true, false, if◌then◌else◌, refl, ap, sym, ◌∙◌, Some}
-use Rattle.std.specs.Prelude.{Result, Ok, Err}
-use Rattle.fm_base.specs.declared.arena_id.ArenaId.{ArenaId}
-use Rattle.fm_base.specs.declared.refusal.Refusal.{Refusal}
-use Rattle.fm_base.specs.Arenas.{same_id}
-use Rattle.fm_base.specs.Calls.{Entry}
-use Rattle.fm_base.specs.Finds.{Stretch, Walk, Close, Sweep, Rest}
-use Rattle.fm_base.proofs.Names.{same_id-true}
+use Rattle.std.{proofs.Common.{◌≡◌, ◌≢◌, List, [], ◌∷◌, Bool, true, false, if◌then◌else◌, refl, ap, sym, ◌∙◌, Some}, specs.Prelude.{Result, Ok, Err}}
+use Rattle.fm_base.specs.{declared.{arena_id.ArenaId.{ArenaId}, refusal.Refusal.{Refusal}}, Arenas.{same_id}, Calls.{Entry}}
+use Rattle.fm_base.{specs.Finds.{Stretch, Walk, Close, Sweep, Rest}, proofs.Names.{same_id-true}}
 use Rattle.fm_base_machine.proofs.Putting.{same_id-not}
-use Rattle.fm_rule_facts.specs.Hands.{nothing}
-use Rattle.fm_rule_facts.specs.Views.{View}
-use Rattle.fm_rule_facts.specs.Closes.{passed_of, one_more, advanced, dropped}
-use Rattle.fm_rule_calls.specs.Kept.{Goes, rest_of}
-use Rattle.fm_rule_calls.proofs.Going.{known_on}
-use Rattle.fm_rule_calls.proofs.Sweeps.{same_sweeps}
-use Rattle.fm_gate.specs.Makers.{made_by_pass}
-use Rattle.fm_gate.proofs.Outside.{made_on}
-use Rattle.fm_close.specs.declared.shutting.Shutting.{Shutting}
-use Rattle.fm_close.specs.declared.outcome.Visit.{Visit}
-use Rattle.fm_close.specs.declared.outcome.Visit.TheVariants.{Next, Inside, Ended}
+use Rattle.fm_rule_facts.specs.{Hands.{nothing}, Views.{View}, Closes.{passed_of, one_more, advanced, dropped}}
+use Rattle.fm_rule_calls.{specs.Kept.{Goes, rest_of}, proofs.{Going.{known_on}, Sweeps.{same_sweeps}}}
+use Rattle.fm_gate.{specs.Makers.{made_by_pass}, proofs.Outside.{made_on}}
+use Rattle.fm_close.specs.declared.{shutting.Shutting.{Shutting}, outcome.Visit.{Visit, TheVariants.{Next, Inside, Ended}}}
 use Rattle.fm_close.specs.Learnt.{IsUnderWay, IsToSweep, closes_shut, closes_visited, sweeps_visited}
 use Rattle.fm_close.specs.CloseLaws.{CloseStands, SweepStands, StandsBeside, StandsThrough, CloseLasts}
 

@@ -1,14 +1,8 @@
 -- Which handles are left after one was given back.
 use Rattle.std.proofs.Common.{◌≡◌, List, sym, ap, subst, arith}
-use Rattle.fm_base.specs.declared.arena_id.ArenaId.{ArenaId}
-use Rattle.fm_base.specs.Arenas.{same_id}
-use Rattle.fm_base.specs.Finds.{Rest}
-use Rattle.fm_base.proofs.Names.{same_id-self}
-use Rattle.fm_rule_facts.specs.Views.{In}
-use Rattle.fm_rule_facts.specs.Holds.{released, one_if}
-use Rattle.fm_rule_facts.proofs.Summing.{one_less}
-use Rattle.fm_gate.proofs.Counted.{some_in, in_released}
-use Rattle.fm_gate.proofs.Outliving.{has_on}
+use Rattle.fm_base.{specs.{declared.arena_id.ArenaId.{ArenaId}, Arenas.{same_id}, Finds.{Rest}}, proofs.Names.{same_id-self}}
+use Rattle.fm_rule_facts.{specs.{Views.{In}, Holds.{released, one_if}}, proofs.Summing.{one_less}}
+use Rattle.fm_gate.proofs.{Counted.{some_in, in_released}, Outliving.{has_on}}
 use Rattle.fm_close.specs.Handles.{HandlesAreLeft}
 
 pub left : HandlesAreLeft

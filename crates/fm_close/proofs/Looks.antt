@@ -1,30 +1,19 @@
 -- One visit of a mark.
 use Rattle.std.proofs.Common.{◌≡◌, ◌≢◌, ℕ, ◌+◌, ◌<◌, ◌==◌, true, false, List, [], ◌∷◌, ◌++◌, length, refl, ap, sym, ◌∙◌, subst, Some, None, arith, eq-eqb, inl}
-use Rattle.std.proofs.lemmas.Bool.Decides.{nat_tests}
-use Rattle.std.proofs.lemmas.List.{length-append}
-use Rattle.std.proofs.lemmas.List.Elements.{All-nil, All-cons}
-use Rattle.fm_base.specs.declared.arena_id.ArenaId.{ArenaId}
-use Rattle.fm_base.specs.Calls.{End, Fine, Entry, entry_of}
-use Rattle.fm_base.specs.Finds.{Visits, is_draw}
-use Rattle.fm_base.proofs.Outcomes.{closed_ended}
+use Rattle.std.proofs.lemmas.{Bool.Decides.{nat_tests}, List.{length-append, Elements.{All-nil, All-cons}}}
+use Rattle.fm_base.{specs.{declared.arena_id.ArenaId.{ArenaId}, Calls.{End, Fine, Entry, entry_of}, Finds.{Visits, is_draw}}, proofs.Outcomes.{closed_ended}}
 use Rattle.fm_words.specs.Marks.{mark_word}
-use Rattle.fm_rule_facts.specs.Views.{View}
-use Rattle.fm_rule_facts.specs.Words.{mark_of, own_word}
-use Rattle.fm_rule_facts.specs.Closes as closes
+use Rattle.fm_rule_facts.specs.{Views.{View}, Words.{mark_of, own_word}}
 use Rattle.fm_rule_facts.specs.Closes.{visit_by, visit_found, closes_after, sweeps_after, visit_entries, passed_of, advanced}
 use Rattle.fm_rule_facts.specs.Steps.{Stepped, note_of, is_clear}
+use Rattle.fm_rule_facts.specs.Closes as closes
 use Rattle.fm_rule.specs.declared.pool.Pool.{Pool}
-use Rattle.fm_rule_calls.specs.Kept.{Goes, HasEnded}
-use Rattle.fm_rule_calls.specs.Told.{silent_view}
+use Rattle.fm_rule_calls.specs.{Kept.{Goes, HasEnded}, Told.{silent_view}}
 use Rattle.fm_rule_calls.proofs.Going.{made_by-one, NoDraws, rest_is, hand_is, inside_is, mark_is, closes_is, sweeps_is, known_on, lasts_on, goes_step}
 use Rattle.fm_rule_calls.proofs.Telling.{silent_makes}
-use Rattle.fm_gate.specs.Needs.{IsOutside}
-use Rattle.fm_gate.proofs.Outside.{made_on, stands_outside, swept_is}
-use Rattle.fm_close.specs.declared.shutting.Shutting.{Shutting}
-use Rattle.fm_close.specs.declared.outcome.Visit.TheVariants.{Next, Inside, Ended}
-use Rattle.fm_close.specs.Does.{visit_answer}
-use Rattle.fm_close.specs.Learnt.{CanWalk, Looked, AfterVisit}
-use Rattle.fm_close.proofs.Closes.{passed_of-advanced, passed_of-begun}
+use Rattle.fm_gate.{specs.Needs.{IsOutside}, proofs.Outside.{made_on, stands_outside, swept_is}}
+use Rattle.fm_close.specs.{declared.{shutting.Shutting.{Shutting}, outcome.Visit.TheVariants.{Next, Inside, Ended}}, Does.{visit_answer}}
+use Rattle.fm_close.{specs.Learnt.{CanWalk, Looked, AfterVisit}, proofs.Closes.{passed_of-advanced, passed_of-begun}}
 
 -- No arena has the mark 0.
 mark_of-positive : (a : ArenaId) → 0 < mark_of a

@@ -2,24 +2,14 @@
 use Rattle.std.proofs.Common.{◌≡◌, ◌≢◌, ◌⊎◌, ℕ, ◌+◌, ◌-◌, ◌*◌, ◌/◌, ◌%◌, ◌<◌, ◌≤◌, ◌==◌, Bool, if◌then◌else◌, List, [], ◌∷◌, ◌++◌, refl, ap, sym, ◌∙◌, subst, arith, Some, ne_eqb}
 use Rattle.std.proofs.lemmas.List.Elements.{All-cons, All-nil, All-append}
 use Rattle.fm_words.specs.declared.shape.Shape.{Shape}
-use Rattle.fm_base.specs.declared.caller.Caller.{Caller}
-use Rattle.fm_base.specs.declared.arena_id.ArenaId.{ArenaId}
-use Rattle.fm_base.specs.Calls.{Back, Fine, Entry, entry_of}
-use Rattle.fm_base.specs.Finds.{Sweep}
-use Rattle.fm_base.specs.Histories.{made_by}
-use Rattle.fm_base.specs.View.{inside_after}
-use Rattle.fm_rule_facts.specs.Parts.{Swept, unread, named, wiping, swept_read}
-use Rattle.fm_rule_facts.specs.Views.{View, IsOver, IsSound, given_of}
-use Rattle.fm_rule_facts.specs.Closes.{passed_of, advanced, dropped}
-use Rattle.fm_rule_facts.specs.Steps.{Stepped, AreAllGiven, none_noted}
-use Rattle.fm_rule_facts.proofs.Ending.{all_given}
+use Rattle.fm_base.specs.{declared.{caller.Caller.{Caller}, arena_id.ArenaId.{ArenaId}}, Calls.{Back, Fine, Entry, entry_of}, Finds.{Sweep}}
+use Rattle.fm_base.specs.{Histories.{made_by}, View.{inside_after}}
+use Rattle.fm_rule_facts.specs.{Parts.{Swept, unread, named, wiping, swept_read}, Views.{View, IsOver, IsSound, given_of}}
+use Rattle.fm_rule_facts.{specs.{Closes.{passed_of, advanced, dropped}, Steps.{Stepped, AreAllGiven, none_noted}}, proofs.Ending.{all_given}}
 use Rattle.fm_rule_steps.proofs.Closes.{passed_of-found}
-use Rattle.fm_rule.specs.declared.pool.Pool.{Pool}
-use Rattle.fm_rule.specs.Passes.{IsOf}
-use Rattle.fm_rule_calls.proofs.Going.{goes_none, goes_then, no_draws, made_by-one, goes_step}
-use Rattle.fm_rule_calls.proofs.Unlent.{given_on}
-use Rattle.fm_close.specs.Does.{IsBack, AreBacks}
-use Rattle.fm_close.specs.Sweeps.{SweepsOn, SweepsPart, PartTaken, PartsTaken}
+use Rattle.fm_rule.specs.{declared.pool.Pool.{Pool}, Passes.{IsOf}}
+use Rattle.fm_rule_calls.proofs.{Going.{goes_none, goes_then, no_draws, made_by-one, goes_step}, Unlent.{given_on}}
+use Rattle.fm_close.specs.{Does.{IsBack, AreBacks}, Sweeps.{SweepsOn, SweepsPart, PartTaken, PartsTaken}}
 use Rattle.fm_close.proofs.Closes.{passed_of-advanced, dropped-advanced}
 
 -- ---- steps in order

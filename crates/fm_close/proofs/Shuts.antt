@@ -1,28 +1,16 @@
 -- Shutting an arena.
 use Rattle.std.proofs.Common.{◌≡◌, ℕ, ◌<◌, ◌==◌, false, if◌then◌else◌, List, [], ◌∷◌, refl, ap, ◌∙◌, subst, Some, None, arith}
-use Rattle.std.proofs.lemmas.Bool.Decides.{nat_tests}
-use Rattle.std.specs.Prelude.{Ok, Err}
-use Rattle.fm_base.specs.declared.arena_id.ArenaId.{ArenaId}
-use Rattle.fm_base.specs.declared.refusal.Refusal.{Refusal}
+use Rattle.std.{proofs.lemmas.Bool.Decides.{nat_tests}, specs.Prelude.{Ok, Err}}
+use Rattle.fm_base.specs.{declared.{arena_id.ArenaId.{ArenaId}, refusal.Refusal.{Refusal}}, Arenas.{MayUse}}
+use Rattle.fm_base.specs.{Calls.{Shut, Reply, Fine, Closed, Held, Entry, entry_of}, Does.{IsClosable}, Finds.{Close}}
 use Rattle.fm_base.specs.declared.refusal.Refusal.TheVariants as refusal
-use Rattle.fm_base.specs.Arenas.{MayUse}
-use Rattle.fm_base.specs.Calls.{Shut, Reply, Fine, Closed, Held, Entry, entry_of}
-use Rattle.fm_base.specs.Does.{IsClosable}
-use Rattle.fm_base.specs.Finds.{Close}
-use Rattle.fm_rule_facts.specs.Views.{View, IsSound}
-use Rattle.fm_rule_facts.specs.Words.{alive_holds, shut_found, shut_by}
-use Rattle.fm_rule_facts.specs.Closes.{begun, passed_of}
-use Rattle.fm_rule_facts.specs.Steps.{Stepped, none_noted}
-use Rattle.fm_rule.specs.declared.pool.Pool.{Pool}
-use Rattle.fm_rule.specs.Passes.{IsOf}
+use Rattle.fm_rule_facts.specs.{Views.{View, IsSound}, Words.{alive_holds, shut_found, shut_by}, Closes.{begun, passed_of}, Steps.{Stepped, none_noted}}
+use Rattle.fm_rule.specs.{declared.pool.Pool.{Pool}, Passes.{IsOf}}
 use Rattle.fm_rule_calls.specs.Kept.{Goes}
 use Rattle.fm_rule_calls.proofs.Going.{goes_none, kept_none, made_by-one, no_draws, rest_is, hand_is, inside_is, mark_is, closes_is, sweeps_is, known_on, lasts_on, goes_step}
-use Rattle.fm_gate.specs.Makers.{Made, made_by_pass}
-use Rattle.fm_gate.specs.Needs.{IsOutside, CanVisit}
-use Rattle.fm_gate.proofs.Outside.{made_on, stands_outside, swept_is}
+use Rattle.fm_gate.{specs.{Makers.{Made, made_by_pass}, Needs.{IsOutside, CanVisit}}, proofs.Outside.{made_on, stands_outside, swept_is}}
 use Rattle.fm_close.specs.Does as does
-use Rattle.fm_close.specs.Learnt.{AfterShut}
-use Rattle.fm_close.proofs.Closes.{passed_of-begun}
+use Rattle.fm_close.{specs.Learnt.{AfterShut}, proofs.Closes.{passed_of-begun}}
 
 -- What is learnt where no step was made.
 unmoved : {pool : Pool} {p : View} {a : ArenaId} {r : Refusal} → CanVisit pool p a → IsSound p → does.DoesShut (made_by_pass p) a (Err r) []

@@ -2,25 +2,15 @@
 use Rattle.std.proofs.Common.{◌≡◌, ◌≢◌, ℕ, ◌+◌, ◌^◌, ◌<◌, ◌==◌, Bool, true, false, List, [], refl, ap, sym, ◌∙◌, subst, arith, Some, eq-eqb, ne_eqb}
 use Rattle.std.proofs.lemmas.List.{append-nil}
 use Rattle.fm_words.specs.declared.shape.Shape.{Shape}
-use Rattle.fm_base.specs.declared.caller.Caller.{Caller}
-use Rattle.fm_base.specs.declared.arena_id.ArenaId.{ArenaId}
-use Rattle.fm_base.specs.Calls.{Entry}
-use Rattle.fm_base.specs.Finds.{Sweep}
-use Rattle.fm_rule_facts.specs.Hands.{Hand, nothing, retired, hand_retired}
-use Rattle.fm_rule_facts.specs.Parts.{Swept, unread}
-use Rattle.fm_rule_facts.specs.Views.{View, IsOver}
-use Rattle.fm_rule_facts.specs.Closes.{passed_of, advanced, dropped}
-use Rattle.fm_rule_facts.specs.Steps.{Stepped, none_noted}
+use Rattle.fm_base.specs.{declared.{caller.Caller.{Caller}, arena_id.ArenaId.{ArenaId}}, Calls.{Entry}, Finds.{Sweep}}
+use Rattle.fm_rule_facts.specs.{Hands.{Hand, nothing, retired, hand_retired}, Parts.{Swept, unread}, Views.{View, IsOver}}
+use Rattle.fm_rule_facts.specs.{Closes.{passed_of, advanced, dropped}, Steps.{Stepped, none_noted}}
 use Rattle.fm_rule_steps.proofs.Closes.{passed_of-found}
 use Rattle.fm_rule.specs.declared.pool.Pool.{Pool}
-use Rattle.fm_rule_calls.specs.Kept.{Goes, rest_of, slots_told, HasNoWords}
-use Rattle.fm_rule_calls.proofs.Going.{goes_then, no_draws, lasts_on, goes_step}
+use Rattle.fm_rule_calls.{specs.Kept.{Goes, rest_of, slots_told, HasNoWords}, proofs.Going.{goes_then, no_draws, lasts_on, goes_step}}
 use Rattle.fm_rule_calls.proofs.Unlent.{over_on, no_words_on, no_words_swept, has_ended}
 use Rattle.fm_gate.proofs.Outside.{stands_outside}
-use Rattle.fm_close.specs.declared.shutting.Shutting.{Shutting}
-use Rattle.fm_close.specs.Does.{AreBacks}
-use Rattle.fm_close.specs.Learnt.{CanSweep, AfterSweep}
-use Rattle.fm_close.specs.Sweeps.{SweepsOn, PartsTaken}
+use Rattle.fm_close.specs.{declared.shutting.Shutting.{Shutting}, Does.{AreBacks}, Learnt.{CanSweep, AfterSweep}, Sweeps.{SweepsOn, PartsTaken}}
 use Rattle.fm_close.proofs.Closes.{passed_of-advanced, dropped-advanced}
 use Rattle.fm_close.proofs.Parts.{quiet_step, sweeps_then, swept_now, sweeps_now, caller_now, passed_still, over_now}
 

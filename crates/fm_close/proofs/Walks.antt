@@ -1,25 +1,13 @@
 -- The walk over the marks, and a close.
-use Rattle.std.proofs.Common.{◌≡◌, ◌≢◌, ℕ, List, [], ◌∷◌, ◌++◌, refl, sym, ap, ◌∙◌, subst}
-use Rattle.std.proofs.lemmas.List.Elements.{All-head, All-tail}
-use Rattle.std.specs.Prelude.{Ok}
-use Rattle.fm_base.specs.declared.caller.Caller.{Caller}
-use Rattle.fm_base.specs.declared.arena_id.ArenaId.{ArenaId}
-use Rattle.fm_base.specs.Calls.{Shut, End, Fine, Entry, entry_of}
-use Rattle.fm_base.specs.Finds.{Close, Sweep, Rest}
+use Rattle.std.{proofs.{Common.{◌≡◌, ◌≢◌, ℕ, List, [], ◌∷◌, ◌++◌, refl, sym, ap, ◌∙◌, subst}, lemmas.List.Elements.{All-head, All-tail}}, specs.Prelude.{Ok}}
+use Rattle.fm_base.specs.{declared.{caller.Caller.{Caller}, arena_id.ArenaId.{ArenaId}}, Calls.{Shut, End, Fine, Entry, entry_of}, Finds.{Close, Sweep, Rest}}
 use Rattle.fm_base.specs.View.{but_loans}
-use Rattle.fm_rule_facts.specs.Hands.{Hand, nothing}
-use Rattle.fm_rule_facts.specs.Views.{View}
-use Rattle.fm_rule_facts.specs.Closes.{walk_of, advanced, dropped}
+use Rattle.fm_rule_facts.specs.{Hands.{Hand, nothing}, Views.{View}, Closes.{walk_of, advanced, dropped}}
 use Rattle.fm_rule.specs.declared.pool.Pool.{Pool}
-use Rattle.fm_rule_calls.specs.Kept.{Goes, rest_of, sweep_numbers, slots_told, HasEnded, HasNoWords}
-use Rattle.fm_rule_calls.proofs.Going.{goes_then, lasts_on}
+use Rattle.fm_rule_calls.{specs.Kept.{Goes, rest_of, sweep_numbers, slots_told, HasEnded, HasNoWords}, proofs.Going.{goes_then, lasts_on}}
 use Rattle.fm_gate.specs.Needs.{IsOutside}
-use Rattle.fm_close.specs.declared.shutting.Shutting.{Shutting}
-use Rattle.fm_close.specs.declared.outcome.Visit.{Visit}
-use Rattle.fm_close.specs.declared.outcome.Visit.TheVariants.{Next, Inside, Ended}
-use Rattle.fm_close.specs.Does.{IsBack, AreBacks}
-use Rattle.fm_close.specs.Learnt.{CanWalk, AfterShut, AfterVisit, Walked, AfterSweep, AfterClose}
-use Rattle.fm_close.proofs.Closes.{dropped-advanced, dropped-begun}
+use Rattle.fm_close.specs.{declared.{shutting.Shutting.{Shutting}, outcome.Visit.{Visit, TheVariants.{Next, Inside, Ended}}}, Does.{IsBack, AreBacks}}
+use Rattle.fm_close.{specs.Learnt.{CanWalk, AfterShut, AfterVisit, Walked, AfterSweep, AfterClose}, proofs.Closes.{dropped-advanced, dropped-begun}}
 
 -- ---- the walk
 

@@ -1,20 +1,11 @@
 -- What a close outlives, until its marks are visited, and then until its arena is swept.
 use Rattle.std.specs.Prelude.{◌≡◌, ◌≢◌, List, Result}
-use Rattle.fm_base.specs.declared.arena_id.ArenaId.{ArenaId}
-use Rattle.fm_base.specs.declared.kind.Kind.{Kind}
-use Rattle.fm_base.specs.declared.refusal.Refusal.{Refusal}
-use Rattle.fm_base.specs.Calls.{Entry}
-use Rattle.fm_rule_facts.specs.Hands.{nothing}
-use Rattle.fm_rule_facts.specs.Views.{View}
+use Rattle.fm_base.specs.{declared.{arena_id.ArenaId.{ArenaId}, kind.Kind.{Kind}, refusal.Refusal.{Refusal}}, Calls.{Entry}}
+use Rattle.fm_rule_facts.specs.{Hands.{nothing}, Views.{View}}
 use Rattle.fm_rule.specs.declared.pool.Pool.{Pool}
 use Rattle.fm_rule_calls.specs.Kept.{Goes, rest_of}
-use Rattle.fm_gate.specs.declared.held.Hold.{Hold}
-use Rattle.fm_gate.specs.Crews.{StandsOn}
-use Rattle.fm_gate.specs.Needs.{IsOutside}
-use Rattle.fm_gate.specs.Learnt.{AfterHold, AfterUnhold, AfterOpen, AfterAgain}
-use Rattle.fm_close.specs.declared.gave_back.GaveBack.{GaveBack}
-use Rattle.fm_close.specs.declared.shutting.Shutting.{Shutting}
-use Rattle.fm_close.specs.declared.outcome.Visit.{Visit}
+use Rattle.fm_gate.specs.{declared.held.Hold.{Hold}, Crews.{StandsOn}, Needs.{IsOutside}, Learnt.{AfterHold, AfterUnhold, AfterOpen, AfterAgain}}
+use Rattle.fm_close.specs.declared.{gave_back.GaveBack.{GaveBack}, shutting.Shutting.{Shutting}, outcome.Visit.{Visit}}
 use Rattle.fm_close.specs.Learnt.{IsUnderWay, IsToSweep, AfterShut, AfterVisit, AfterSweep, AfterGiveBack}
 
 -- it stands, at the same mark, where the pass goes on and has what it had

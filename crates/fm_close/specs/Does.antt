@@ -1,19 +1,12 @@
 -- What shutting, one visit and the return of a handle do: the caller's own entries and the answer.
 use Rattle.std.specs.Prelude.{◌≡◌, ℕ, ◌+◌, ◌<◌, Bool, true, false, List, [], ◌∷◌, All, Option, Some, None, Result, Ok, Err}
-use Rattle.fm_base.specs.declared.caller.Caller.{Caller}
-use Rattle.fm_base.specs.declared.arena_id.ArenaId.{ArenaId}
-use Rattle.fm_base.specs.declared.refusal.Refusal.{Refusal}
-use Rattle.fm_base.specs.declared.refusal.Refusal.TheVariants.{WrongThread, CannotClose, Held, Closed}
-use Rattle.fm_base.specs.Arenas.{MayUse}
-use Rattle.fm_base.specs.Calls as machine
-use Rattle.fm_base.specs.Calls.{Entry, entry_of}
+use Rattle.fm_base.specs.declared.{caller.Caller.{Caller}, arena_id.ArenaId.{ArenaId}, refusal.Refusal.{Refusal}}
+use Rattle.fm_base.specs.{declared.refusal.Refusal.TheVariants.{WrongThread, CannotClose, Held, Closed}, Arenas.{MayUse}, Calls.{Entry, entry_of}}
 use Rattle.fm_base.specs.Does.{IsClosable}
+use Rattle.fm_base.specs.Calls as machine
 use Rattle.fm_gate.specs.Makers.{Made}
-use Rattle.fm_close.specs.declared.gave_back.GaveBack.{GaveBack}
+use Rattle.fm_close.specs.declared.{gave_back.GaveBack.{GaveBack}, shutting.Shutting.{Shutting}, outcome.Visit.{Visit, TheVariants.{Next, Inside, Ended}}}
 use Rattle.fm_close.specs.declared.gave_back.GaveBack.TheVariants as gave
-use Rattle.fm_close.specs.declared.shutting.Shutting.{Shutting}
-use Rattle.fm_close.specs.declared.outcome.Visit.{Visit}
-use Rattle.fm_close.specs.declared.outcome.Visit.TheVariants.{Next, Inside, Ended}
 
 -- the close that this pass made of an arena whose marks are all to be visited
 abbrev pub begun : Made → ArenaId → Shutting

@@ -1,12 +1,10 @@
 -- Which handles are left after one was given back.
 use Rattle.std.specs.Prelude.{◌≢◌, ◌<◌}
 use Rattle.fm_base.specs.declared.arena_id.ArenaId.{ArenaId}
-use Rattle.fm_rule_facts.specs.Views.{View}
-use Rattle.fm_rule_facts.specs.Holds.{how_many}
+use Rattle.fm_rule_facts.specs.{Views.{View}, Holds.{how_many}}
 use Rattle.fm_rule.specs.declared.pool.Pool.{Pool}
 use Rattle.fm_gate.specs.Needs.{HasHandle}
-use Rattle.fm_close.specs.declared.gave_back.GaveBack.{GaveBack}
-use Rattle.fm_close.specs.Learnt.{AfterGiveBack}
+use Rattle.fm_close.specs.{declared.gave_back.GaveBack.{GaveBack}, Learnt.{AfterGiveBack}}
 
 -- one of the arena, where there were two
 abbrev pub OneIsLeft : Type 0

@@ -1,29 +1,15 @@
 -- What each call of a close asks for, and what its caller learns: one record each.
 use Rattle.std.specs.Prelude.{◌≡◌, ◌≢◌, ◌+◌, ◌<◌, ◌==◌, true, false, List, [], ◌∷◌, ◌++◌, length, ℕ, Option, Some, None, Result, Ok, Err, IfOk, IfSome}
-use Rattle.fm_base.specs.declared.arena_id.ArenaId.{ArenaId}
-use Rattle.fm_base.specs.declared.kind.Kind.{Kind}
-use Rattle.fm_base.specs.declared.refusal.Refusal.{Refusal}
-use Rattle.fm_base.specs.declared.refusal.Refusal.TheVariants.{WrongThread, CannotClose}
-use Rattle.fm_base.specs.Calls.{End, Fine, Entry, entry_of}
-use Rattle.fm_base.specs.Does.{DoesClose, DoesGiveBack}
-use Rattle.fm_base.specs.Finds.{Close, Sweep, Find, Visits}
-use Rattle.fm_base.specs.View.{but_loans}
-use Rattle.fm_rule_facts.specs.Views.{View, In, IsKnown}
-use Rattle.fm_rule_facts.specs.Closes.{walk_of, passed_of, advanced, dropped}
-use Rattle.fm_rule_facts.specs.Steps.{is_clear}
-use Rattle.fm_rule_facts.specs.Words.{mark_of, alive_holds}
-use Rattle.fm_rule_facts.specs.Holds.{released}
-use Rattle.fm_rule_facts.specs.Handles.{giving_by, given_back, giving_entries}
+use Rattle.fm_base.specs.declared.{arena_id.ArenaId.{ArenaId}, kind.Kind.{Kind}, refusal.Refusal.{Refusal, TheVariants.{WrongThread, CannotClose}}}
+use Rattle.fm_base.specs.{Calls.{End, Fine, Entry, entry_of}, Does.{DoesClose, DoesGiveBack}, Finds.{Close, Sweep, Find, Visits}, View.{but_loans}}
+use Rattle.fm_rule_facts.specs.{Views.{View, In, IsKnown}, Closes.{walk_of, passed_of, advanced, dropped}, Steps.{is_clear}, Words.{mark_of, alive_holds}}
+use Rattle.fm_rule_facts.specs.{Holds.{released}, Handles.{giving_by, given_back, giving_entries}}
 use Rattle.fm_rule.specs.declared.pool.Pool.{Pool}
 use Rattle.fm_rule_calls.specs.Kept.{Goes, KeptAs, KeptBut, KeptHandling, Kept, rest_of, slots_told, HasEnded, HasNoWords, Lasts}
-use Rattle.fm_gate.specs.Makers.{made_by_pass}
-use Rattle.fm_gate.specs.Needs.{IsOutside, HasHandle}
-use Rattle.fm_close.specs.declared.gave_back.GaveBack.{GaveBack}
-use Rattle.fm_close.specs.declared.gave_back.GaveBack.TheVariants as gave
-use Rattle.fm_close.specs.declared.shutting.Shutting.{Shutting}
-use Rattle.fm_close.specs.declared.outcome.Visit.{Visit}
-use Rattle.fm_close.specs.declared.outcome.Visit.TheVariants.{Next, Inside, Ended}
+use Rattle.fm_gate.specs.{Makers.{made_by_pass}, Needs.{IsOutside, HasHandle}}
+use Rattle.fm_close.specs.declared.{gave_back.GaveBack.{GaveBack}, shutting.Shutting.{Shutting}, outcome.Visit.{Visit, TheVariants.{Next, Inside, Ended}}}
 use Rattle.fm_close.specs.Does.{AreBacks, DoesShut, DoesVisit, visit_answer, after_visit, DoesSpend, others_left}
+use Rattle.fm_close.specs.declared.gave_back.GaveBack.TheVariants as gave
 
 -- ---- what is asked for
 

@@ -1,13 +1,8 @@
 -- What a pass does as it sweeps an arena that it ended.
 use Rattle.std.specs.Prelude.{◌≡◌, ◌<◌, ℕ, List, Some}
-use Rattle.fm_base.specs.declared.arena_id.ArenaId.{ArenaId}
-use Rattle.fm_base.specs.Calls.{Entry}
-use Rattle.fm_base.specs.Finds.{Sweep}
-use Rattle.fm_rule_facts.specs.Parts.{Swept, unread}
-use Rattle.fm_rule_facts.specs.Views.{View, IsSound}
-use Rattle.fm_rule_facts.specs.Closes.{passed_of, advanced, dropped}
-use Rattle.fm_rule.specs.declared.pool.Pool.{Pool}
-use Rattle.fm_rule.specs.Passes.{IsOf}
+use Rattle.fm_base.specs.{declared.arena_id.ArenaId.{ArenaId}, Calls.{Entry}, Finds.{Sweep}}
+use Rattle.fm_rule_facts.specs.{Parts.{Swept, unread}, Views.{View, IsSound}, Closes.{passed_of, advanced, dropped}}
+use Rattle.fm_rule.specs.{declared.pool.Pool.{Pool}, Passes.{IsOf}}
 use Rattle.fm_rule_calls.specs.Kept.{Goes}
 use Rattle.fm_close.specs.Does.{AreBacks}
 

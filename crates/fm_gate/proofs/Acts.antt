@@ -1,23 +1,14 @@
 -- Acts inside an arena, and leaving it.
 use Rattle.std.proofs.Common.{◌≡◌, ℕ, ◌/◌, ◌%◌, ◌<◌, List, [], refl, ap, sym, ◌∙◌, subst, ⊎_elim, Option, Some, None, inl}
-use Rattle.fm_base.specs.declared.caller.Caller.{Caller}
-use Rattle.fm_base.specs.declared.arena_id.ArenaId.{ArenaId}
-use Rattle.fm_base.specs.Calls.{Call, Leave, Reply, Fine}
-use Rattle.fm_base.specs.View.{inside_after, inside_next}
+use Rattle.fm_base.specs.{declared.{caller.Caller.{Caller}, arena_id.ArenaId.{ArenaId}}, Calls.{Call, Leave, Reply, Fine}, View.{inside_after, inside_next}}
 use Rattle.fm_base.specs.Does.{DoesAct}
-use Rattle.fm_words.specs.declared.shape.Shape.{Shape}
-use Rattle.fm_words.specs.Places.{at, page_word}
-use Rattle.fm_rule_facts.specs.Parts.{Mapping, mapping_of}
-use Rattle.fm_rule_facts.specs.Views.{View, In}
-use Rattle.fm_rule_facts.specs.Steps.{Stepped, HasPlace, none_noted, acted}
-use Rattle.fm_rule.specs.declared.pool.Pool.{Pool}
-use Rattle.fm_rule.specs.Passes.{IsOf}
+use Rattle.fm_words.specs.{declared.shape.Shape.{Shape}, Places.{at, page_word}}
+use Rattle.fm_rule_facts.specs.{Parts.{Mapping, mapping_of}, Views.{View, In}, Steps.{Stepped, HasPlace, none_noted, acted}}
+use Rattle.fm_rule.specs.{declared.pool.Pool.{Pool}, Passes.{IsOf}}
 use Rattle.fm_rule_calls.specs.Kept.{Goes, rest_of}
 use Rattle.fm_rule_calls.proofs.Going.{goes_then, made_by-acted, no_draws, rest_is, hand_is, inside_is, mark_is, lasts_on, goes_step}
 use Rattle.fm_pages.specs.Places.{CanFind, Placed}
-use Rattle.fm_gate.specs.Needs.{CanReach, CanLeave}
-use Rattle.fm_gate.specs.Learnt.{AfterAct, AfterLeave}
-use Rattle.fm_gate.specs.Reaching.{Found, Reached}
+use Rattle.fm_gate.specs.{Needs.{CanReach, CanLeave}, Learnt.{AfterAct, AfterLeave}, Reaching.{Found, Reached}}
 use Rattle.fm_gate.proofs.Outside.{swept_is, stands_outside, stands_inside}
 
 -- The call neither comes into an arena nor leaves one

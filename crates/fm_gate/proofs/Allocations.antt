@@ -1,27 +1,14 @@
 -- What is learnt of allocating.
 use Rattle.std.proofs.Common.{◌≡◌, ◌≢◌, ◌⊎◌, ℕ, Bool, true, not, List, [], ◌∷◌, ◌++◌, refl, ap, sym, ◌∙◌, subst, inl, inr, Result, Ok, Err, All}
-use Rattle.std.specs.Prelude.{IfErr}
-use Rattle.std.proofs.lemmas.List.{append-nil}
-use Rattle.std.proofs.lemmas.List.Elements.{All-head, All-tail, filter-append}
-use Rattle.fm_base.specs.declared.caller.Caller.{Caller}
-use Rattle.fm_base.specs.declared.arena_id.ArenaId.{ArenaId}
-use Rattle.fm_base.specs.declared.refusal.Refusal.{Refusal}
+use Rattle.std.{specs.Prelude.{IfErr}, proofs.lemmas.List.{append-nil, Elements.{All-head, All-tail, filter-append}}}
+use Rattle.fm_base.specs.{declared.{caller.Caller.{Caller}, arena_id.ArenaId.{ArenaId}, refusal.Refusal.{Refusal}}, Arenas.{MayUse}}
+use Rattle.fm_base.specs.{Calls.{Enter, Allocate, Leave, Fine, Given, NoRoom, Entry, entry_of}, Does.{DoesEnter, DoesAllocate}, Machine.{IsPower}}
+use Rattle.fm_base.specs.{View.{but_loans, is_loan}, Visits.{refused_visit}}
 use Rattle.fm_base.specs.declared.refusal.Refusal.TheVariants as refusal
-use Rattle.fm_base.specs.Arenas.{MayUse}
-use Rattle.fm_base.specs.Calls.{Enter, Allocate, Leave, Fine, Given, NoRoom, Entry, entry_of}
-use Rattle.fm_base.specs.Does.{DoesEnter, DoesAllocate}
-use Rattle.fm_base.specs.Machine.{IsPower}
-use Rattle.fm_base.specs.View.{but_loans, is_loan}
-use Rattle.fm_base.specs.Visits.{refused_visit}
-use Rattle.fm_rule_facts.specs.Loans.{loans_of}
-use Rattle.fm_rule_facts.specs.Views.{View, In, IsSound, given_of}
+use Rattle.fm_rule_facts.specs.{Loans.{loans_of}, Views.{View, In, IsSound, given_of}}
 use Rattle.fm_rule.specs.declared.pool.Pool.{Pool}
 use Rattle.fm_rule_calls.proofs.Going.{goes_none, lasts_on}
-use Rattle.fm_gate.specs.Giving.{DoesGive, LendsTo}
-use Rattle.fm_gate.specs.Learnt.{AfterEnter, AfterAllocate}
-use Rattle.fm_gate.specs.Pages.{FullExactly}
-use Rattle.fm_gate.specs.Needs.{CanAllocate}
-use Rattle.fm_gate.proofs.Scarce.{scarce_by}
+use Rattle.fm_gate.{specs.{Giving.{DoesGive, LendsTo}, Learnt.{AfterEnter, AfterAllocate}, Pages.{FullExactly}, Needs.{CanAllocate}}, proofs.Scarce.{scarce_by}}
 
 abbrev err : Refusal → Result ℕ Refusal
 err r = Err r

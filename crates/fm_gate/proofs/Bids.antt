@@ -1,31 +1,16 @@
 -- Taking a slot, and opening an arena there.
 use Rattle.std.proofs.Common.{◌≡◌, ◌≢◌, ◌⊎◌, ℕ, ◌/◌, ◌^◌, ◌==◌, ◌<◌, Bool, true, false, if◌then◌else◌, List, [], ◌∷◌, ◌++◌, length, refl, ap, sym, ◌∙◌, subst, inl, inr, ⊎_elim, None, eq-eqb, ne_eqb, append_assoc}
-use Rattle.std.proofs.Math.Nat.{le_of_eq}
-use Rattle.std.proofs.lemmas.List.Elements.{All-cons, All-nil, Contains-push}
-use Rattle.std.proofs.lemmas.List.{append-nil}
-use Rattle.std.proofs.lemmas.Nat.Bits.{bit_at-zero}
+use Rattle.std.proofs.{Math.Nat.{le_of_eq}, lemmas.{List.{append-nil, Elements.{All-cons, All-nil, Contains-push}}, Nat.Bits.{bit_at-zero}}}
 use Rattle.std.specs.Int.{bit_at}
-use Rattle.fm_words.specs.declared.shape.Shape.{Shape}
-use Rattle.fm_words.specs.declared.session.Session.{Session}
-use Rattle.fm_words.specs.Sessions.{session_of}
-use Rattle.fm_base.specs.declared.caller.Caller.{Caller}
-use Rattle.fm_base.specs.declared.arena_id.ArenaId.{ArenaId}
-use Rattle.fm_base.specs.declared.kind.Kind.{Kind}
-use Rattle.fm_base.specs.Arenas.{owner_of}
-use Rattle.fm_base.specs.Calls.{Entry, Open, Fine, entry_of}
-use Rattle.fm_base.specs.Histories.{state_after}
-use Rattle.fm_base.specs.Finds.{Find, FindsMore, TakesSlot, is_draw}
+use Rattle.fm_words.specs.{declared.{shape.Shape.{Shape}, session.Session.{Session}}, Sessions.{session_of}}
+use Rattle.fm_base.specs.{declared.{caller.Caller.{Caller}, arena_id.ArenaId.{ArenaId}, kind.Kind.{Kind}}, Arenas.{owner_of}}
+use Rattle.fm_base.specs.{Calls.{Entry, Open, Fine, entry_of}, Histories.{state_after}, Finds.{Find, FindsMore, TakesSlot, is_draw}}
 use Rattle.fm_base.proofs.Making.{FindsMore-none}
-use Rattle.fm_rule_facts.specs.Hands.{Hand, nothing, taken, learnt, takes, hand_taken}
-use Rattle.fm_rule_facts.specs.Views.{View, IsBusy, IsBusyIn, limit_of}
-use Rattle.fm_rule_facts.specs.Holds.{handles_with}
-use Rattle.fm_rule_facts.specs.Steps.{Stepped, none_noted, note_of, is_clear}
-use Rattle.fm_rule_facts.specs.Moves.{LearnsSlots}
+use Rattle.fm_rule_facts.specs.{Hands.{Hand, nothing, taken, learnt, takes, hand_taken}, Views.{View, IsBusy, IsBusyIn, limit_of}, Holds.{handles_with}}
+use Rattle.fm_rule_facts.specs.{Steps.{Stepped, none_noted, note_of, is_clear}, Moves.{LearnsSlots}}
 use Rattle.fm_rule_steps.proofs.Reading.{eqb_true}
-use Rattle.fm_rule.specs.declared.pool.Pool.{Pool}
-use Rattle.fm_rule.specs.Passes.{IsOf}
-use Rattle.fm_rule_calls.specs.Kept.{Goes}
-use Rattle.fm_rule_calls.proofs.Going.{NoDraws, goes_then, no_draws, made_by-one, goes_step}
+use Rattle.fm_rule.specs.{declared.pool.Pool.{Pool}, Passes.{IsOf}}
+use Rattle.fm_rule_calls.{specs.Kept.{Goes}, proofs.Going.{NoDraws, goes_then, no_draws, made_by-one, goes_step}}
 use Rattle.fm_gate.specs.Slots.{Went, SlotTaken, NoneTaken, OpenedIn}
 
 -- ---- the exchanges

@@ -1,22 +1,12 @@
 -- Holds beside others.
 use Rattle.std.proofs.Common.{◌≡◌, ◌∙◌, ◌<◌, List, ◌∷◌, sym, ap, subst, arith, Result, Ok, Err, inr}
-use Rattle.fm_base.specs.declared.arena_id.ArenaId.{ArenaId}
-use Rattle.fm_base.specs.declared.refusal.Refusal.{Refusal}
-use Rattle.fm_base.specs.Arenas.{same_id}
-use Rattle.fm_base.specs.Calls.{Entry}
-use Rattle.fm_base.specs.Finds.{Rest}
+use Rattle.fm_base.specs.{declared.{arena_id.ArenaId.{ArenaId}, refusal.Refusal.{Refusal}}, Arenas.{same_id}, Calls.{Entry}, Finds.{Rest}}
 use Rattle.fm_base.proofs.Names.{same_id-self}
-use Rattle.fm_rule_facts.specs.Views.{View, In}
-use Rattle.fm_rule_facts.specs.Holds.{released, one_if, how_many}
-use Rattle.fm_rule_facts.proofs.Summing.{some_hold, one_less}
+use Rattle.fm_rule_facts.{specs.{Views.{View, In}, Holds.{released, one_if, how_many}}, proofs.Summing.{some_hold, one_less}}
 use Rattle.fm_rule.specs.declared.pool.Pool.{Pool}
-use Rattle.fm_rule_calls.specs.Kept.{Goes}
-use Rattle.fm_rule_calls.proofs.Going.{known_on}
-use Rattle.fm_gate.specs.declared.held.Hold.{Hold}
-use Rattle.fm_gate.specs.Needs.{CanUnhold}
-use Rattle.fm_gate.specs.Learnt.{holds_taken}
-use Rattle.fm_gate.specs.HoldLaws.{StandsAtHold, BothAtHold, BothStand, OneIsLeft, OthersAreLeft, HoldsStand}
-use Rattle.fm_gate.proofs.Counted.{some_in, in_released}
+use Rattle.fm_rule_calls.{specs.Kept.{Goes}, proofs.Going.{known_on}}
+use Rattle.fm_gate.specs.{declared.held.Hold.{Hold}, Needs.{CanUnhold}, Learnt.{holds_taken}}
+use Rattle.fm_gate.{specs.HoldLaws.{StandsAtHold, BothAtHold, BothStand, OneIsLeft, OthersAreLeft, HoldsStand}, proofs.Counted.{some_in, in_released}}
 use Rattle.fm_gate.proofs.Outside.{made_on, of_on}
 
 -- A hold whose arena the pass still has among its holds can still be spent.

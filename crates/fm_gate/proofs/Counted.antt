@@ -1,10 +1,7 @@
 -- Arenas that are counted in a list of holds.
 use Rattle.std.proofs.Common.{◌≡◌, ◌≢◌, ◌+◌, ◌<◌, Bool, true, false, if◌then◌else◌, List, [], ◌∷◌, sym, refl, ◌∙◌, arith, inl, inr}
-use Rattle.fm_base.specs.declared.arena_id.ArenaId.{ArenaId}
-use Rattle.fm_base.specs.Arenas.{same_id}
-use Rattle.fm_base.proofs.Names.{same_id-true}
-use Rattle.fm_rule_facts.specs.Views.{In}
-use Rattle.fm_rule_facts.specs.Holds.{released, one_if, how_many}
+use Rattle.fm_base.{specs.{declared.arena_id.ArenaId.{ArenaId}, Arenas.{same_id}}, proofs.Names.{same_id-true}}
+use Rattle.fm_rule_facts.specs.{Views.{In}, Holds.{released, one_if, how_many}}
 
 -- An arena that is counted in a list is there.
 pub some_in : (a : ArenaId) (hs : List ArenaId) → 0 < how_many a hs → In a hs

@@ -1,17 +1,10 @@
 -- Where passes stand once others are drawn from them, met and gathered.
 use Rattle.std.proofs.Common.{◌≡◌, ◌∙◌, ◌++◌, ℕ, List, Bool, refl, sym, ap, subst, append-nil}
-use Rattle.fm_base.specs.declared.arena_id.ArenaId.{ArenaId}
-use Rattle.fm_base.specs.Calls.{Entry}
-use Rattle.fm_base.specs.Finds.{Find, Gathered, Close, Sweep}
-use Rattle.fm_rule_facts.specs.Views.{View, IsSound}
-use Rattle.fm_rule_facts.specs.Hands.{Number, no_number}
-use Rattle.fm_rule.specs.declared.pool.Pool.{Pool}
-use Rattle.fm_rule.specs.Draws.{Asked}
-use Rattle.fm_rule_calls.specs.Kept.{Lasts, rest_of}
-use Rattle.fm_rule_calls.proofs.Going.{lasts_by, reached_by}
-use Rattle.fm_rule_calls.proofs.Sweeps.{no_sweeps}
-use Rattle.fm_gate.specs.Needs.{IsOutside}
-use Rattle.fm_gate.specs.Crews.{HasNothing, StandsOn, StandAtDraw, StandsAtGather, SeenIsKnown, NothingIsGathered, CrewStands}
+use Rattle.fm_base.specs.{declared.arena_id.ArenaId.{ArenaId}, Calls.{Entry}, Finds.{Find, Gathered, Close, Sweep}}
+use Rattle.fm_rule_facts.specs.{Views.{View, IsSound}, Hands.{Number, no_number}}
+use Rattle.fm_rule.specs.{declared.pool.Pool.{Pool}, Draws.{Asked}}
+use Rattle.fm_rule_calls.{specs.Kept.{Lasts, rest_of}, proofs.{Going.{lasts_by, reached_by}, Sweeps.{no_sweeps}}}
+use Rattle.fm_gate.specs.{Needs.{IsOutside}, Crews.{HasNothing, StandsOn, StandAtDraw, StandsAtGather, SeenIsKnown, NothingIsGathered, CrewStands}}
 
 -- holds, handles, pages, closes and sweeps
 abbrev things_of : View → List ArenaId × List ArenaId × List ℕ × List Close × List Sweep

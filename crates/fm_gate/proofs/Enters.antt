@@ -1,24 +1,13 @@
 -- Coming into an arena.
-use Rattle.std.proofs.Common.{◌≡◌, ℕ, [], ◌∷◌, refl, ap, sym, ◌∙◌, subst, Option, Some, None}
-use Rattle.std.specs.Prelude.{Ok, Err}
-use Rattle.fm_base.specs.declared.caller.Caller.{Caller}
-use Rattle.fm_base.specs.declared.arena_id.ArenaId.{ArenaId}
+use Rattle.std.{proofs.Common.{◌≡◌, ℕ, [], ◌∷◌, refl, ap, sym, ◌∙◌, subst, Option, Some, None}, specs.Prelude.{Ok, Err}}
+use Rattle.fm_base.specs.{declared.{caller.Caller.{Caller}, arena_id.ArenaId.{ArenaId}}, Arenas.{MayUse}, Calls.{Enter, Leave, Fine, Closed, entry_of}}
+use Rattle.fm_base.specs.{Histories.{made_by}, View.{inside_after}}
 use Rattle.fm_base.specs.declared.refusal.Refusal.TheVariants as refusal
-use Rattle.fm_base.specs.Arenas.{MayUse}
-use Rattle.fm_base.specs.Calls.{Enter, Leave, Fine, Closed, entry_of}
-use Rattle.fm_base.specs.Histories.{made_by}
-use Rattle.fm_base.specs.View.{inside_after}
-use Rattle.fm_rule_facts.specs.Parts.{unread}
-use Rattle.fm_rule_facts.specs.Views.{View, IsSound}
-use Rattle.fm_rule_facts.specs.Words.{alive_holds, enter_found, inside_found}
-use Rattle.fm_rule_facts.specs.Steps.{Stepped, none_noted, acted}
+use Rattle.fm_rule_facts.specs.{Parts.{unread}, Views.{View, IsSound}, Words.{alive_holds, enter_found, inside_found}, Steps.{Stepped, none_noted, acted}}
 use Rattle.fm_rule.specs.declared.pool.Pool.{Pool}
 use Rattle.fm_rule_calls.specs.Kept.{Goes, rest_of}
 use Rattle.fm_rule_calls.proofs.Going.{goes_then, goes_none, kept_none, made_by-one, no_draws, rest_is, hand_is, inside_is, mark_is, lasts_on, goes_step}
-use Rattle.fm_gate.specs.Needs.{CanVisit}
-use Rattle.fm_gate.specs.Learnt.{AfterEnter}
-use Rattle.fm_gate.proofs.Outside.{swept_is, stands_outside, stands_inside}
-use Rattle.fm_gate.proofs.Acts.{unmark_goes}
+use Rattle.fm_gate.{specs.{Needs.{CanVisit}, Learnt.{AfterEnter}}, proofs.{Outside.{swept_is, stands_outside, stands_inside}, Acts.{unmark_goes}}}
 use Rattle.fm_gate.proofs.Living.{not_held}
 
 -- What is learnt where the pass may not use the arena: no step was made.

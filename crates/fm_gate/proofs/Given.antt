@@ -2,26 +2,14 @@
 use Rattle.std.proofs.Common.{◌≡◌, ◌≢◌, ℕ, ◌+◌, ◌*◌, ◌/◌, ◌<◌, ◌≤◌, nat_le, Bool, true, false, if◌then◌else◌, List, [], ◌∷◌, ◌++◌, refl, ap, sym, ◌∙◌, subst, inl, inr, ⊎_elim, All, Some, None, Result, Ok, Err, eq-eqb, append_assoc}
 use Rattle.std.proofs.lemmas.List.Elements.{All-head, All-tail}
 use Rattle.fm_words.specs.declared.shape.Shape.{Shape}
-use Rattle.fm_base.specs.declared.caller.Caller.{Caller}
-use Rattle.fm_base.specs.declared.arena_id.ArenaId.{ArenaId}
-use Rattle.fm_base.specs.declared.refusal.Refusal.{Refusal}
+use Rattle.fm_base.specs.declared.{caller.Caller.{Caller}, arena_id.ArenaId.{ArenaId}, refusal.Refusal.{Refusal}}
+use Rattle.fm_base.specs.{Calls.{Allocate, Reply, Given, NoRoom, Entry, entry_of}, Histories.{made_by}, Machine.{allocate_reply, rounded_up}, View.{is_loan}}
 use Rattle.fm_base.specs.declared.refusal.Refusal.TheVariants as refusal
-use Rattle.fm_base.specs.Calls.{Allocate, Reply, Given, NoRoom, Entry, entry_of}
-use Rattle.fm_base.specs.Histories.{made_by}
-use Rattle.fm_base.specs.Machine.{allocate_reply, rounded_up}
-use Rattle.fm_base.specs.View.{is_loan}
-use Rattle.fm_rule_facts.specs.Steps.{where_found, room}
-use Rattle.fm_rule_facts.specs.Views.{View, In, limit_of}
-use Rattle.fm_rule_facts.proofs.Keeping.{in_append}
+use Rattle.fm_rule_facts.{specs.{Steps.{where_found, room}, Views.{View, In, limit_of}}, proofs.Keeping.{in_append}}
 use Rattle.fm_rule.specs.declared.pool.Pool.{Pool}
-use Rattle.fm_pages.specs.Gives.{Unpaged}
-use Rattle.fm_pages.specs.Maps.{Way}
-use Rattle.fm_pages.proofs.Looking.{all_earlier}
-use Rattle.fm_pages.proofs.Parts.{way_then, pages_way}
-use Rattle.fm_gate.specs.Giving.{DoesGive, NonePaged, AfterGive}
-use Rattle.fm_gate.specs.Pages.{FullExactly, IsInRange, LendsInRange, given_after}
-use Rattle.fm_gate.proofs.Gives.{Giving, count_is, inside_on, rest_on, lends_for, lent_way, lends_to, more_lent}
-use Rattle.fm_gate.proofs.Scarce.{scarce_seen, clear}
+use Rattle.fm_pages.{specs.{Gives.{Unpaged}, Maps.{Way}}, proofs.{Looking.{all_earlier}, Parts.{way_then, pages_way}}}
+use Rattle.fm_gate.specs.{Giving.{DoesGive, NonePaged, AfterGive}, Pages.{FullExactly, IsInRange, LendsInRange, given_after}}
+use Rattle.fm_gate.proofs.{Gives.{Giving, count_is, inside_on, rest_on, lends_for, lent_way, lends_to, more_lent}, Scarce.{scarce_seen, clear}}
 
 -- What holds of all of a list holds of one in it.
 each : (P : Entry → Type 0) (es : List Entry) → All P es → (e : Entry) → In e es → P e

@@ -1,30 +1,16 @@
 -- Allocating inside an arena.
 use Rattle.std.proofs.Common.{◌≡◌, ◌≢◌, ℕ, ◌+◌, ◌*◌, ◌/◌, ◌<◌, ◌≤◌, ◌==◌, Bool, true, List, [], ◌∷◌, ◌++◌, refl, ap, sym, ◌∙◌, subst, All, ne_eqb, append_assoc}
-use Rattle.std.proofs.lemmas.List.{append-nil}
-use Rattle.std.proofs.lemmas.List.Elements.{All-append, All-head, All-nil, All-tail, All-weaker}
+use Rattle.std.proofs.lemmas.List.{append-nil, Elements.{All-append, All-head, All-nil, All-tail, All-weaker}}
 use Rattle.fm_words.specs.declared.shape.Shape.{Shape}
-use Rattle.fm_base.specs.declared.caller.Caller.{Caller}
-use Rattle.fm_base.specs.declared.arena_id.ArenaId.{ArenaId}
-use Rattle.fm_base.specs.Arenas.{State, arena_of}
-use Rattle.fm_base.specs.Calls.{Allocate, Fine, Lend, Reply, Entry, entry_of}
-use Rattle.fm_base.specs.Histories.{state_after}
-use Rattle.fm_base.specs.Machine.{after, allocate_reply, rounded_up}
+use Rattle.fm_base.specs.{declared.{caller.Caller.{Caller}, arena_id.ArenaId.{ArenaId}}, Arenas.{State, arena_of}}
+use Rattle.fm_base.specs.{Calls.{Allocate, Fine, Lend, Reply, Entry, entry_of}, Histories.{state_after}, Machine.{after, allocate_reply, rounded_up}}
 use Rattle.fm_base.proofs.Making.{state_after-append}
-use Rattle.fm_rule_facts.specs.Scarcity.{IsScarce}
-use Rattle.fm_rule_facts.specs.Steps.{Stepped, none_noted, acted, where_found}
-use Rattle.fm_rule_facts.specs.Views.{View, given_of, limit_of, state_in}
+use Rattle.fm_rule_facts.specs.{Scarcity.{IsScarce}, Steps.{Stepped, none_noted, acted, where_found}, Views.{View, given_of, limit_of, state_in}}
 use Rattle.fm_rule.specs.declared.pool.Pool.{Pool}
 use Rattle.fm_rule_calls.specs.Kept.{Goes, rest_of}
-use Rattle.fm_pages.specs.Covers.{LendsIn}
-use Rattle.fm_pages.specs.Gives.{Tried, allocates}
-use Rattle.fm_pages.specs.Maps.{Way}
-use Rattle.fm_pages.proofs.Exact.{tried_exact}
-use Rattle.fm_pages.proofs.Gives.{way_allocate}
+use Rattle.fm_pages.{specs.{Covers.{LendsIn}, Gives.{Tried, allocates}, Maps.{Way}}, proofs.{Exact.{tried_exact}, Gives.{way_allocate}}}
 use Rattle.fm_pages.proofs.Parts.{way_then, pages_way}
-use Rattle.fm_gate.specs.Giving.{CanTry, LendsTo}
-use Rattle.fm_gate.specs.Pages.{LendsInRange, given_after}
-use Rattle.fm_gate.specs.Needs.{IsInside}
-use Rattle.fm_gate.proofs.Scarce.{scarce_seen}
+use Rattle.fm_gate.{specs.{Giving.{CanTry, LendsTo}, Pages.{LendsInRange, given_after}, Needs.{IsInside}}, proofs.Scarce.{scarce_seen}}
 use Rattle.fm_gate.proofs.Outside.{stands_inside}
 
 -- The pass stays inside on such a way.

@@ -1,24 +1,13 @@
 -- Handles of automatic arenas.
 use Rattle.std.proofs.Common.{◌≡◌, ◌≢◌, ◌<◌, arith, ℕ, true, List, [], ◌∷◌, refl, ap, sym, ◌∙◌, subst, Some, None, Result, Ok, Err, inl}
-use Rattle.fm_base.specs.declared.arena_id.ArenaId.{ArenaId}
-use Rattle.fm_base.specs.declared.kind.Kind.TheVariants.{Automatic, Confined}
-use Rattle.fm_base.specs.declared.refusal.Refusal.{Refusal}
+use Rattle.fm_base.specs.declared.{arena_id.ArenaId.{ArenaId}, kind.Kind.TheVariants.{Automatic, Confined}, refusal.Refusal.{Refusal}, caller.Caller.{Caller}}
+use Rattle.fm_base.specs.{Arenas.{MayUse}, Calls.{Hold, Reply, Fine, TooManyHolds, entry_of}, Machine.{most_holds}, Finds.{Rest}}
 use Rattle.fm_base.specs.declared.refusal.Refusal.TheVariants as refusal
-use Rattle.fm_base.specs.declared.caller.Caller.{Caller}
-use Rattle.fm_base.specs.Arenas.{MayUse}
-use Rattle.fm_base.specs.Calls.{Hold, Reply, Fine, TooManyHolds, entry_of}
-use Rattle.fm_base.specs.Machine.{most_holds}
-use Rattle.fm_base.specs.Finds.{Rest}
-use Rattle.fm_rule_facts.specs.Views.{View, In, IsKnown, IsSound}
-use Rattle.fm_rule_facts.specs.Words.{alive_holds, hold_found}
-use Rattle.fm_rule_facts.specs.Holds.{grips, holds_after}
+use Rattle.fm_rule_facts.specs.{Views.{View, In, IsKnown, IsSound}, Words.{alive_holds, hold_found}, Holds.{grips, holds_after}}
 use Rattle.fm_rule_facts.proofs.Gripping.{handles_are, with_handles}
 use Rattle.fm_rule.specs.declared.pool.Pool.{Pool}
-use Rattle.fm_rule_calls.specs.Kept.{Goes, rest_of}
-use Rattle.fm_rule_calls.proofs.Going.{known_on, lasts_on}
-use Rattle.fm_gate.specs.Needs.{IsOutside, IsInside, HasHandle}
-use Rattle.fm_gate.specs.Learnt.{AfterTake, AfterAgain}
-use Rattle.fm_gate.proofs.Outside.{of_on, stands_outside, stands_inside}
+use Rattle.fm_rule_calls.{specs.Kept.{Goes, rest_of}, proofs.Going.{known_on, lasts_on}}
+use Rattle.fm_gate.{specs.{Needs.{IsOutside, IsInside, HasHandle}, Learnt.{AfterTake, AfterAgain}}, proofs.Outside.{of_on, stands_outside, stands_inside}}
 use Rattle.fm_gate.proofs.Takes.{hold_full, hold_fine}
 
 -- The owner of a known arena is one of at most 4096 numbers.

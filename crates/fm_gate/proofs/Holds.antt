@@ -1,26 +1,15 @@
 -- Holds are taken and spent.
 use Rattle.std.proofs.Common.{◌≡◌, ◌≢◌, ℕ, true, List, [], ◌∷◌, refl, ap, sym, ◌∙◌, subst, Option, Some, None, Result, Ok, Err, inl}
-use Rattle.fm_base.specs.declared.arena_id.ArenaId.{ArenaId}
-use Rattle.fm_base.specs.declared.kind.Kind.TheVariants.{Automatic}
-use Rattle.fm_base.specs.declared.refusal.Refusal.{Refusal}
+use Rattle.fm_base.specs.{declared.{arena_id.ArenaId.{ArenaId}, kind.Kind.TheVariants.{Automatic}, refusal.Refusal.{Refusal}}, Arenas.{MayUse}}
+use Rattle.fm_base.specs.{Calls.{Hold, Unhold, Reply, Fine, Closed, TooManyHolds, entry_of}, Machine.{most_holds}, Finds.{Rest}}
 use Rattle.fm_base.specs.declared.refusal.Refusal.TheVariants as refusal
-use Rattle.fm_base.specs.Arenas.{MayUse}
-use Rattle.fm_base.specs.Calls.{Hold, Unhold, Reply, Fine, Closed, TooManyHolds, entry_of}
-use Rattle.fm_base.specs.Machine.{most_holds}
-use Rattle.fm_base.specs.Finds.{Rest}
-use Rattle.fm_rule_facts.specs.Views.{View, In, IsKnown, IsSound}
-use Rattle.fm_rule_facts.specs.Words.{alive_holds, hold_found}
-use Rattle.fm_rule_facts.specs.Holds.{grips, holds_after, released}
-use Rattle.fm_rule_facts.specs.Steps.{Stepped, none_noted}
-use Rattle.fm_rule_facts.proofs.Gripping.{holds_are, with_holds}
+use Rattle.fm_rule_facts.specs.{Views.{View, In, IsKnown, IsSound}, Words.{alive_holds, hold_found}, Holds.{grips, holds_after, released}}
+use Rattle.fm_rule_facts.{specs.Steps.{Stepped, none_noted}, proofs.Gripping.{holds_are, with_holds}}
 use Rattle.fm_rule.specs.declared.pool.Pool.{Pool}
 use Rattle.fm_rule_calls.specs.Kept.{Goes, rest_of}
 use Rattle.fm_rule_calls.proofs.Going.{goes_none, kept_none, no_draws, made_by-one, rest_is, hand_is, inside_is, mark_is, known_on, lasts_on, goes_step}
-use Rattle.fm_gate.specs.declared.held.Hold.{Hold as TheHold}
-use Rattle.fm_gate.specs.Makers.{made_by_pass}
-use Rattle.fm_gate.specs.Needs.{IsOutside, CanVisit, CanUnhold}
-use Rattle.fm_gate.specs.Learnt.{AfterHold, AfterTake, AfterUnhold, DoesTake}
-use Rattle.fm_gate.proofs.Outside.{swept_is, stands_outside, stands_inside}
+use Rattle.fm_gate.specs.{declared.held.Hold.{Hold as TheHold}, Makers.{made_by_pass}, Needs.{IsOutside, CanVisit, CanUnhold}}
+use Rattle.fm_gate.{specs.Learnt.{AfterHold, AfterTake, AfterUnhold, DoesTake}, proofs.Outside.{swept_is, stands_outside, stands_inside}}
 use Rattle.fm_gate.proofs.Takes.{hold_full, hold_fine}
 
 abbrev err : Refusal → Result TheHold Refusal

@@ -1,11 +1,9 @@
 -- What a hold outlives.
 use Rattle.std.proofs.Common.{◌∙◌, sym, ap, subst, List}
-use Rattle.fm_base.specs.declared.arena_id.ArenaId.{ArenaId}
-use Rattle.fm_base.specs.Finds.{Rest}
+use Rattle.fm_base.specs.{declared.arena_id.ArenaId.{ArenaId}, Finds.{Rest}}
 use Rattle.fm_rule_facts.specs.Views.{In}
 use Rattle.fm_rule_calls.proofs.Going.{known_on}
-use Rattle.fm_gate.specs.Lasting.{HoldStands}
-use Rattle.fm_gate.proofs.Outside.{made_on, of_on}
+use Rattle.fm_gate.{specs.Lasting.{HoldStands}, proofs.Outside.{made_on, of_on}}
 
 -- The holds are among what the pass has.
 pub stands : HoldStands

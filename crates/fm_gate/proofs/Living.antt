@@ -1,15 +1,10 @@
 -- An arena that a pass holds is alive at each step of its calls.
 use Rattle.std.proofs.Common.{◌≡◌, ◌≢◌, ℕ, suc, Bool, true, false, if◌then◌else◌, List, [], ◌∷◌, ◌++◌, sym, refl, ap, ◌∙◌, subst, arith, All}
 use Rattle.std.proofs.lemmas.List.Elements.{All-nil, All-cons}
-use Rattle.fm_base.specs.declared.caller.Caller.{Caller}
-use Rattle.fm_base.specs.declared.arena_id.ArenaId.{ArenaId}
-use Rattle.fm_base.specs.Arenas.{Alive, Arena, State, has_arena, arena_of, are_one}
+use Rattle.fm_base.specs.{declared.{caller.Caller.{Caller}, arena_id.ArenaId.{ArenaId}}, Arenas.{Alive, Arena, State, has_arena, arena_of, are_one}}
 use Rattle.fm_base.specs.Calls.{Call, Enter, Write, SwapIf, Add, Allocate, Leave, Hold, Unhold, Shut, End, Reply, Fine, Closed, Found, Given, Entry, entry_of}
 use Rattle.fm_base.specs.Machine.{MayCall, reply_to, enter_reply, Change, Opens, Alters, Rests, made, change_of, after}
-use Rattle.fm_base.specs.Histories.{IsLegal, state_after, made_by}
-use Rattle.fm_base.specs.Finds.{Rest}
-use Rattle.fm_base.proofs.Lookup.{changed_lookup, arena_of-append}
-use Rattle.fm_base.proofs.Growing.{Grows-after}
+use Rattle.fm_base.{specs.{Histories.{IsLegal, state_after, made_by}, Finds.{Rest}}, proofs.{Lookup.{changed_lookup, arena_of-append}, Growing.{Grows-after}}}
 use Rattle.fm_base.proofs.Making.{IsLegal-split, state_after-append}
 use Rattle.fm_rule_facts.specs.Views.{View, In, IsAlive, grips, is_automatic, limit_of}
 use Rattle.fm_rule_calls.specs.Kept.{Goes, rest_of}

@@ -1,27 +1,14 @@
 -- What is learnt of opening an arena.
-use Rattle.std.proofs.Common.{◌≡◌, ℕ, Bool, true, if◌then◌else◌, List, [], ◌∷◌, refl, sym, ap, ◌∙◌, subst, inl}
-use Rattle.std.specs.Prelude.{Ok, Err}
-use Rattle.fm_base.specs.declared.caller.Caller.{Caller}
-use Rattle.fm_base.specs.declared.arena_id.ArenaId.{ArenaId}
-use Rattle.fm_base.specs.declared.kind.Kind.{Kind}
+use Rattle.std.{proofs.Common.{◌≡◌, ℕ, Bool, true, if◌then◌else◌, List, [], ◌∷◌, refl, sym, ap, ◌∙◌, subst, inl}, specs.Prelude.{Ok, Err}}
+use Rattle.fm_base.specs.{declared.{caller.Caller.{Caller}, arena_id.ArenaId.{ArenaId}, kind.Kind.{Kind}}, Calls.{Entry, Open, Fine, entry_of}}
+use Rattle.fm_base.proofs.Outcomes.{opened_new}
 use Rattle.fm_base.specs.declared.kind.Kind.TheVariants as kind
 use Rattle.fm_base.specs.declared.refusal.Refusal.TheVariants as refusal
-use Rattle.fm_base.specs.Calls.{Entry, Open, Fine, entry_of}
-use Rattle.fm_base.proofs.Outcomes.{opened_new}
-use Rattle.fm_rule_facts.specs.Hands.{Hand, nothing}
-use Rattle.fm_rule_facts.specs.Loans.{loans_of, loans_after}
-use Rattle.fm_rule_facts.specs.Views.{View, In}
-use Rattle.fm_rule_facts.specs.Holds.{is_automatic, handles_with}
-use Rattle.fm_rule_facts.proofs.Gripping.{automatic}
-use Rattle.fm_rule_facts.proofs.Lending.{loans_after-append}
+use Rattle.fm_rule_facts.specs.{Hands.{Hand, nothing}, Loans.{loans_of, loans_after}, Views.{View, In}, Holds.{is_automatic, handles_with}}
+use Rattle.fm_rule_facts.proofs.{Gripping.{automatic}, Lending.{loans_after-append}}
 use Rattle.fm_rule.specs.declared.pool.Pool.{Pool}
-use Rattle.fm_rule_calls.specs.Kept.{Goes, rest_of, slots_told}
-use Rattle.fm_rule_calls.specs.Told.{silent_view}
-use Rattle.fm_rule_calls.proofs.Going.{goes_then, lasts_on}
-use Rattle.fm_rule_calls.proofs.Telling.{silent_makes}
-use Rattle.fm_gate.specs.Needs.{IsOutside}
-use Rattle.fm_gate.specs.Slots.{SlotTaken, NoneTaken, OpenedIn}
-use Rattle.fm_gate.specs.Learnt.{IsNew, handles_opened, AfterOpen}
+use Rattle.fm_rule_calls.{specs.{Kept.{Goes, rest_of, slots_told}, Told.{silent_view}}, proofs.{Going.{goes_then, lasts_on}, Telling.{silent_makes}}}
+use Rattle.fm_gate.specs.{Needs.{IsOutside}, Slots.{SlotTaken, NoneTaken, OpenedIn}, Learnt.{IsNew, handles_opened, AfterOpen}}
 use Rattle.fm_gate.proofs.Outside.{of_on, stands_outside}
 
 -- What the pass has then is what it had, but for these handles: it has no slot.

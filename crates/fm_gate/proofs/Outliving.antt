@@ -1,23 +1,12 @@
 -- What a handle of an automatic arena outlives.
 use Rattle.std.proofs.Common.{◌≡◌, List, ◌∷◌, sym, ap, subst, arith, Result, Ok, Err, inr}
-use Rattle.fm_base.specs.declared.arena_id.ArenaId.{ArenaId}
-use Rattle.fm_base.specs.declared.kind.Kind.{Kind}
-use Rattle.fm_base.specs.declared.kind.Kind.TheVariants as kind
-use Rattle.fm_base.specs.declared.refusal.Refusal.{Refusal}
-use Rattle.fm_base.specs.Arenas.{same_id}
-use Rattle.fm_base.specs.Calls.{Entry}
-use Rattle.fm_base.specs.Finds.{Rest}
+use Rattle.fm_base.specs.{declared.{arena_id.ArenaId.{ArenaId}, kind.Kind.{Kind}, refusal.Refusal.{Refusal}}, Arenas.{same_id}, Calls.{Entry}, Finds.{Rest}}
 use Rattle.fm_base.proofs.Names.{same_id-self}
-use Rattle.fm_rule_facts.specs.Views.{View, In}
-use Rattle.fm_rule_facts.specs.Holds.{one_if, how_many}
-use Rattle.fm_rule_facts.proofs.Summing.{some_hold}
+use Rattle.fm_base.specs.declared.kind.Kind.TheVariants as kind
+use Rattle.fm_rule_facts.{specs.{Views.{View, In}, Holds.{one_if, how_many}}, proofs.Summing.{some_hold}}
 use Rattle.fm_rule.specs.declared.pool.Pool.{Pool}
-use Rattle.fm_rule_calls.specs.Kept.{Goes}
-use Rattle.fm_rule_calls.proofs.Going.{known_on}
-use Rattle.fm_gate.specs.Needs.{HasHandle}
-use Rattle.fm_gate.specs.Learnt.{handles_opened, handles_again}
-use Rattle.fm_gate.specs.HandleLaws.{HandleLasts}
-use Rattle.fm_gate.proofs.Outside.{of_on}
+use Rattle.fm_rule_calls.{specs.Kept.{Goes}, proofs.Going.{known_on}}
+use Rattle.fm_gate.{specs.{Needs.{HasHandle}, Learnt.{handles_opened, handles_again}, HandleLaws.{HandleLasts}}, proofs.Outside.{of_on}}
 
 -- A handle that the pass still has can still be used.
 pub has_on : (pool : Pool) {p q : View} {own : List Entry} (id : ArenaId) → Goes p q own → In id q.handles → HasHandle pool p id → HasHandle pool q id

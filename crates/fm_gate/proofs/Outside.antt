@@ -1,17 +1,10 @@
 -- Where a pass stands after a call.
 use Rattle.std.proofs.Common.{◌≡◌, ◌∙◌, ℕ, List, ap, Some, None}
-use Rattle.fm_base.specs.declared.arena_id.ArenaId.{ArenaId}
-use Rattle.fm_base.specs.Calls.{Entry}
-use Rattle.fm_base.specs.Finds.{Find}
-use Rattle.fm_rule_facts.specs.Hands.{nothing, no_number}
-use Rattle.fm_rule_facts.specs.Parts.{unread}
-use Rattle.fm_rule_facts.specs.Views.{View}
-use Rattle.fm_rule_facts.specs.Steps.{Stepped}
-use Rattle.fm_rule.specs.declared.pool.Pool.{Pool}
-use Rattle.fm_rule.specs.Passes.{IsOf}
+use Rattle.fm_base.specs.{declared.arena_id.ArenaId.{ArenaId}, Calls.{Entry}, Finds.{Find}}
+use Rattle.fm_rule_facts.specs.{Hands.{nothing, no_number}, Parts.{unread}, Views.{View}, Steps.{Stepped}}
+use Rattle.fm_rule.specs.{declared.pool.Pool.{Pool}, Passes.{IsOf}}
 use Rattle.fm_rule_calls.specs.Kept.{Goes}
-use Rattle.fm_gate.specs.Makers.{made_by_pass}
-use Rattle.fm_gate.specs.Needs.{IsOutside, IsInside}
+use Rattle.fm_gate.specs.{Makers.{made_by_pass}, Needs.{IsOutside, IsInside}}
 
 -- It is the maker that it was.
 pub made_on : {p q : View} {own : List Entry} → Goes p q own → made_by_pass q ≡ made_by_pass p

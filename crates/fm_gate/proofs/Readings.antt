@@ -2,14 +2,9 @@
 use Rattle.std.proofs.Common.{◌≡◌, ◌≢◌, ℕ, ◌+◌, ◌-◌, ◌*◌, ◌/◌, ◌==◌, ◌<◌, ◌≤◌, Bool, true, false, if◌then◌else◌, [], ◌∷◌, sym, refl, ap, subst, arith, inl, ne_eqb}
 use Rattle.std.proofs.lemmas.List.Elements.{All-nil}
 use Rattle.fm_base.specs.declared.arena_id.ArenaId.{ArenaId}
-use Rattle.fm_rule_facts.specs.Parts.{mapping_of, reads_after}
-use Rattle.fm_rule_facts.specs.Steps.{Stepped, none_noted}
-use Rattle.fm_rule_facts.specs.Views.{View, In, IsSound}
+use Rattle.fm_rule_facts.specs.{Parts.{mapping_of, reads_after}, Steps.{Stepped, none_noted}, Views.{View, In, IsSound}}
 use Rattle.fm_rule_calls.proofs.Going.{goes_none}
-use Rattle.fm_pages.specs.Covers.{LendsIn, page_bytes}
-use Rattle.fm_pages.specs.Maps.{Way}
-use Rattle.fm_pages.proofs.Parts.{way_then, way_read, pages_way}
-use Rattle.fm_pages.proofs.Ranges.{covering_all}
+use Rattle.fm_pages.{specs.{Covers.{LendsIn, page_bytes}, Maps.{Way}}, proofs.{Parts.{way_then, way_read, pages_way}, Ranges.{covering_all}}}
 use Rattle.fm_rule_steps.proofs.Reading.{eqb_true, eqb_false}
 use Rattle.fm_gate.specs.Giving.{HasRead}
 

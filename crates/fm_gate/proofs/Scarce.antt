@@ -1,15 +1,8 @@
 -- Whether pages are too few for an allocation.
 use Rattle.std.proofs.Common.{◌≡◌, ℕ, ◌+◌, ◌<◌, ◌≤◌, true, List, [], ap, sym, subst, ◌&&◌, arith}
 use Rattle.fm_words.specs.declared.shape.Shape.{Shape}
-use Rattle.fm_base.specs.declared.arena_id.ArenaId.{ArenaId}
-use Rattle.fm_base.specs.Arenas.{arena_of}
-use Rattle.fm_base.specs.Calls.{Entry}
-use Rattle.fm_base.specs.Histories.{state_after}
-use Rattle.fm_base.specs.Machine.{rounded_up}
-use Rattle.fm_rule_facts.specs.Hands.{nothing, slots_in}
-use Rattle.fm_rule_facts.specs.Loans.{Loan, loans_of}
-use Rattle.fm_rule_facts.specs.Scarcity.{IsScarce, parts_before, lacking}
-use Rattle.fm_rule_facts.specs.Steps.{is_clear, is_empty}
+use Rattle.fm_base.specs.{declared.arena_id.ArenaId.{ArenaId}, Arenas.{arena_of}, Calls.{Entry}, Histories.{state_after}, Machine.{rounded_up}}
+use Rattle.fm_rule_facts.specs.{Hands.{nothing, slots_in}, Loans.{Loan, loans_of}, Scarcity.{IsScarce, parts_before, lacking}, Steps.{is_clear, is_empty}}
 use Rattle.fm_rule_facts.specs.Views.{View, given_of, limit_of, unlent}
 use Rattle.fm_rule_calls.specs.Kept.{Goes}
 use Rattle.fm_pages.specs.Claims.{AllFoundEmpty, FoundEmpty}

@@ -1,22 +1,13 @@
 -- The exchanges that take a hold.
 use Rattle.std.proofs.Common.{◌≡◌, ◌≢◌, ℕ, ◌==◌, Bool, true, false, if◌then◌else◌, [], ◌∷◌, refl, ap, sym, ◌∙◌, subst, Some, None, eq-eqb, ne_eqb}
-use Rattle.fm_base.specs.declared.caller.Caller.{Caller}
-use Rattle.fm_base.specs.declared.arena_id.ArenaId.{ArenaId}
-use Rattle.fm_base.specs.Arenas.{MayUse}
-use Rattle.fm_rule.specs.declared.pool.Pool.{Pool}
-use Rattle.fm_rule.specs.Passes.{IsOf}
-use Rattle.fm_base.specs.Calls.{Hold, Reply, Fine, TooManyHolds, entry_of}
+use Rattle.fm_base.specs.{declared.{caller.Caller.{Caller}, arena_id.ArenaId.{ArenaId}}, Arenas.{MayUse}, Calls.{Hold, Reply, Fine, TooManyHolds, entry_of}}
 use Rattle.fm_base.specs.Machine.{most_holds}
-use Rattle.fm_rule_facts.specs.Views.{View, In}
-use Rattle.fm_rule_facts.specs.Words.{alive_holds, hold_found}
-use Rattle.fm_rule_facts.specs.Holds.{grips, with_grips, holds_after}
-use Rattle.fm_rule_facts.specs.Steps.{Stepped, none_noted, where_found}
-use Rattle.fm_rule_facts.proofs.Gripping.{with_same}
-use Rattle.fm_rule_calls.specs.Kept.{Goes, rest_of}
-use Rattle.fm_rule_calls.proofs.Going.{no_draws, made_by-one, rest_is, hand_is, inside_is, mark_is, goes_step}
+use Rattle.fm_rule.specs.{declared.pool.Pool.{Pool}, Passes.{IsOf}}
+use Rattle.fm_rule_facts.specs.{Views.{View, In}, Words.{alive_holds, hold_found}, Holds.{grips, with_grips, holds_after}}
+use Rattle.fm_rule_facts.{specs.Steps.{Stepped, none_noted, where_found}, proofs.Gripping.{with_same}}
+use Rattle.fm_rule_calls.{specs.Kept.{Goes, rest_of}, proofs.Going.{no_draws, made_by-one, rest_is, hand_is, inside_is, mark_is, goes_step}}
 use Rattle.fm_rule_calls.proofs.Waiting.{Waited, waits_on}
-use Rattle.fm_gate.specs.Learnt.{AfterTake}
-use Rattle.fm_gate.proofs.Outside.{swept_is}
+use Rattle.fm_gate.{specs.Learnt.{AfterTake}, proofs.Outside.{swept_is}}
 
 -- A pass that has waited is still one of its pool.
 pub waited_of : (pool : Pool) {o p : View} → Waited o p → IsOf pool o → IsOf pool p

@@ -1,16 +1,11 @@
 -- Tries on a word.
 use Rattle.std.proofs.Common.{◌≡◌, ◌≢◌, ℕ, ◌*◌, ◌<◌, ◌≤◌, List, [], ◌∷◌, refl, ap, sym, ◌∙◌, subst, Option, Some, arith}
-use Rattle.fm_base.specs.declared.caller.Caller.{Caller}
-use Rattle.fm_base.specs.declared.arena_id.ArenaId.{ArenaId}
-use Rattle.fm_base.specs.Calls.{Call, Read, SwapIf, Reply, Found, Entry, entry_of}
-use Rattle.fm_base.specs.Does.{DoesAct, DoesPatch, patched}
-use Rattle.fm_base.specs.Visits.{Acts, entries_of, Tries, looked, missed, hit}
+use Rattle.fm_base.specs.{declared.{caller.Caller.{Caller}, arena_id.ArenaId.{ArenaId}}, Calls.{Call, Read, SwapIf, Reply, Found, Entry, entry_of}}
+use Rattle.fm_base.specs.{Does.{DoesAct, DoesPatch, patched}, Visits.{Acts, entries_of, Tries, looked, missed, hit}}
 use Rattle.fm_rule_facts.specs.Views.{View, given_of}
 use Rattle.fm_rule.specs.declared.pool.Pool.{Pool}
-use Rattle.fm_rule_calls.specs.Kept.{Goes, rest_of, Lasts}
-use Rattle.fm_rule_calls.proofs.Going.{goes_then, lasts_on}
-use Rattle.fm_gate.specs.Needs.{IsInside, CanReach}
-use Rattle.fm_gate.specs.Learnt.{AfterAct, AfterPatch}
+use Rattle.fm_rule_calls.{specs.Kept.{Goes, rest_of, Lasts}, proofs.Going.{goes_then, lasts_on}}
+use Rattle.fm_gate.specs.{Needs.{IsInside, CanReach}, Learnt.{AfterAct, AfterPatch}}
 
 -- What one act did where it is known which arena the pass is inside.
 record DidOne (p q : View) (id : ArenaId) (call : ArenaId → Call) (reply : Reply) : Type 0 where

@@ -2,34 +2,16 @@
 use Rattle.std.proofs.Common.{◌≡◌, ℕ, ◌+◌, ◌*◌, ◌/◌, ◌<◌, ◌≤◌, true, List, [], ◌∷◌, ◌++◌, refl, ap, ◌∙◌, subst, inl, inr, ⊎_elim, Option, Result, Ok, append_assoc}
 use Rattle.std.proofs.lemmas.List.Elements.{filter-append}
 use Rattle.fm_words.specs.declared.shape.Shape.{Shape}
-use Rattle.fm_base.specs.declared.caller.Caller.{Caller}
-use Rattle.fm_base.specs.declared.arena_id.ArenaId.{ArenaId}
-use Rattle.fm_base.specs.declared.refusal.Refusal.{Refusal}
-use Rattle.fm_base.specs.Arenas.{State, arena_of}
-use Rattle.fm_base.specs.Calls.{Enter, Leave, Lend, Fine, Entry, entry_of}
-use Rattle.fm_base.specs.Does.{DoesAct, DoesAllocate}
-use Rattle.fm_base.specs.Finds.{Rest}
-use Rattle.fm_base.specs.Histories.{made_by, state_after}
-use Rattle.fm_base.specs.Machine.{IsPower, entered, rounded_up}
-use Rattle.fm_base.specs.View.{but_loans, is_loan}
-use Rattle.fm_base.proofs.Learning.{allocate_gives}
-use Rattle.fm_base.proofs.Lookup.{changed_lookup}
+use Rattle.fm_base.specs.{declared.{caller.Caller.{Caller}, arena_id.ArenaId.{ArenaId}, refusal.Refusal.{Refusal}}, Arenas.{State, arena_of}}
+use Rattle.fm_base.specs.{Calls.{Enter, Leave, Lend, Fine, Entry, entry_of}, Does.{DoesAct, DoesAllocate}, Finds.{Rest}, Histories.{made_by, state_after}}
+use Rattle.fm_base.{specs.{Machine.{IsPower, entered, rounded_up}, View.{but_loans, is_loan}}, proofs.{Learning.{allocate_gives}, Lookup.{changed_lookup}}}
 use Rattle.fm_base.proofs.Making.{state_after-append}
-use Rattle.fm_rule_facts.specs.Loans.{loans_of}
-use Rattle.fm_rule_facts.specs.Views.{View, In, given_of, limit_of, state_in}
-use Rattle.fm_rule_facts.proofs.Keeping.{in_append}
-use Rattle.fm_rule_facts.proofs.Lending.{loans_after-append}
+use Rattle.fm_rule_facts.{specs.{Loans.{loans_of}, Views.{View, In, given_of, limit_of, state_in}}, proofs.{Keeping.{in_append}, Lending.{loans_after-append}}}
 use Rattle.fm_rule.specs.declared.pool.Pool.{Pool}
-use Rattle.fm_rule_calls.specs.Kept.{Goes, Kept}
-use Rattle.fm_rule_calls.specs.Told.{view_of_pass}
-use Rattle.fm_rule_calls.proofs.Going.{goes_then, lasts_on}
-use Rattle.fm_rule_calls.proofs.Sweeps.{no_sweeps}
-use Rattle.fm_rule_calls.proofs.Telling.{did_of}
+use Rattle.fm_rule_calls.{specs.{Kept.{Goes, Kept}, Told.{view_of_pass}}, proofs.{Going.{goes_then, lasts_on}, Sweeps.{no_sweeps}, Telling.{did_of}}}
 use Rattle.fm_pages.proofs.Looking.{all_earlier, found_later}
-use Rattle.fm_gate.specs.Giving.{AfterGive, DoesGive, NonePaged}
-use Rattle.fm_gate.specs.Learnt.{AfterEnter, AfterLeave, AfterAllocate}
-use Rattle.fm_gate.specs.Pages.{FoundNoPage, IsDuring, IsInRange, LendsInRange, given_after}
-use Rattle.fm_gate.proofs.Allocations.{alike, exact_by, never_so, unlike}
+use Rattle.fm_gate.specs.{Giving.{AfterGive, DoesGive, NonePaged}, Learnt.{AfterEnter, AfterLeave, AfterAllocate}}
+use Rattle.fm_gate.{specs.Pages.{FoundNoPage, IsDuring, IsInRange, LendsInRange, given_after}, proofs.Allocations.{alike, exact_by, never_so, unlike}}
 
 -- ---- no page was free
 

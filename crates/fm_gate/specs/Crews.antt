@@ -1,16 +1,10 @@
 -- Where passes stand once others are drawn from them, met and gathered.
 use Rattle.std.specs.Prelude.{◌≡◌, List, [], Bool}
-use Rattle.fm_base.specs.declared.arena_id.ArenaId.{ArenaId}
-use Rattle.fm_base.specs.Calls.{Entry}
-use Rattle.fm_rule_facts.specs.Views.{View, IsSound}
-use Rattle.fm_rule_facts.specs.Steps.{Stepped, none_noted}
-use Rattle.fm_rule_facts.specs.Hands.{no_number}
-use Rattle.fm_rule.specs.declared.pool.Pool.{Pool}
-use Rattle.fm_rule.specs.Passes.{IsOf, GoesOnFrom}
-use Rattle.fm_rule.specs.Draws.{Drawn, NoneDrawn, Looked, CanGather, Gathers}
+use Rattle.fm_base.specs.{declared.arena_id.ArenaId.{ArenaId}, Calls.{Entry}}
+use Rattle.fm_rule_facts.specs.{Views.{View, IsSound}, Steps.{Stepped, none_noted}, Hands.{no_number}}
+use Rattle.fm_rule.specs.{declared.pool.Pool.{Pool}, Passes.{IsOf, GoesOnFrom}, Draws.{Drawn, NoneDrawn, Looked, CanGather, Gathers}}
 use Rattle.fm_rule_calls.specs.Kept.{Goes, Lasts, rest_of}
-use Rattle.fm_gate.specs.declared.held.Hold.{Hold}
-use Rattle.fm_gate.specs.Needs.{IsOutside, IsInside, CanUnhold}
+use Rattle.fm_gate.specs.{declared.held.Hold.{Hold}, Needs.{IsOutside, IsInside, CanUnhold}}
 
 -- no hold, handle or page, and no close that isn't swept
 pub record HasNothing (p : View) : Type 0 where

@@ -1,20 +1,13 @@
 -- What the parts of `allocate` do inside the arena.
 use Rattle.std.specs.Prelude.{◌≡◌, ◌≤◌, ◌+◌, ◌++◌, ℕ, Bool, true, false, List, [], ◌∷◌, All, Result, Ok, Err, ⊤}
-use Rattle.fm_base.specs.declared.caller.Caller.{Caller}
-use Rattle.fm_base.specs.declared.arena_id.ArenaId.{ArenaId}
-use Rattle.fm_base.specs.declared.refusal.Refusal.{Refusal}
+use Rattle.fm_base.specs.declared.{caller.Caller.{Caller}, arena_id.ArenaId.{ArenaId}, refusal.Refusal.{Refusal}}
+use Rattle.fm_base.specs.{Calls.{Lend, Allocate, Reply, Fine, Given, NoRoom, Entry, entry_of}, Machine.{rounded_up}, View.{is_loan}}
 use Rattle.fm_base.specs.declared.refusal.Refusal.TheVariants as refusal
-use Rattle.fm_base.specs.Calls.{Lend, Allocate, Reply, Fine, Given, NoRoom, Entry, entry_of}
-use Rattle.fm_base.specs.Machine.{rounded_up}
-use Rattle.fm_base.specs.View.{is_loan}
-use Rattle.fm_rule_facts.specs.Views.{View, In, limit_of}
-use Rattle.fm_rule_facts.specs.Steps.{HasParts}
+use Rattle.fm_rule_facts.specs.{Views.{View, In, limit_of}, Steps.{HasParts}}
 use Rattle.fm_rule.specs.declared.pool.Pool.{Pool}
 use Rattle.fm_rule_calls.specs.Kept.{Kept}
-use Rattle.fm_pages.specs.Claims.{AllFoundEmpty}
-use Rattle.fm_pages.specs.Maps.{Way}
-use Rattle.fm_gate.specs.Pages.{LackedPart, FullExactly, LendsInRange}
-use Rattle.fm_gate.specs.Needs.{IsInside}
+use Rattle.fm_pages.specs.{Claims.{AllFoundEmpty}, Maps.{Way}}
+use Rattle.fm_gate.specs.{Pages.{LackedPart, FullExactly, LendsInRange}, Needs.{IsInside}}
 
 -- ---- the count to expect first
 

@@ -1,15 +1,10 @@
 -- What a handle of an automatic arena outlives.
 use Rattle.std.specs.Prelude.{◌≡◌, ◌<◌, List, Result, Ok}
-use Rattle.fm_base.specs.declared.arena_id.ArenaId.{ArenaId}
-use Rattle.fm_base.specs.declared.kind.Kind.{Kind}
-use Rattle.fm_base.specs.declared.refusal.Refusal.{Refusal}
-use Rattle.fm_base.specs.Calls.{Entry}
-use Rattle.fm_rule_facts.specs.Views.{View}
-use Rattle.fm_rule_facts.specs.Holds.{how_many}
+use Rattle.fm_base.specs.{declared.{arena_id.ArenaId.{ArenaId}, kind.Kind.{Kind}, refusal.Refusal.{Refusal}}, Calls.{Entry}}
+use Rattle.fm_rule_facts.specs.{Views.{View}, Holds.{how_many}}
 use Rattle.fm_rule.specs.declared.pool.Pool.{Pool}
 use Rattle.fm_rule_calls.specs.Kept.{Goes}
-use Rattle.fm_gate.specs.Needs.{HasHandle}
-use Rattle.fm_gate.specs.Learnt.{AfterOpen, AfterAgain}
+use Rattle.fm_gate.specs.{Needs.{HasHandle}, Learnt.{AfterOpen, AfterAgain}}
 
 -- a pass that goes on and has the handles that it had can still use each of them
 abbrev pub HandleStands : Type 0

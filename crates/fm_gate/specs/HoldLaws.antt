@@ -1,16 +1,10 @@
 -- Which holds a pass can spend beside others that it took or spent.
 use Rattle.std.specs.Prelude.{◌≡◌, ◌≢◌, ◌<◌, List, Result, IfOk}
-use Rattle.fm_base.specs.declared.arena_id.ArenaId.{ArenaId}
-use Rattle.fm_base.specs.declared.refusal.Refusal.{Refusal}
-use Rattle.fm_base.specs.Calls.{Entry}
-use Rattle.fm_base.specs.Finds.{Close}
-use Rattle.fm_rule_facts.specs.Views.{View}
-use Rattle.fm_rule_facts.specs.Holds.{how_many}
+use Rattle.fm_base.specs.{declared.{arena_id.ArenaId.{ArenaId}, refusal.Refusal.{Refusal}}, Calls.{Entry}, Finds.{Close}}
+use Rattle.fm_rule_facts.specs.{Views.{View}, Holds.{how_many}}
 use Rattle.fm_rule.specs.declared.pool.Pool.{Pool}
 use Rattle.fm_rule_calls.specs.Kept.{Goes, rest_of}
-use Rattle.fm_gate.specs.declared.held.Hold.{Hold}
-use Rattle.fm_gate.specs.Needs.{CanUnhold}
-use Rattle.fm_gate.specs.Learnt.{AfterHold, AfterUnhold}
+use Rattle.fm_gate.specs.{declared.held.Hold.{Hold}, Needs.{CanUnhold}, Learnt.{AfterHold, AfterUnhold}}
 
 -- two holds of one arena
 pub record HasBoth (pool : Pool) (p : View) (a b : Hold) : Type 0 where

@@ -1,27 +1,16 @@
 -- What the caller of each call of the gate learns: one record each.
 use Rattle.std.specs.Prelude.{◌≡◌, ◌≢◌, ℕ, ◌<◌, ◌≤◌, length, Bool, List, [], ◌∷◌, true, None, Result, Ok, Err, IfOk, IfErr}
-use Rattle.fm_base.specs.declared.caller.Caller.{Caller}
-use Rattle.fm_base.specs.declared.arena_id.ArenaId.{ArenaId}
-use Rattle.fm_base.specs.declared.kind.Kind.{Kind}
-use Rattle.fm_base.specs.declared.kind.Kind.TheVariants.{Automatic}
-use Rattle.fm_base.specs.declared.refusal.Refusal.{Refusal}
-use Rattle.fm_base.specs.declared.refusal.Refusal.TheVariants.{WrongThread, NoSlot}
-use Rattle.fm_base.specs.declared.refusal.Refusal.TheVariants as refusal
-use Rattle.fm_base.specs.Calls.{Call, Enter, Hold as Holding, Leave, Reply, Fine, Entry, entry_of}
+use Rattle.fm_base.specs.declared.{caller.Caller.{Caller}, arena_id.ArenaId.{ArenaId}, kind.Kind.{Kind, TheVariants.{Automatic}}, refusal.Refusal.{Refusal}}
+use Rattle.fm_base.specs.{declared.refusal.Refusal.TheVariants.{WrongThread, NoSlot}, Calls.{Call, Enter, Hold as Holding, Leave, Reply, Fine, Entry, entry_of}}
 use Rattle.fm_base.specs.Finds.{FoundNothing, is_slot}
-use Rattle.fm_base.specs.Does.{DoesEnter, DoesAct, DoesPatch, DoesOpen, DoesAllocate, DoesIsAlive, DoesHold, DoesUnhold, DoesAgain}
-use Rattle.fm_base.specs.Outcomes.{Gives}
+use Rattle.fm_base.specs.{Does.{DoesEnter, DoesAct, DoesPatch, DoesOpen, DoesAllocate, DoesIsAlive, DoesHold, DoesUnhold, DoesAgain}, Outcomes.{Gives}}
 use Rattle.fm_base.specs.View.{but_loans, is_loan}
-use Rattle.fm_rule_facts.specs.Views.{View, In, IsKnown, IsBusy}
-use Rattle.fm_rule_facts.specs.Loans.{loans_of}
-use Rattle.fm_rule_facts.specs.Holds.{grips, with_grips, holds_after, released}
+use Rattle.fm_base.specs.declared.refusal.Refusal.TheVariants as refusal
+use Rattle.fm_rule_facts.specs.{Views.{View, In, IsKnown, IsBusy}, Loans.{loans_of}, Holds.{grips, with_grips, holds_after, released}}
 use Rattle.fm_rule_facts.specs.Words.{alive_holds, hold_found}
 use Rattle.fm_rule.specs.declared.pool.Pool.{Pool}
-use Rattle.fm_rule_calls.specs.Kept.{Goes, Kept, KeptHolding, KeptHandling, Lasts, rest_of}
-use Rattle.fm_rule_calls.specs.Told.{view_of_pass}
-use Rattle.fm_gate.specs.Pages.{FoundNoPage, FullExactly, LendsInRange}
-use Rattle.fm_gate.specs.Needs.{IsOutside, IsInside, CanUnhold, HasHandle}
-use Rattle.fm_gate.specs.declared.held.Hold.{Hold}
+use Rattle.fm_rule_calls.specs.{Kept.{Goes, Kept, KeptHolding, KeptHandling, Lasts, rest_of}, Told.{view_of_pass}}
+use Rattle.fm_gate.specs.{Pages.{FoundNoPage, FullExactly, LendsInRange}, Needs.{IsOutside, IsInside, CanUnhold, HasHandle}, declared.held.Hold.{Hold}}
 
 -- of `enter`
 pub record AfterEnter (pool : Pool) (old new : View) (id : ArenaId) (result : Result (Unit {0}) Refusal) : Type 0 where

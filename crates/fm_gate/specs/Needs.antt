@@ -1,14 +1,9 @@
 -- Where a pass of a pool stands between two calls, and what a call asks for.
 use Rattle.std.specs.Prelude.{◌≡◌, ◌≢◌, ◌<◌, ◌*◌, ℕ, [], bit_and, Some, None}
-use Rattle.fm_base.specs.declared.arena_id.ArenaId.{ArenaId}
-use Rattle.fm_base.specs.declared.kind.Kind.TheVariants.{Automatic}
-use Rattle.fm_rule_facts.specs.Hands.{nothing, no_number}
-use Rattle.fm_rule_facts.specs.Parts.{unread}
-use Rattle.fm_rule_facts.specs.Views.{View, In, IsKnown, given_of}
-use Rattle.fm_rule.specs.declared.pool.Pool.{Pool}
-use Rattle.fm_rule.specs.Passes.{IsOf}
-use Rattle.fm_gate.specs.declared.held.Hold.{Hold}
-use Rattle.fm_gate.specs.Makers.{made_by_pass}
+use Rattle.fm_base.specs.declared.{arena_id.ArenaId.{ArenaId}, kind.Kind.TheVariants.{Automatic}}
+use Rattle.fm_rule_facts.specs.{Hands.{nothing, no_number}, Parts.{unread}, Views.{View, In, IsKnown, given_of}}
+use Rattle.fm_rule.specs.{declared.pool.Pool.{Pool}, Passes.{IsOf}}
+use Rattle.fm_gate.specs.{declared.held.Hold.{Hold}, Makers.{made_by_pass}}
 
 -- in no arena; it publishes no mark, has no number and no slot in its hand, and is at no part of a sweep
 pub record IsOutside (pool : Pool) (p : View) : Type 0 where

@@ -1,15 +1,9 @@
 -- Where an allocation finds no page.
 use Rattle.std.specs.Prelude.{◌≡◌, ◌<◌, ◌≤◌, ◌+◌, ◌*◌, ◌/◌, ℕ, List, [], ◌∷◌, ◌++◌, Result, Ok, Err, ⊤}
-use Rattle.fm_base.specs.declared.arena_id.ArenaId.{ArenaId}
-use Rattle.fm_base.specs.declared.refusal.Refusal.{Refusal}
+use Rattle.fm_base.specs.{declared.{arena_id.ArenaId.{ArenaId}, refusal.Refusal.{Refusal}}, Arenas.{arena_of}, Calls.{Entry, Lend, Leave, Fine, entry_of}}
+use Rattle.fm_base.specs.{Histories.{made_by, state_after}, Machine.{rounded_up}}
 use Rattle.fm_base.specs.declared.refusal.Refusal.TheVariants as refusal
-use Rattle.fm_base.specs.Arenas.{arena_of}
-use Rattle.fm_base.specs.Calls.{Entry, Lend, Leave, Fine, entry_of}
-use Rattle.fm_base.specs.Histories.{made_by, state_after}
-use Rattle.fm_base.specs.Machine.{rounded_up}
-use Rattle.fm_rule_facts.specs.Loans.{HasPart, loans_of}
-use Rattle.fm_rule_facts.specs.Scarcity.{IsScarce}
-use Rattle.fm_rule_facts.specs.Views.{View, Begins, limit_of}
+use Rattle.fm_rule_facts.specs.{Loans.{HasPart, loans_of}, Scarcity.{IsScarce}, Views.{View, Begins, limit_of}}
 use Rattle.fm_pages.specs.Claims.{AllFoundEmpty}
 
 -- how many bytes the arena had given after these entries

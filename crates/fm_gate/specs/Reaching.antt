@@ -1,10 +1,8 @@
 -- How the place of a word is found.
 use Rattle.std.specs.Prelude.{◌≡◌, ℕ, List}
 use Rattle.fm_base.specs.Calls.{Entry}
-use Rattle.fm_rule_facts.specs.Views.{View}
-use Rattle.fm_rule_facts.specs.Steps.{CanReach as HasGiven, HasPlace}
-use Rattle.fm_rule.specs.declared.pool.Pool.{Pool}
-use Rattle.fm_rule.specs.Passes.{IsOf}
+use Rattle.fm_rule_facts.specs.{Views.{View}, Steps.{CanReach as HasGiven, HasPlace}}
+use Rattle.fm_rule.specs.{declared.pool.Pool.{Pool}, Passes.{IsOf}}
 use Rattle.fm_rule_calls.specs.Kept.{Goes}
 
 -- The pass has come from the old view to the new one without entries, and has read no more than map words: where it goes from there it goes from the old one

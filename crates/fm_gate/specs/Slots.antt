@@ -1,13 +1,8 @@
 -- What taking a slot does to a pass.
 use Rattle.std.specs.Prelude.{◌≡◌, ◌<◌, ◌≤◌, ℕ, true, [], ◌∷◌, length}
-use Rattle.fm_base.specs.declared.arena_id.ArenaId.{ArenaId}
-use Rattle.fm_base.specs.declared.kind.Kind.{Kind}
-use Rattle.fm_base.specs.Arenas.{owner_of}
-use Rattle.fm_base.specs.Calls.{Open, Fine, entry_of}
+use Rattle.fm_base.specs.{declared.{arena_id.ArenaId.{ArenaId}, kind.Kind.{Kind}}, Arenas.{owner_of}, Calls.{Open, Fine, entry_of}}
 use Rattle.fm_base.specs.Finds.{FoundNothing, is_slot}
-use Rattle.fm_rule_facts.specs.Hands.{Hand, nothing, taken}
-use Rattle.fm_rule_facts.specs.Views.{View, IsBusy}
-use Rattle.fm_rule_facts.specs.Holds.{handles_with}
+use Rattle.fm_rule_facts.specs.{Hands.{Hand, nothing, taken}, Views.{View, IsBusy}, Holds.{handles_with}}
 use Rattle.fm_rule_calls.specs.Kept.{Goes}
 use Rattle.fm_gate.specs.Learnt.{AllBusy}
 

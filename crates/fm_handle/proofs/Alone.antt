@@ -1,13 +1,10 @@
 -- Where a handle's value stands.
 use Rattle.std.proofs.Common.{◌≡◌, ℕ, inl, inr, Bool, true, false, if◌then◌else◌, List, length, Result, Ok, Err, refl, sym, ◌∙◌}
-use Rattle.fm_base.specs.declared.refusal.Refusal.{Refusal}
-use Rattle.fm_base.specs.declared.refusal.Refusal.TheVariants.{IndexOut, ReadOnly, Unsupported}
-use Rattle.fm_path.specs.declared.value_spec.ValueSpec.{ValueSpec}
-use Rattle.fm_path.specs.Resolution.{Resolution}
+use Rattle.fm_base.specs.declared.refusal.Refusal.{Refusal, TheVariants.{IndexOut, ReadOnly, Unsupported}}
+use Rattle.fm_path.specs.{declared.value_spec.ValueSpec.{ValueSpec}, Resolution.{Resolution}}
 use Rattle.fm_segment_access.proofs.Causes.{never}
 use Rattle.fm_segment.specs.Region.{Region}
-use Rattle.fm_handle.specs.Place.{if_rooted, if_supported, if_writable, place_of, writable_place_of, update_place_of, value_place}
-use Rattle.fm_handle.proofs.Causes.{tested}
+use Rattle.fm_handle.{specs.Place.{if_rooted, if_supported, if_writable, place_of, writable_place_of, update_place_of, value_place}, proofs.Causes.{tested}}
 use Rattle.fm_handle.proofs.Places.{admitted, rooted_is}
 
 -- ---- where the value stands

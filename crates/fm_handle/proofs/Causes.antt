@@ -1,15 +1,9 @@
 -- Why calls are refused, and where a value stands.
 use Rattle.std.proofs.Common.{◌≡◌, ℕ, ◌+◌, ◌⊎◌, inl, inr, Bool, if◌then◌else◌, length, Result, Ok, Err, List, [], ◌∷◌, refl, ap, ◌∙◌, arith}
 use Rattle.std.proofs.lemmas.Bool.{cases_lt, lt-ltb, le-ltb}
-use Rattle.fm_base.specs.declared.caller.Caller.{Caller}
-use Rattle.fm_base.specs.declared.arena_id.ArenaId.{ArenaId}
-use Rattle.fm_base.specs.declared.refusal.Refusal.{Refusal}
-use Rattle.fm_base.specs.declared.refusal.Refusal.TheVariants.{Closed, IndexOut}
-use Rattle.fm_path.specs.declared.value_spec.ValueSpec.{ValueSpec}
-use Rattle.fm_path.specs.Resolution.{Resolution}
-use Rattle.fm_path_meaning.specs.declared.dim.Dim.{Dim}
-use Rattle.fm_path_meaning.specs.Found.{IsFirstOut}
-use Rattle.fm_path_meaning.specs.Walk.{AreAdmitted}
+use Rattle.fm_base.specs.declared.{caller.Caller.{Caller}, arena_id.ArenaId.{ArenaId}, refusal.Refusal.{Refusal, TheVariants.{Closed, IndexOut}}}
+use Rattle.fm_path.specs.{declared.value_spec.ValueSpec.{ValueSpec}, Resolution.{Resolution}}
+use Rattle.fm_path_meaning.specs.{declared.dim.Dim.{Dim}, Found.{IsFirstOut}, Walk.{AreAdmitted}}
 use Rattle.fm_segment_access.proofs.Causes.{Causes, place_causes, placed_causes, placed_ok, write_causes, support_causes, tested_causes}
 use Rattle.fm_segment.specs.Region.{Region}
 use Rattle.fm_handle.specs.Causes.{RootFits, RootIsAligned, RootCause, IndexCause, GetCause, SetCause, UpdateCause}

@@ -1,39 +1,20 @@
 -- What a caller learns of a handle's calls, from what they did.
 use Rattle.std.proofs.Common.{◌≡◌, ◌≢◌, ℕ, ℤ, Bool, true, MatchBool, List, length, SFits, w64, sym, ap, subst, ◌∙◌, None, Result, Ok, Err}
-use Rattle.fm_base.specs.declared.caller.Caller.{Caller}
-use Rattle.fm_base.specs.declared.arena_id.ArenaId.{ArenaId}
-use Rattle.fm_base.specs.declared.refusal.Refusal.{Refusal}
-use Rattle.fm_base.specs.Calls.{Entry}
-use Rattle.fm_base.specs.View.{View, Did, IsByItself, inside_after}
-use Rattle.fm_base.specs.Visits.{Acts}
-use Rattle.fm_base.proofs.Running.{visit_ends_outside}
-use Rattle.fm_lanes.specs.declared.order.Order.{Order}
-use Rattle.fm_lanes.specs.declared.value.Value.{Value}
-use Rattle.fm_lanes.specs.Value.{kind_of}
-use Rattle.fm_path.specs.declared.value_spec.ValueSpec.{ValueSpec}
-use Rattle.fm_path.specs.Resolution.{Resolution}
-use Rattle.fm_segment_access.specs.Found.{DoesAt}
-use Rattle.fm_segment_access.proofs.Causes.{entering}
-use Rattle.fm_segment_access.proofs.Learning.{IsCall, after_at, after_get_at, after_put_at, after_said}
-use Rattle.fm_segment_access.proofs.Outside.{EndsOutside, enter_outside}
-use Rattle.fm_segment_access.proofs.Values.{kind_of-decoded}
-use Rattle.fm_segment.specs.Access.{IsKnown}
-use Rattle.fm_segment.specs.Learnt.{KnowsSegment}
-use Rattle.fm_segment.specs.Region.{Region}
-use Rattle.fm_segment.proofs.Access.{known_still}
+use Rattle.fm_base.specs.{declared.{caller.Caller.{Caller}, arena_id.ArenaId.{ArenaId}, refusal.Refusal.{Refusal}}, Calls.{Entry}}
+use Rattle.fm_base.{specs.{View.{View, Did, IsByItself, inside_after}, Visits.{Acts}}, proofs.Running.{visit_ends_outside}}
+use Rattle.fm_lanes.specs.{declared.{order.Order.{Order}, value.Value.{Value}}, Value.{kind_of}}
+use Rattle.fm_path.specs.{declared.value_spec.ValueSpec.{ValueSpec}, Resolution.{Resolution}}
+use Rattle.fm_segment_access.{specs.Found.{DoesAt}, proofs.{Causes.{entering}, Learning.{IsCall, after_at, after_get_at, after_put_at, after_said}}}
+use Rattle.fm_segment_access.proofs.{Outside.{EndsOutside, enter_outside}, Values.{kind_of-decoded}}
+use Rattle.fm_segment.{specs.{Access.{IsKnown}, Learnt.{KnowsSegment}, Region.{Region}}, proofs.Access.{known_still}}
 use Rattle.fm_handle.specs.Access.{DoesVisit, DoesGet, DoesSet, DoesSetLong, DoesExchangeLong, DoesAddLong, DoesExchange, DoesAdd}
-use Rattle.fm_handle.specs.Acts.{Stores, ExchangesLong, AddsLong, Exchanges, puts, finds_another, Adds, word_of}
-use Rattle.fm_handle.specs.Alone.{FindsValue, PutsValue}
+use Rattle.fm_handle.specs.{Acts.{Stores, ExchangesLong, AddsLong, Exchanges, puts, finds_another, Adds, word_of}, Alone.{FindsValue, PutsValue}}
 use Rattle.fm_handle.specs.Causes.{UpdateCause}
 use Rattle.fm_handle.specs.Learnt.{CanCall, CanPut, CanExchange, AfterGet, AfterSet, AfterUpdate, AfterCompareAndSet, AfterExchange, AfterAdd, AfterSetLong, AfterExchangeLong, AfterAddLong}
 use Rattle.fm_handle.specs.Place.{FindsWhere, ValueStands, place_of, writable_place_of, update_place_of, value_place, can_update, fills_word, is_word}
-use Rattle.fm_handle.proofs.Alone.{place_is, writable_place_is, update_place_is}
-use Rattle.fm_handle.proofs.Causes.{get_causes, set_causes, update_causes}
-use Rattle.fm_handle.proofs.Longs.{exchange_long_alone, add_long_alone}
-use Rattle.fm_handle.proofs.Places.{in_one_word, whole_word, word_parts}
-use Rattle.fm_handle.proofs.Updating.{visit_shut, exchange_alone, expected_set, add_alone, store_alone}
-use Rattle.fm_handle.proofs.Visiting.{reaches, won, not_made}
-use Rattle.fm_handle.proofs.Words.{word_means}
+use Rattle.fm_handle.proofs.{Alone.{place_is, writable_place_is, update_place_is}, Causes.{get_causes, set_causes, update_causes}}
+use Rattle.fm_handle.proofs.{Longs.{exchange_long_alone, add_long_alone}, Places.{in_one_word, whole_word, word_parts}}
+use Rattle.fm_handle.proofs.{Updating.{visit_shut, exchange_alone, expected_set, add_alone, store_alone}, Visiting.{reaches, won, not_made}, Words.{word_means}}
 
 module _ {old new : View} {h : Resolution} {r : Region} (base : ℕ) {is : List ℕ} where
   -- All that is learnt of `get`.

@@ -1,36 +1,18 @@
 -- What a handle's exchanges of and additions to whole words do, where the caller is the only one.
 use Rattle.std.proofs.Common.{◌≡◌, ℕ, ℤ, ◌+◌, ◌/◌, ◌%◌, ◌^◌, ◌<◌, ◌≤◌, ◌==◌, true, [], ◌∷◌, length, Ok, refl, sym, ap, subst, ◌∙◌, arith}
-use Rattle.std.specs.Int.{w64, cast_unsigned}
-use Rattle.std.proofs.lemmas.Bool.Decides.{nat_tests}
-use Rattle.fm_base.specs.declared.caller.Caller.{Caller}
-use Rattle.fm_base.specs.declared.arena_id.ArenaId.{ArenaId}
-use Rattle.fm_base.specs.Arenas.{IsUnderWay, State, arena_of, has_arena, changed, word_in}
-use Rattle.fm_base.specs.Calls.{SwapIf, Add, Found}
-use Rattle.fm_base.specs.Machine.{entered, written}
-use Rattle.fm_base.specs.View.{View, Did, IsByItself}
-use Rattle.fm_base.specs.Visits.{Acts}
-use Rattle.fm_base.proofs.Lookup.{swapped_hit, swapped_miss}
-use Rattle.fm_base.proofs.Placing.{there_by_way}
-use Rattle.fm_base_bytes.specs.Bytes.{number_of, lane}
-use Rattle.fm_base_bytes.specs.Signed.{unsigned_of}
-use Rattle.fm_base_bytes.proofs.Bytes.{lane-lt, lane-whole, number_of-bytes_of_mod}
+use Rattle.std.{specs.Int.{w64, cast_unsigned}, proofs.lemmas.Bool.Decides.{nat_tests}}
+use Rattle.fm_base.specs.{declared.{caller.Caller.{Caller}, arena_id.ArenaId.{ArenaId}}, Arenas.{IsUnderWay, State, arena_of, has_arena, changed, word_in}}
+use Rattle.fm_base.specs.{Calls.{SwapIf, Add, Found}, Machine.{entered, written}, View.{View, Did, IsByItself}, Visits.{Acts}}
+use Rattle.fm_base.proofs.{Lookup.{swapped_hit, swapped_miss}, Placing.{there_by_way}}
+use Rattle.fm_base_bytes.{specs.{Bytes.{number_of, lane}, Signed.{unsigned_of}}, proofs.Bytes.{lane-lt, lane-whole, number_of-bytes_of_mod}}
 use Rattle.fm_base_bytes.proofs.Signed.{unsigned_of-signed_of, unsigned_of-eight}
-use Rattle.fm_lanes.specs.declared.order.Order.{Order}
-use Rattle.fm_lanes.specs.declared.order.Order.TheVariants.{Little}
-use Rattle.fm_lanes.specs.declared.value.Value.{Value}
-use Rattle.fm_lanes.specs.declared.value.Value.TheVariants.{Long}
-use Rattle.fm_lanes.specs.declared.value_kind.ValueKind.{ValueKind}
+use Rattle.fm_lanes.specs.declared.{order.Order.{Order, TheVariants.{Little}}, value.Value.{Value, TheVariants.{Long}}, value_kind.ValueKind.{ValueKind}}
+use Rattle.fm_lanes.{specs.Coding.{encoded, turned, bytes_of_value}, proofs.{Meaning.{value_of-lane}, Turning.{turned_number, turned-lt_width, turned-turned}}}
 use Rattle.fm_lanes.specs.declared.value_kind.ValueKind.TheVariants as kind
-use Rattle.fm_lanes.specs.Coding.{encoded, turned, bytes_of_value}
-use Rattle.fm_lanes.proofs.Meaning.{value_of-lane}
-use Rattle.fm_lanes.proofs.Turning.{turned_number, turned-lt_width, turned-turned}
 use Rattle.fm_path.specs.declared.value_spec.ValueSpec.{ValueSpec}
 use Rattle.fm_segment_access.proofs.Visits.{VisitPuts, ActsPut, acts_visit, visit_stays, whole_word, not_same}
-use Rattle.fm_handle.specs.Access.{DoesVisit}
-use Rattle.fm_handle.specs.Acts.{ExchangesLong, AddsLong, value_in, word_of, sum_of}
-use Rattle.fm_handle.specs.Alone.{value_at, ExchangesValue, AddsValue}
-use Rattle.fm_handle.proofs.Places.{LongAt, kind_fits}
-use Rattle.fm_handle.proofs.Updating.{VisitOf, visit_alone, value_there, puts_value}
+use Rattle.fm_handle.specs.{Access.{DoesVisit}, Acts.{ExchangesLong, AddsLong, value_in, word_of, sum_of}, Alone.{value_at, ExchangesValue, AddsValue}}
+use Rattle.fm_handle.proofs.{Places.{LongAt, kind_fits}, Updating.{VisitOf, visit_alone, value_there, puts_value}}
 
 -- ---- longs and their words
 

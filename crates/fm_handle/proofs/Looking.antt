@@ -1,20 +1,11 @@
 -- Tries on a word, as far as they have come.
 use Rattle.std.proofs.Common.{◌≡◌, ◌≢◌, ℕ, ◌/◌, ◌%◌, ◌<◌, arith, List, [], ◌∷◌, ◌++◌, refl, sym, ap, subst, ◌∙◌, append_assoc, Some}
-use Rattle.fm_base.specs.declared.caller.Caller.{Caller}
-use Rattle.fm_base.specs.declared.arena_id.ArenaId.{ArenaId}
-use Rattle.fm_base.specs.Calls.{Call, Reply, Read, SwapIf, Found, Entry, entry_of}
-use Rattle.fm_base.specs.View.{View, Makes, Did, given_in}
-use Rattle.fm_base.specs.Does.{CanReach, DoesAct}
-use Rattle.fm_base.specs.Visits.{Acts, entries_of, Tries, looked, missed, hit}
-use Rattle.fm_base.proofs.Making.{Makes-then}
-use Rattle.fm_base.proofs.Outcomes.{Makes-lasts}
-use Rattle.fm_base.proofs.Visiting.{act_makes}
-use Rattle.fm_lanes.specs.declared.order.Order.{Order}
-use Rattle.fm_lanes.specs.declared.value.Value.{Value}
-use Rattle.fm_lanes.specs.Value.{kind_of}
-use Rattle.fm_handle.specs.Access.{DoesInside}
+use Rattle.fm_base.specs.{declared.{caller.Caller.{Caller}, arena_id.ArenaId.{ArenaId}}, Calls.{Call, Reply, Read, SwapIf, Found, Entry, entry_of}}
+use Rattle.fm_base.specs.{View.{View, Makes, Did, given_in}, Does.{CanReach, DoesAct}, Visits.{Acts, entries_of, Tries, looked, missed, hit}}
+use Rattle.fm_base.proofs.{Making.{Makes-then}, Outcomes.{Makes-lasts}, Visiting.{act_makes}}
+use Rattle.fm_lanes.specs.{declared.{order.Order.{Order}, value.Value.{Value}}, Value.{kind_of}}
+use Rattle.fm_handle.specs.{Access.{DoesInside}, Acts.{Adds, CutOff, Exchanges, sum_of, value_in, with_value}}
 use Rattle.fm_handle.specs.Acts as acts
-use Rattle.fm_handle.specs.Acts.{Adds, CutOff, Exchanges, sum_of, value_in, with_value}
 
 -- The entries of acts, one after the other.
 entries_of-append : (c : Caller) (xs ys : Acts) → entries_of c (xs ++ ys) ≡ entries_of c xs ++ entries_of c ys

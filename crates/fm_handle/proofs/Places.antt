@@ -1,22 +1,12 @@
 -- Where a value stands, from the tests that the code makes.
 use Rattle.std.proofs.Common.{◌≡◌, ℕ, ◌+◌, ◌%◌, ◌≤◌, inl, inr, Bool, true, false, if◌then◌else◌, nat_eq, nat_le, Result, Ok, Err, List, [], ◌∷◌, refl, sym, ap, subst, ◌∙◌, arith}
-use Rattle.std.proofs.lemmas.Bool.{and_parts, lt-ltb, le-ltb, leb-true}
-use Rattle.std.specs.Prelude.{◌&&◌}
-use Rattle.std.specs.Int.{IsPowerOfTwo}
-use Rattle.fm_base.specs.declared.refusal.Refusal.{Refusal}
-use Rattle.fm_base.specs.declared.refusal.Refusal.TheVariants.{Bounds, IndexOut, Misaligned, ReadOnly}
-use Rattle.fm_lanes.specs.declared.order.Order.{Order}
-use Rattle.fm_lanes.specs.declared.order.Order.TheVariants.{Little, Big}
-use Rattle.fm_lanes.specs.declared.value_kind.ValueKind.{ValueKind}
-use Rattle.fm_lanes.specs.declared.value_kind.ValueKind.TheVariants.{Int, Long}
+use Rattle.std.{proofs.lemmas.Bool.{and_parts, lt-ltb, le-ltb, leb-true}, specs.{Prelude.{◌&&◌}, Int.{IsPowerOfTwo}}}
+use Rattle.fm_base.specs.declared.refusal.Refusal.{Refusal, TheVariants.{Bounds, IndexOut, Misaligned, ReadOnly}}
+use Rattle.fm_lanes.specs.declared.{order.Order.{Order, TheVariants.{Little, Big}}, value_kind.ValueKind.{ValueKind, TheVariants.{Int, Long}}}
 use Rattle.fm_lanes.specs.Kind.{width_of}
-use Rattle.fm_layout.proofs.Powers.{IsPowerOfTwo-from_test}
-use Rattle.fm_layout.proofs.Sound.{positive_power}
-use Rattle.fm_path.specs.declared.value_spec.ValueSpec.{ValueSpec}
-use Rattle.fm_path.specs.Resolution.{Resolution, StaysInside}
-use Rattle.fm_path_meaning.specs.declared.dim.Dim.{Dim}
-use Rattle.fm_path_meaning.specs.Found.{IsFirstOut}
-use Rattle.fm_path_meaning.specs.Walk.{AreAdmitted, offset_at}
+use Rattle.fm_layout.proofs.{Powers.{IsPowerOfTwo-from_test}, Sound.{positive_power}}
+use Rattle.fm_path.specs.{declared.value_spec.ValueSpec.{ValueSpec}, Resolution.{Resolution, StaysInside}}
+use Rattle.fm_path_meaning.specs.{declared.dim.Dim.{Dim}, Found.{IsFirstOut}, Walk.{AreAdmitted, offset_at}}
 use Rattle.fm_path_meaning.proofs.Inside.{divides_from, divides_gives, divides_add, divides_trans, divides_powers}
 use Rattle.fm_segment_access.proofs.Causes.{placed_ok}
 use Rattle.fm_segment.specs.Region.{Region}

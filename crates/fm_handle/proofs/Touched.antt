@@ -1,18 +1,14 @@
 -- A handle comes to the bytes of its path's place.
 use Rattle.std.proofs.Common.{◌≡◌, ℕ, ◌+◌, ◌%◌, ◌≤◌, inl, inr, List, length, Ok, sym, subst, ◌∙◌}
-use Rattle.fm_base.specs.Arenas.{only_caller}
-use Rattle.fm_base.specs.declared.refusal.Refusal.TheVariants.{IndexOut}
+use Rattle.fm_base.specs.{Arenas.{only_caller}, declared.refusal.Refusal.TheVariants.{IndexOut}}
 use Rattle.fm_layout.specs.Tree.{Tree}
 use Rattle.fm_path.specs.Resolution.{Resolution, IsResolved}
 use Rattle.fm_path_meaning.specs.Walk.{offset_at}
 use Rattle.fm_segment.specs.Region.{Region}
 use Rattle.fm_path_text.specs.declared.step.PathStep.{PathStep}
-use Rattle.fm_handle.specs.Place.{if_rooted, place_of, writable_place_of, value_place}
-use Rattle.fm_handle.specs.Touched.{StandsAtPath, ComesTo, reads, writes, updates}
+use Rattle.fm_handle.specs.{Place.{if_rooted, place_of, writable_place_of, value_place}, Touched.{StandsAtPath, ComesTo, reads, writes, updates}}
+use Rattle.fm_handle.proofs.{Causes.{tested, rooted}, Alone.{supported, written}, Places.{rooted_is}}
 use Rattle.fm_segment_access.proofs.Causes.{never}
-use Rattle.fm_handle.proofs.Causes.{tested, rooted}
-use Rattle.fm_handle.proofs.Alone.{supported, written}
-use Rattle.fm_handle.proofs.Places.{rooted_is}
 
 -- Whichever call comes to a place, a read does.
 read_too : (base : ℕ) (is : List ℕ) (h : Resolution) (r : Region) (place : ℕ) → length is ≡ length h.dims → ComesTo base is h r place

@@ -1,14 +1,11 @@
 -- Where a call that is tested finds a place, the value's bytes lie in one word.
 use Rattle.std.proofs.Common.{◌≡◌, ℕ, true, List, Result, Ok, Err, IfOk, refl, ap}
 use Rattle.fm_base.specs.declared.refusal.Refusal.{Refusal}
-use Rattle.fm_lanes.specs.Kind.{width_of}
-use Rattle.fm_lanes.proofs.Meaning.{width_of-bounds}
+use Rattle.fm_lanes.{specs.Kind.{width_of}, proofs.Meaning.{width_of-bounds}}
 use Rattle.fm_path.specs.Resolution.{Resolution}
 use Rattle.fm_segment.specs.Region.{Region}
-use Rattle.fm_handle.specs.Place.{FindsWhere, Lies, ValueStands, fills_word, supports}
-use Rattle.fm_handle.specs.declared.handle.place.Support.{Support}
-use Rattle.fm_handle.specs.declared.handle.place.Support.TheVariants.{Number, Long, Word}
-use Rattle.fm_handle.proofs.Places.{in_one_word, whole_word, word_parts}
+use Rattle.fm_handle.specs.{Place.{FindsWhere, Lies, ValueStands, fills_word, supports}, declared.handle.place.Support.{Support}}
+use Rattle.fm_handle.{specs.declared.handle.place.Support.TheVariants.{Number, Long, Word}, proofs.Places.{in_one_word, whole_word, word_parts}}
 use Rattle.fm_handle.proofs.Visiting.{reaches}
 
 module _ (base : ℕ) (is : List ℕ) (h : Resolution) (r : Region) where

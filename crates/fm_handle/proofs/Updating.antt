@@ -1,40 +1,20 @@
 -- What a handle's updates of the only caller do to the bytes of an arena.
 use Rattle.std.proofs.Common.{◌≡◌, ◌≢◌, ℕ, ℤ, ◌+◌, ◌*◌, ◌/◌, ◌%◌, ◌^◌, ◌<◌, ◌≤◌, Bool, true, false, MatchBool, List, [], ◌∷◌, ◌++◌, length, take, drop, Ok, Err, refl, sym, ap, subst, ◌∙◌, arith}
-use Rattle.fm_base.specs.declared.caller.Caller.{Caller}
-use Rattle.fm_base.specs.declared.arena_id.ArenaId.{ArenaId}
-use Rattle.fm_base.specs.declared.refusal.Refusal.{Refusal}
-use Rattle.fm_base.specs.declared.refusal.Refusal.TheVariants.{Closed, WrongThread}
-use Rattle.fm_base.specs.Arenas.{Arena, MayUse, State, arena_of, has_arena, changed, word_in}
-use Rattle.fm_base.specs.Calls.{Leave, Fine, Found, Entry, entry_of}
-use Rattle.fm_base.specs.Does.{DoesEnter}
-use Rattle.fm_base.specs.Histories.{IsLegal, state_after}
-use Rattle.fm_base.specs.Machine.{entered}
-use Rattle.fm_base.specs.View.{View, Did, IsByItself}
-use Rattle.fm_base.specs.Visits.{Acts, entries_of, visit, Tries}
-use Rattle.fm_base.proofs.Faith.{Makes-alone}
-use Rattle.fm_base.proofs.Lookup.{lookup_changed, swapped_miss}
-use Rattle.fm_base.proofs.Making.{IsLegal-split}
-use Rattle.fm_base_bytes.specs.Bytes.{bytes_of, number_of, lane}
-use Rattle.fm_base_bytes.specs.Words.{bytes_in}
-use Rattle.fm_base_bytes.proofs.Bytes.{bytes_of-lane, bytes_of-number_of, number_of-lt}
+use Rattle.fm_base.specs.declared.{caller.Caller.{Caller}, arena_id.ArenaId.{ArenaId}, refusal.Refusal.{Refusal, TheVariants.{Closed, WrongThread}}}
+use Rattle.fm_base.specs.{Arenas.{Arena, MayUse, State, arena_of, has_arena, changed, word_in}, Calls.{Leave, Fine, Found, Entry, entry_of}, Does.{DoesEnter}}
+use Rattle.fm_base.specs.{Histories.{IsLegal, state_after}, Machine.{entered}, View.{View, Did, IsByItself}, Visits.{Acts, entries_of, visit, Tries}}
+use Rattle.fm_base.proofs.{Faith.{Makes-alone}, Lookup.{lookup_changed, swapped_miss}, Making.{IsLegal-split}}
+use Rattle.fm_base_bytes.{specs.{Bytes.{bytes_of, number_of, lane}, Words.{bytes_in}}, proofs.Bytes.{bytes_of-lane, bytes_of-number_of, number_of-lt}}
 use Rattle.fm_base_bytes.proofs.Words.{length-bytes_in}
-use Rattle.fm_lanes.specs.declared.order.Order.{Order}
-use Rattle.fm_lanes.specs.declared.value.Value.{Value}
-use Rattle.fm_lanes.specs.declared.value.Value.TheVariants.{Int, Long}
-use Rattle.fm_lanes.specs.declared.value_kind.ValueKind.{ValueKind}
-use Rattle.fm_lanes.specs.Coding.{value_of, bytes_of_value}
-use Rattle.fm_lanes.specs.Kind.{width_of}
-use Rattle.fm_lanes.specs.Value.{kind_of}
+use Rattle.fm_lanes.specs.declared.{order.Order.{Order}, value.Value.{Value, TheVariants.{Int, Long}}, value_kind.ValueKind.{ValueKind}}
+use Rattle.fm_lanes.specs.{Coding.{value_of, bytes_of_value}, Kind.{width_of}, Value.{kind_of}}
 use Rattle.fm_path.specs.declared.value_spec.ValueSpec.{ValueSpec}
-use Rattle.fm_segment_access.specs.Alone.{bytes_of_arena, StaysOut}
-use Rattle.fm_segment_access.specs.Pieces.{PutsBytes, whole}
-use Rattle.fm_segment_access.proofs.Alone.{changes}
+use Rattle.fm_segment_access.{specs.{Alone.{bytes_of_arena, StaysOut}, Pieces.{PutsBytes, whole}}, proofs.Alone.{changes}}
 use Rattle.fm_segment_access.proofs.Visits.{visit_refused, VisitPuts, acts_visit, visit_puts, tries_put, tries_leave, visit_stays, lane_bytes, not_same}
 use Rattle.fm_segment_access.proofs.Values.{AreBytes-value, length-value, kind_of-decoded}
 use Rattle.fm_handle.specs.Access.{DoesVisit, OneVisit}
 use Rattle.fm_handle.specs.Acts.{CutOff, looked, missed, at_read, at_swap, Exchanges, puts, finds_another, Adds, Stores, value_in, with_value, word_of, sum_of}
-use Rattle.fm_handle.specs.Alone.{value_at, PutsValue, ExchangesValue, SetsExpected, AddsValue}
-use Rattle.fm_handle.proofs.Places.{LongAt, kind_fits}
+use Rattle.fm_handle.{specs.Alone.{value_at, PutsValue, ExchangesValue, SetsExpected, AddsValue}, proofs.Places.{LongAt, kind_fits}}
 
 -- ---- refusals
 

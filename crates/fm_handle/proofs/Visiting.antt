@@ -1,22 +1,13 @@
 -- One visit, from its calls; and what is done at the place found.
 use Rattle.std.proofs.Common.{◌≡◌, ◌≢◌, ℕ, Bool, true, false, MatchBool, Result, Ok, Err, List, [], ◌∷◌, refl, sym, subst, ◌∙◌, Some, None}
-use Rattle.fm_base.specs.declared.caller.Caller.{Caller}
-use Rattle.fm_base.specs.declared.arena_id.ArenaId.{ArenaId}
-use Rattle.fm_base.specs.declared.refusal.Refusal.{Refusal}
-use Rattle.fm_base.specs.Calls.{Call, Reply, Leave, Fine, Entry}
-use Rattle.fm_base.specs.View.{View, Makes, Did, inside_next}
-use Rattle.fm_base.specs.Does.{DoesEnter, DoesAct}
-use Rattle.fm_base.specs.Visits.{Acts, visit}
+use Rattle.fm_base.specs.{declared.{caller.Caller.{Caller}, arena_id.ArenaId.{ArenaId}, refusal.Refusal.{Refusal}}, Calls.{Call, Reply, Leave, Fine, Entry}}
+use Rattle.fm_base.specs.{View.{View, Makes, Did, inside_next}, Does.{DoesEnter, DoesAct}, Visits.{Acts, visit}}
 use Rattle.fm_base.proofs.Visiting.{entered_makes, visit_of_one, visit_of_inside}
 use Rattle.fm_lanes.specs.declared.value.Value.{Value}
 use Rattle.fm_path.specs.Resolution.{Resolution}
-use Rattle.fm_segment_access.specs.Found.{DoesAt}
-use Rattle.fm_segment_access.specs.Learnt.{Visited}
-use Rattle.fm_segment_access.proofs.Touching.{visited}
+use Rattle.fm_segment_access.{specs.{Found.{DoesAt}, Learnt.{Visited}}, proofs.Touching.{visited}}
 use Rattle.fm_segment.specs.Region.{Region}
-use Rattle.fm_handle.specs.Access.{DoesInside, DoesVisit, Wins}
-use Rattle.fm_handle.specs.Place.{FindsWhere, ValueStands}
-use Rattle.fm_handle.proofs.Alone.{supported}
+use Rattle.fm_handle.{specs.{Access.{DoesInside, DoesVisit, Wins}, Place.{FindsWhere, ValueStands}}, proofs.Alone.{supported}}
 
 module _ {X : Type 0} {x y u v : View} (id : ArenaId) (Give : X → Acts → Type 0) (r : X) (w : Unit {0}) where
   -- One act between Enter and Leave.

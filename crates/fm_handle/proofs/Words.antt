@@ -1,21 +1,12 @@
 -- Values in words, from the code's bits.
 use Rattle.std.proofs.Common.{◌≡◌, ◌≢◌, ◌==◌, Bool, true, false, MatchBool, ℕ, ◌+◌, ◌-◌, ◌*◌, ◌%◌, ◌^◌, ◌<◌, ◌≤◌, bit_and, bit_or, ℤ, pos, negsuc, SFits, w64, sym, ap, subst, ◌∙◌, arith}
 use Rattle.std.proofs.lemmas.Bool.{eqb-true, eqb-false}
-use Rattle.fm_base_bytes.specs.Bytes.{number_of, lane, replaced}
-use Rattle.fm_base_bytes.specs.Signed.{FitsBytes, signed_of, unsigned_of}
-use Rattle.fm_base_bytes.proofs.Bytes.{lane-whole}
+use Rattle.fm_base_bytes.{specs.{Bytes.{number_of, lane, replaced}, Signed.{FitsBytes, signed_of, unsigned_of}}, proofs.Bytes.{lane-whole}}
 use Rattle.fm_base_bytes.proofs.Signed.{unsigned_of-lt, signed_of-unsigned_of}
-use Rattle.fm_lanes.specs.declared.order.Order.{Order}
-use Rattle.fm_lanes.specs.declared.value.Value.{Value}
-use Rattle.fm_lanes.specs.declared.value.Value.TheVariants.{Long}
-use Rattle.fm_lanes.specs.declared.value_kind.ValueKind.{ValueKind}
+use Rattle.fm_lanes.specs.declared.{order.Order.{Order}, value.Value.{Value, TheVariants.{Long}}, value_kind.ValueKind.{ValueKind}}
+use Rattle.fm_lanes.{specs.{Coding.{decoded, encoded, turned, bytes_of_value}, Kind.{width_of}, Value.{kind_of}}, proofs.Masks.{replaced-mask}}
+use Rattle.fm_lanes.proofs.{Meaning.{value_of-lane}, Turning.{turned_number, turned-lt_width, turned-turned}}
 use Rattle.fm_lanes.specs.declared.value_kind.ValueKind.TheVariants as kind
-use Rattle.fm_lanes.specs.Coding.{decoded, encoded, turned, bytes_of_value}
-use Rattle.fm_lanes.specs.Kind.{width_of}
-use Rattle.fm_lanes.specs.Value.{kind_of}
-use Rattle.fm_lanes.proofs.Masks.{replaced-mask}
-use Rattle.fm_lanes.proofs.Meaning.{value_of-lane}
-use Rattle.fm_lanes.proofs.Turning.{turned_number, turned-lt_width, turned-turned}
 use Rattle.fm_handle.specs.Acts.{value_in, with_value, word_of}
 
 -- A lane that is turned and decoded.

@@ -1,16 +1,10 @@
 -- What the calls of a handle do at the place of its value, or the refusal before.
 use Rattle.std.specs.Prelude.{◌≡◌, ◌≢◌, ℕ, ℤ, Bool, true, false, List, Result, Ok, Err}
-use Rattle.fm_base.specs.declared.caller.Caller.{Caller}
-use Rattle.fm_base.specs.declared.arena_id.ArenaId.{ArenaId}
-use Rattle.fm_base.specs.declared.refusal.Refusal.{Refusal}
-use Rattle.fm_base.specs.Arenas.{MayUse}
-use Rattle.fm_base.specs.Calls.{Entry}
-use Rattle.fm_base.specs.Does.{DoesEnter}
-use Rattle.fm_base.specs.Visits.{Acts, entries_of, visit}
+use Rattle.fm_base.specs.{declared.{caller.Caller.{Caller}, arena_id.ArenaId.{ArenaId}, refusal.Refusal.{Refusal}}, Arenas.{MayUse}, Calls.{Entry}}
+use Rattle.fm_base.specs.{Does.{DoesEnter}, Visits.{Acts, entries_of, visit}}
 use Rattle.fm_lanes.specs.declared.value.Value.{Value}
 use Rattle.fm_path.specs.Resolution.{Resolution}
-use Rattle.fm_segment_access.specs.Found.{DoesAt}
-use Rattle.fm_segment_access.specs.Values.{DoesGetValue, DoesPutValue}
+use Rattle.fm_segment_access.specs.{Found.{DoesAt}, Values.{DoesGetValue, DoesPutValue}}
 use Rattle.fm_segment.specs.Region.{Region}
 use Rattle.fm_handle.specs.Acts.{word_of, Stores, ExchangesLong, AddsLong, Exchanges, Adds}
 

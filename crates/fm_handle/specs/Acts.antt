@@ -1,19 +1,10 @@
 -- What the updates do to the word in which a value lies.
-use Rattle.std.specs.Prelude.{◌≡◌, ◌≢◌, ℕ, ℤ, ◌/◌, ◌%◌, ◌^◌, ◌<◌, [], ◌∷◌, take, drop}
-use Rattle.std.specs.Int.{int_wrapping_add, w32, w64}
-use Rattle.fm_base.specs.declared.arena_id.ArenaId.{ArenaId}
-use Rattle.fm_base.specs.Calls.{Read, Write, SwapIf, Add, Fine, Found}
-use Rattle.fm_base.specs.Visits.{Acts, Tries}
+use Rattle.std.specs.{Prelude.{◌≡◌, ◌≢◌, ℕ, ℤ, ◌/◌, ◌%◌, ◌^◌, ◌<◌, [], ◌∷◌, take, drop}, Int.{int_wrapping_add, w32, w64}}
+use Rattle.fm_base.specs.{declared.arena_id.ArenaId.{ArenaId}, Calls.{Read, Write, SwapIf, Add, Fine, Found}, Visits.{Acts, Tries}}
 use Rattle.fm_base_bytes.specs.Bytes.{bytes_of, number_of, replaced}
-use Rattle.fm_lanes.specs.declared.order.Order.{Order}
-use Rattle.fm_lanes.specs.declared.order.Order.TheVariants.{Little}
-use Rattle.fm_lanes.specs.declared.value.Value.{Value}
-use Rattle.fm_lanes.specs.declared.value.Value.TheVariants.{Int, Long}
-use Rattle.fm_lanes.specs.declared.value_kind.ValueKind.{ValueKind}
+use Rattle.fm_lanes.specs.declared.{order.Order.{Order, TheVariants.{Little}}, value.Value.{Value, TheVariants.{Int, Long}}, value_kind.ValueKind.{ValueKind}}
+use Rattle.fm_lanes.specs.{Coding.{value_of, bytes_of_value}, Kind.{width_of}, Value.{kind_of}}
 use Rattle.fm_lanes.specs.declared.value_kind.ValueKind.TheVariants as kind
-use Rattle.fm_lanes.specs.Coding.{value_of, bytes_of_value}
-use Rattle.fm_lanes.specs.Kind.{width_of}
-use Rattle.fm_lanes.specs.Value.{kind_of}
 
 -- ---- values in words
 

@@ -1,8 +1,6 @@
 -- What the only caller of a memory sees of a handle's calls.
 use Rattle.std.specs.Prelude.{◌≡◌, ◌≢◌, ℕ, Bool, true, false}
-use Rattle.fm_base.specs.declared.arena_id.ArenaId.{ArenaId}
-use Rattle.fm_base.specs.Arenas.{State}
-use Rattle.fm_base.specs.View.{View}
+use Rattle.fm_base.specs.{declared.arena_id.ArenaId.{ArenaId}, Arenas.{State}, View.{View}}
 use Rattle.fm_lanes.specs.declared.value.Value.{Value}
 use Rattle.fm_path.specs.declared.value_spec.ValueSpec.{ValueSpec}
 use Rattle.fm_segment_access.specs.Values as here

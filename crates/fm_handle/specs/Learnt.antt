@@ -1,21 +1,12 @@
 -- What the calls of a handle ask for, and what their caller learns: one record each.
 use Rattle.std.specs.Prelude.{◌≡◌, ℕ, ℤ, Bool, List, length, None, Result, ⊤}
-use Rattle.fm_base.specs.declared.refusal.Refusal.{Refusal}
-use Rattle.fm_base.specs.Calls.{Entry}
-use Rattle.fm_base.specs.View.{View}
-use Rattle.fm_lanes.specs.declared.value.Value.{Value}
-use Rattle.fm_lanes.specs.declared.value.Value.TheVariants.{Long}
-use Rattle.fm_lanes.specs.Value.{kind_of}
-use Rattle.fm_path.specs.declared.value_spec.ValueSpec.{ValueSpec}
-use Rattle.fm_path.specs.Resolution.{Resolution}
-use Rattle.fm_segment_access.specs.Found.{StaysOutOf}
-use Rattle.fm_segment_access.specs.Learnt.{After}
-use Rattle.fm_segment.specs.Access.{IsKnown}
-use Rattle.fm_segment.specs.Learnt.{KnowsSegment}
-use Rattle.fm_segment.specs.Region.{Region}
+use Rattle.fm_base.specs.{declared.refusal.Refusal.{Refusal}, Calls.{Entry}, View.{View}}
+use Rattle.fm_lanes.specs.{declared.value.Value.{Value, TheVariants.{Long}}, Value.{kind_of}}
+use Rattle.fm_path.specs.{declared.value_spec.ValueSpec.{ValueSpec}, Resolution.{Resolution}}
+use Rattle.fm_segment_access.specs.{Found.{StaysOutOf}, Learnt.{After}}
+use Rattle.fm_segment.specs.{Access.{IsKnown}, Learnt.{KnowsSegment}, Region.{Region}}
 use Rattle.fm_handle.specs.Access.{DoesGet, DoesSet, DoesSetLong, DoesExchangeLong, DoesAddLong, DoesExchange, DoesCompareAndSet, DoesAdd}
-use Rattle.fm_handle.specs.Alone.{FindsValue, PutsValue, ExchangesValue, SetsExpected, AddsValue}
-use Rattle.fm_handle.specs.Causes.{GetCause, SetCause, UpdateCause}
+use Rattle.fm_handle.specs.{Alone.{FindsValue, PutsValue, ExchangesValue, SetsExpected, AddsValue}, Causes.{GetCause, SetCause, UpdateCause}}
 use Rattle.fm_handle.specs.Place.{place_of, writable_place_of, update_place_of, value_place, can_update, fills_word, is_word}
 
 -- ---- what is asked for

@@ -1,21 +1,14 @@
 -- Where a handle's value stands in an arena, or the first refusal that applies before the arena is entered.
 use Rattle.std.specs.Prelude.{Bool, true, false, ◌&&◌, ◌≡◌, ℕ, ◌+◌, ◌%◌, ◌^◌, ◌≤◌, List, [], ◌∷◌, Result, Ok, Err, IfOk, if◌then◌else◌, nat_le, nat_lt}
 use Rattle.std.specs.Int.{is_power_of_two}
-use Rattle.fm_base.specs.declared.refusal.Refusal.{Refusal}
-use Rattle.fm_base.specs.declared.refusal.Refusal.TheVariants.{IndexOut, ReadOnly, Unsupported}
-use Rattle.fm_lanes.specs.declared.order.Order.{Order}
-use Rattle.fm_lanes.specs.declared.order.Order.TheVariants.{Little, Big}
-use Rattle.fm_lanes.specs.declared.value_kind.ValueKind.{ValueKind}
-use Rattle.fm_lanes.specs.declared.value_kind.ValueKind.TheVariants.{Int, Long}
+use Rattle.fm_base.specs.declared.refusal.Refusal.{Refusal, TheVariants.{IndexOut, ReadOnly, Unsupported}}
+use Rattle.fm_lanes.specs.declared.{order.Order.{Order, TheVariants.{Little, Big}}, value_kind.ValueKind.{ValueKind, TheVariants.{Int, Long}}}
 use Rattle.fm_lanes.specs.Kind.{width_of}
-use Rattle.fm_path.specs.declared.value_spec.ValueSpec.{ValueSpec}
-use Rattle.fm_path.specs.Resolution.{Resolution}
-use Rattle.fm_path_meaning.specs.declared.dim.Dim.{Dim}
-use Rattle.fm_path_meaning.specs.Walk.{offset_at}
+use Rattle.fm_path.specs.{declared.value_spec.ValueSpec.{ValueSpec}, Resolution.{Resolution}}
+use Rattle.fm_path_meaning.specs.{declared.dim.Dim.{Dim}, Walk.{offset_at}}
 use Rattle.fm_segment_access.specs.Found.{if_placed}
 use Rattle.fm_segment.specs.Region.{Region}
-use Rattle.fm_handle.specs.declared.handle.place.Support.{Support}
-use Rattle.fm_handle.specs.declared.handle.place.Support.TheVariants.{Number, Word}
+use Rattle.fm_handle.specs.declared.handle.place.Support.{Support, TheVariants.{Number, Word}}
 use Rattle.fm_handle.specs.declared.handle.place.Support.TheVariants as support
 
 -- ---- on which values an update works

@@ -1,9 +1,7 @@
 -- Which bytes the calls of a handle touch: those of the path's place.
 use Rattle.std.specs.Prelude.{◌≡◌, ℕ, Bool, ◌+◌, ◌%◌, ◌≤◌, List, length, Ok}
-use Rattle.fm_layout.specs.Tree.{Tree, alignment_of}
-use Rattle.fm_layout.specs.Size.{size_of}
-use Rattle.fm_path.specs.declared.value_spec.ValueSpec.{ValueSpec}
-use Rattle.fm_path.specs.Resolution.{Resolution, IsResolved, IsSpecOf}
+use Rattle.fm_layout.specs.{Tree.{Tree, alignment_of}, Size.{size_of}}
+use Rattle.fm_path.specs.{declared.value_spec.ValueSpec.{ValueSpec}, Resolution.{Resolution, IsResolved, IsSpecOf}}
 use Rattle.fm_path_meaning.specs.Found.{Finds}
 use Rattle.fm_segment.specs.Region.{Region}
 use Rattle.fm_path_text.specs.declared.step.PathStep.{PathStep}

@@ -1,9 +1,7 @@
 -- A text that is written piece by piece.
 use Rattle.std.proofs.Common.{◌≡◌, ℕ, ◌+◌, ◌-◌, ◌≤◌, List, ◌++◌, length, take, drop, Option, None, Some, ap, sym, ◌∙◌, append_assoc, length-drop}
-use Rattle.std.specs.Option.{option_map}
-use Rattle.std.proofs.Math.Seq.{take-add, take-length}
-use Rattle.fm_io.specs.Count.{Counts, Raised}
-use Rattle.fm_io.specs.Sink.{Appends, SinkView}
+use Rattle.std.{specs.Option.{option_map}, proofs.Math.Seq.{take-add, take-length}}
+use Rattle.fm_io.specs.{Count.{Counts, Raised}, Sink.{Appends, SinkView}}
 
 -- the text's first bytes were written
 pub record IsWriting (old new : SinkView) (text : List ℕ) (taken : ℕ) : Type 0 where

@@ -1,11 +1,8 @@
 -- A buffer that is filled piece by piece.
 use Rattle.std.proofs.Common.{◌≡◌, ℕ, ◌+◌, ◌-◌, ◌≤◌, List, [], ◌++◌, length, take, drop, Option, None, Some, MatchOption, IfSome, refl, ap, sym, ◌∙◌, arith, length-append}
-use Rattle.std.proofs.lemmas.List.{drop-drop, length-take-le, take-append-le}
-use Rattle.std.proofs.Math.Seq.{take-add, take-append-add}
+use Rattle.std.proofs.{lemmas.List.{drop-drop, length-take-le, take-append-le}, Math.Seq.{take-add, take-append-add}}
 use borrow.Rule.Slice.PartMut.{put_mid, post_of}
-use Rattle.fm_io.specs.Files.{Contents, file_of, AreBytesFrom, TellsPiece, IsPieceOf}
-use Rattle.fm_io.specs.declared.files.Piece.{Piece}
-use Rattle.fm_io.specs.declared.files.Piece.TheVariants.{Got, Missing}
+use Rattle.fm_io.specs.{Files.{Contents, file_of, AreBytesFrom, TellsPiece, IsPieceOf}, declared.files.Piece.{Piece, TheVariants.{Got, Missing}}}
 
 -- the front of a text and of what follows it
 take-append-part : {X : Type 0} (xs ys : List X) (n m : ℕ) → length xs ≡ n → take (n + m) (xs ++ ys) ≡ xs ++ take m ys

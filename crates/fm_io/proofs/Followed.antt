@@ -1,10 +1,7 @@
 -- Reads of a file that follow one another.
 use Rattle.std.proofs.Common.{◌≡◌, ℕ, ◌+◌, ◌≤◌, List, [], ◌∷◌, ◌++◌, Option, None, Some, Result, refl, ap, sym, subst, ◌∙◌, append_assoc, arith, ◌-◌, length, take, drop, length-drop}
-use Rattle.std.proofs.Math.Seq.{take-length}
-use Rattle.std.proofs.lemmas.List.{append-nil}
-use Rattle.std.specs.Option.{option_map}
-use Rattle.fm_io.specs.declared.fault.Fault.{Fault}
-use Rattle.fm_io.specs.declared.files.Piece.{Piece}
+use Rattle.std.{proofs.{Math.Seq.{take-length}, lemmas.List.{append-nil}}, specs.Option.{option_map}}
+use Rattle.fm_io.specs.declared.{fault.Fault.{Fault}, files.Piece.{Piece}}
 use Rattle.fm_io.specs.Reads.{Read, read, ReadsOn, next_by, Next, At, Ended, Stopped, Follow, next_after, ReadsFile}
 
 -- no read, and what was told stays

@@ -1,7 +1,6 @@
 -- What calls on files leave, one after another.
 use Rattle.std.proofs.Common.{refl, ◌∙◌}
-use Rattle.fm_io.specs.View.{FilesView, Leaves}
-use Rattle.fm_io.proofs.Counting.{counts_none, counts_quiet, counts_then}
+use Rattle.fm_io.{specs.View.{FilesView, Leaves}, proofs.Counting.{counts_none, counts_quiet, counts_then}}
 
 -- no call
 pub leaves_none : {Failed Missing : Type 0} (v : FilesView) → ¬ Failed → ¬ Missing → Leaves Failed Missing v v

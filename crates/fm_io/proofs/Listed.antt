@@ -1,12 +1,7 @@
 -- What a list of names and bytes holds under a name, file by file.
 use Rattle.std.proofs.Common.{◌≡◌, ℕ, ◌+◌, suc, ◌<◌, ◌≤◌, List, [], ◌∷◌, length, drop, get_or, None, Some, String, Vec, string_bytes, cond, Bool, true, false, ap, sym, ◌∙◌, add-one, drop-cons}
-use Rattle.std.proofs.Math.ListN.{drop_of_length-le}
-use Rattle.std.specs.Ordering.{nat_cmp}
-use Rattle.std.specs.Cmp.Lexicographic.{slice_cmp, nat_list_cmp_total}
-use Rattle.std.specs.FinMap.{get-insert, get-empty}
-use Rattle.std.specs.Str.{bytes_eq}
-use Rattle.std.specs.declared.alloc.Global.{Global}
-use Rattle.std.proofs.lemmas.Map.Text.{is_eq-slice_cmp}
+use Rattle.std.{proofs.Math.ListN.{drop_of_length-le}, specs.{Ordering.{nat_cmp}, Cmp.Lexicographic.{slice_cmp, nat_list_cmp_total}}}
+use Rattle.std.{specs.{FinMap.{get-insert, get-empty}, Str.{bytes_eq}, declared.alloc.Global.{Global}}, proofs.lemmas.Map.Text.{is_eq-slice_cmp}}
 use Rattle.fm_io.specs.Files.{file_of, contents_of}
 
 -- the first file has the name, or the others decide

@@ -1,13 +1,8 @@
 -- Text that is sent piece by piece.
 use Rattle.std.proofs.Common.{◌≡◌, ℕ, List, [], ◌++◌, length, take, drop, Option, None, Some, Result, Ok, Err, refl, ap, sym, subst, ◌∙◌, append_assoc, arith}
-use Rattle.std.proofs.Math.Seq.{take-append_seam}
-use Rattle.std.proofs.lemmas.List.{append-nil, length-append, take-append-drop}
-use Rattle.fm_io.specs.Sink.{Appends, AppendsPrefix, SinkView}
-use Rattle.fm_io.specs.Sending.{Passes, Sends}
-use Rattle.fm_io.specs.declared.fault.Fault.{Fault}
-use Rattle.fm_io.specs.declared.fault.Fault.TheVariants.{Memory}
-use Rattle.fm_io.proofs.Appended.{Appends-append}
-use Rattle.fm_io.proofs.Counting.{counts_none, counts_then}
+use Rattle.std.proofs.{Math.Seq.{take-append_seam}, lemmas.List.{append-nil, length-append, take-append-drop}}
+use Rattle.fm_io.specs.{Sink.{Appends, AppendsPrefix, SinkView}, Sending.{Passes, Sends}, declared.fault.Fault.{Fault, TheVariants.{Memory}}}
+use Rattle.fm_io.proofs.{Appended.{Appends-append}, Counting.{counts_none, counts_then}}
 
 -- these are the first of the bytes
 front : (old new : Option (List ℕ)) (xs rest bytes : List ℕ) → Appends old new xs → xs ++ rest ≡ bytes → AppendsPrefix old new bytes

@@ -1,7 +1,6 @@
 -- Which calls of an object in memory fail.
 use Rattle.std.specs.Prelude.{◌≡◌, ℕ, ◌+◌, ◌≤◌, List, min, Bool, if◌then◌else◌, Contains, ◌↔◌, IsTrue}
-use Rattle.fm_io.specs.Count.{last_count}
-use Rattle.fm_io.specs.declared.failing.Failing.{Failing}
+use Rattle.fm_io.specs.{Count.{last_count}, declared.failing.Failing.{Failing}}
 
 -- the numbers, from 0, of the calls that fail
 abbrev pub listed_calls : Failing → List ℕ

@@ -1,11 +1,7 @@
 -- What a source of files tells of its files, and what a read of one may answer.
 use Rattle.std.specs.Prelude.{◌≡◌, ◌≢◌, ℕ, ◌+◌, ◌≤◌, ◌<◌, List, [], map, length, take, drop, Option, None, MatchOption, IfSome, IsSomeAnd, String, Vec, string_bytes}
-use Rattle.std.specs.Ordering.{nat_cmp}
-use Rattle.std.specs.Cmp.Lexicographic.{slice_cmp}
-use Rattle.std.specs.FinMap.{FinMap, from_entries, get}
-use Rattle.std.specs.declared.alloc.Global.{Global}
-use Rattle.fm_io.specs.declared.files.Piece.{Piece}
-use Rattle.fm_io.specs.declared.files.Piece.TheVariants.{Got, End, Missing}
+use Rattle.std.specs.{Ordering.{nat_cmp}, Cmp.Lexicographic.{slice_cmp}, FinMap.{FinMap, from_entries, get}, declared.alloc.Global.{Global}}
+use Rattle.fm_io.specs.declared.files.Piece.{Piece, TheVariants.{Got, End, Missing}}
 
 -- the bytes under each name that is there
 abbrev pub Contents : Type 0

@@ -1,15 +1,7 @@
 -- What is asked of the system, and what its answers come to.
 use Rattle.std.specs.Prelude.{◌≡◌, ◌≢◌, ℕ, ◌+◌, ◌^◌, ◌<◌, ◌==◌, List, [], ◌∷◌, ◌++◌, Option, None, Some, Result, Ok, Err, MatchResult, SomeIff, if◌then◌else◌}
-use Rattle.std.specs.Option.{option_map}
-use Rattle.std.specs.Str.{bytes_eq}
-use Rattle.std.specs.IoError.{error_kind}
-use Rattle.std.specs.declared.io.Error.{Error}
-use Rattle.std.specs.declared.io.ErrorKind.TheVariants.{NotFound}
-use Rattle.fm_io.specs.declared.fault.Fault.{Fault}
-use Rattle.fm_io.specs.declared.fault.Fault.TheVariants.{Failed, Memory}
-use Rattle.fm_io.specs.declared.files.Piece.{Piece}
-use Rattle.fm_io.specs.declared.files.Piece.TheVariants.{Got, End, Missing}
-use Rattle.fm_io.specs.declared.system.Way.{Way}
+use Rattle.std.specs.{Option.{option_map}, Str.{bytes_eq}, IoError.{error_kind}, declared.io.{Error.{Error}, ErrorKind.TheVariants.{NotFound}}}
+use Rattle.fm_io.specs.declared.{fault.Fault.{Fault, TheVariants.{Failed, Memory}}, files.Piece.{Piece, TheVariants.{Got, End, Missing}}, system.Way.{Way}}
 use Rattle.fm_io.specs.declared.system.Way.TheVariants.{Open, Seek, Follow}
 
 -- one question: how the place is come by, the file's name, the place, how many bytes there was room for, and the answer

@@ -1,17 +1,8 @@
 -- What contracts see of the files and the sinks in memory.
 use Rattle.std.specs.Prelude.{◌≡◌, ◌≢◌, ℕ, ◌↔◌, List, Bool, None, Some, IsTrue, Result, Ok, Err, IfOk, IsErrOf, is_err}
-use Rattle.fm_io.specs.Count.{Raised}
-use Rattle.fm_io.specs.Files.{Contents, HasBytes, contents_of}
-use Rattle.fm_io.specs.View.{FilesView}
-use Rattle.fm_io.specs.declared.sure_files.SureFiles.{SureFiles}
-use Rattle.fm_io.specs.declared.mem_files.MemFiles.{MemFiles}
-use Rattle.fm_io.specs.declared.mem_sink.MemSink.{MemSink}
-use Rattle.fm_io.specs.declared.sure_sink.SureSink.{SureSink}
-use Rattle.fm_io.specs.declared.failing.Failing.{Failing}
-use Rattle.fm_io.specs.declared.fault.Fault.{Fault}
-use Rattle.fm_io.specs.declared.fault.Fault.TheVariants.{Failed, Memory}
-use Rattle.fm_io.specs.declared.files.Piece.{Piece}
-use Rattle.fm_io.specs.declared.files.Piece.TheVariants.{Missing}
+use Rattle.fm_io.specs.{Count.{Raised}, Files.{Contents, HasBytes, contents_of}, View.{FilesView}, declared.sure_files.SureFiles.{SureFiles}}
+use Rattle.fm_io.specs.declared.{mem_files.MemFiles.{MemFiles}, mem_sink.MemSink.{MemSink}, sure_sink.SureSink.{SureSink}, failing.Failing.{Failing}}
+use Rattle.fm_io.specs.declared.{fault.Fault.{Fault, TheVariants.{Failed, Memory}}, files.Piece.{Piece, TheVariants.{Missing}}}
 use Rattle.fm_io.specs.Failing.{CountsCall, calls_failed}
 
 abbrev pub sure_contents : SureFiles → Contents

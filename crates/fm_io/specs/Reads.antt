@@ -1,9 +1,6 @@
 -- The reads that a source tells: what each asked for, and what it was answered.
-use Rattle.std.specs.Prelude.{◌≡◌, ◌≢◌, ℕ, ◌+◌, ◌≤◌, List, [], ◌∷◌, ◌++◌, Option, Result, Ok, Err}
-use Rattle.std.specs.Option.{option_map}
-use Rattle.fm_io.specs.declared.fault.Fault.{Fault}
-use Rattle.fm_io.specs.declared.files.Piece.{Piece}
-use Rattle.fm_io.specs.declared.files.Piece.TheVariants.{Got, End, Missing}
+use Rattle.std.specs.{Prelude.{◌≡◌, ◌≢◌, ℕ, ◌+◌, ◌≤◌, List, [], ◌∷◌, ◌++◌, Option, Result, Ok, Err}, Option.{option_map}}
+use Rattle.fm_io.specs.declared.{fault.Fault.{Fault}, files.Piece.{Piece, TheVariants.{Got, End, Missing}}}
 
 -- one read: the file's name, the place, how many bytes there was room for, and the answer
 pub record Read : Type 0 where

@@ -1,9 +1,6 @@
 -- Text on its way to a sink: what was written of it, and what pends behind that.
 use Rattle.std.specs.Prelude.{◌≡◌, ℕ, List, ◌++◌, Option, Result, OnOk, OnErr, IsErrOf}
-use Rattle.fm_io.specs.Count.{Counts, Raised}
-use Rattle.fm_io.specs.Sink.{Appends, AppendsPrefix, SinkView}
-use Rattle.fm_io.specs.declared.fault.Fault.{Fault}
-use Rattle.fm_io.specs.declared.fault.Fault.TheVariants.{Failed}
+use Rattle.fm_io.specs.{Count.{Counts, Raised}, Sink.{Appends, AppendsPrefix, SinkView}, declared.fault.Fault.{Fault, TheVariants.{Failed}}}
 
 -- What was written and what pends are what they were before, and then these bytes.
 pub record Passes (old new : Option (List ℕ)) (before after bytes : List ℕ) : Type 0 where

@@ -1,6 +1,5 @@
 -- What contracts see of a sink, and of the bytes that it took.
-use Rattle.std.specs.Prelude.{◌≡◌, ℕ, ◌≤◌, List, ◌++◌, length, take, Option, Result, Ok, Err}
-use Rattle.std.specs.Option.{option_map}
+use Rattle.std.specs.{Prelude.{◌≡◌, ℕ, ◌≤◌, List, ◌++◌, length, take, Option, Result, Ok, Err}, Option.{option_map}}
 use Rattle.fm_io.specs.declared.fault.Fault.{Fault}
 
 pub record SinkView : Type 0 where

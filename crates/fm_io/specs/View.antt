@@ -1,8 +1,6 @@
 -- What contracts see of a source of files, and what a call leaves of that.
 use Rattle.std.specs.Prelude.{◌≡◌, ℕ, List, Option}
-use Rattle.fm_io.specs.Count.{Counts, Rose}
-use Rattle.fm_io.specs.Files.{Contents}
-use Rattle.fm_io.specs.Reads.{Read}
+use Rattle.fm_io.specs.{Count.{Counts, Rose}, Files.{Contents}, Reads.{Read}}
 
 pub record FilesView : Type 0 where
   -- the files that are there, where they are told

@@ -1,16 +1,9 @@
 -- What the bytes of words mean as values, and what bytes a value is written as.
 use Rattle.std.proofs.Common.{◌≡◌, ℕ, ◌+◌, ◌*◌, ◌<◌, ◌≤◌, List, length, take, drop, get_or, sym, ap, ◌∙◌, arith}
-use Rattle.fm_base_bytes.specs.Bytes.{bytes_of, number_of, lane}
-use Rattle.fm_base_bytes.specs.Words.{bytes_in}
-use Rattle.fm_base_bytes.proofs.Bytes.{bytes_of-lane, lane-lt}
-use Rattle.fm_base_bytes.proofs.Words.{bytes_in-lane}
-use Rattle.fm_lanes.specs.declared.order.Order.{Order}
-use Rattle.fm_lanes.specs.declared.value.Value.{Value}
-use Rattle.fm_lanes.specs.declared.value_kind.ValueKind.{ValueKind}
-use Rattle.fm_lanes.specs.declared.value_kind.ValueKind.TheVariants.{Byte, Boolean, Char, Short, Int, Long}
-use Rattle.fm_lanes.specs.Kind.{width_of}
-use Rattle.fm_lanes.specs.Coding.{decoded, encoded, turned, lowest_first, value_of}
-use Rattle.fm_lanes.proofs.Turning.{turned_number, bytes_of-turned_order}
+use Rattle.fm_base_bytes.{specs.{Bytes.{bytes_of, number_of, lane}, Words.{bytes_in}}, proofs.{Bytes.{bytes_of-lane, lane-lt}, Words.{bytes_in-lane}}}
+use Rattle.fm_lanes.specs.declared.{order.Order.{Order}, value.Value.{Value}, value_kind.ValueKind.{ValueKind}}
+use Rattle.fm_lanes.specs.{declared.value_kind.ValueKind.TheVariants.{Byte, Boolean, Char, Short, Int, Long}, Kind.{width_of}}
+use Rattle.fm_lanes.{specs.Coding.{decoded, encoded, turned, lowest_first, value_of}, proofs.Turning.{turned_number, bytes_of-turned_order}}
 
 -- A width is 1 to 8 bytes.
 pub width_of-bounds : (kind : ValueKind) → (1 ≤ width_of kind) × (width_of kind ≤ 8)

@@ -3,8 +3,7 @@ use Rattle.std.proofs.Common.{◌≡◌, ℕ, zero, suc, ◌+◌, ◌-◌, ◌*�
 use Rattle.std.proofs.lemmas.Bool.{cases_lt}
 use Rattle.std.proofs.lemmas.List.{drop_more, drop_all, take_all, get_or_past, length-drop, ext_get_or, set-append_right, append-nil, drop-take, take-take, take_rest}
 use Rattle.byteorder.specs.Endian.{little_from, little_number}
-use Rattle.fm_base_bytes.specs.Bytes.{number_of}
-use Rattle.fm_base_bytes.specs.Words.{words_from, words_of, word_count}
+use Rattle.fm_base_bytes.specs.{Bytes.{number_of}, Words.{words_from, words_of, word_count}}
 use Rattle.fm_base_bytes.proofs.Words.{length-words_from, get_or-words_from, words_from-more}
 
 no_bytes : (n : ℕ) (bytes : List ℕ) → bytes ≡ [] → number_of (take n bytes) ≡ 0

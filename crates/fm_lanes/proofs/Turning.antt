@@ -1,16 +1,13 @@
 -- Numbers whose bytes are reversed, and what values mean in either order.
 use Rattle.std.proofs.Common.{◌≡◌, ℕ, zero, suc, ◌+◌, ◌-◌, ◌*◌, ◌/◌, ◌%◌, ◌^◌, ◌<◌, ◌≤◌, Fits, List, [], ◌∷◌, ◌++◌, length, replicate, reverse, refl, sym, ap, subst, ◌∙◌, arith}
 use Rattle.std.specs.Int.{w64, swap_bytes, from_be_bytes, bytes_low_first, byte_at}
-use Rattle.byteorder.proofs.Bytes.{pow256}
 use Rattle.std.proofs.lemmas.List.{reverse-append, reverse-reverse, length-reverse, length-replicate, get_or-reverse, drop_all, append-nil, replicate_more}
-use Rattle.std.proofs.lemmas.Grind.{reverse_onto}
-use Rattle.std.proofs.lemmas.Nat.{shr-shr, pow_pos, shl-shr, shr_split, mod_below}
+use Rattle.std.proofs.lemmas.{Grind.{reverse_onto}, Nat.{shr-shr, pow_pos, shl-shr, shr_split, mod_below}}
+use Rattle.byteorder.proofs.Bytes.{pow256}
 use Rattle.fm_base_bytes.specs.Bytes.{AreBytes, bytes_of, number_of, lane, replaced}
 use Rattle.fm_base_bytes.proofs.Bytes.{length-bytes_of, AreBytes-bytes_of, bytes_of-suc, bytes_of-zero, bytes_of-mod, bytes_of-number_of, number_of-bytes_of, number_of-bytes_of_mod, number_of-lt, number_of-append, number_of-zeros, bytes_of-replaced, replaced-replaced, replaced-lane, replaced-lt}
 use Rattle.fm_base_bytes.proofs.Words.{bytes_of-filled}
-use Rattle.fm_lanes.specs.declared.order.Order.{Order}
-use Rattle.fm_lanes.specs.declared.order.Order.TheVariants.{Little, Big}
-use Rattle.fm_lanes.specs.Coding.{turned, lowest_first}
+use Rattle.fm_lanes.specs.{declared.order.Order.{Order, TheVariants.{Little, Big}}, Coding.{turned, lowest_first}}
 
 -- ---- the library's bytes of a word are these
 

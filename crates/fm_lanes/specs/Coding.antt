@@ -1,15 +1,9 @@
 -- How values are coded in bytes: two's complement in the kind's width, in either order.
 use Rattle.std.specs.Prelude.{ℕ, ◌%◌, ◌^◌, ◌==◌, not, List, reverse}
-use Rattle.fm_base_bytes.specs.Bytes.{bytes_of, number_of, replaced}
-use Rattle.fm_base_bytes.specs.Signed.{signed_of, unsigned_of}
-use Rattle.fm_lanes.specs.declared.order.Order.{Order}
-use Rattle.fm_lanes.specs.declared.order.Order.TheVariants.{Little, Big}
-use Rattle.fm_lanes.specs.declared.value.Value.{Value}
-use Rattle.fm_lanes.specs.declared.value.Value.TheVariants.{Byte, Boolean, Char, Short, Int, Long}
-use Rattle.fm_lanes.specs.declared.value_kind.ValueKind.{ValueKind}
+use Rattle.fm_base_bytes.specs.{Bytes.{bytes_of, number_of, replaced}, Signed.{signed_of, unsigned_of}}
+use Rattle.fm_lanes.specs.declared.{order.Order.{Order, TheVariants.{Little, Big}}, value.Value.{Value, TheVariants.{Byte, Boolean, Char, Short, Int, Long}}}
+use Rattle.fm_lanes.specs.{declared.value_kind.ValueKind.{ValueKind}, Kind.{width_of}, Value.{kind_of, number_of_value}}
 use Rattle.fm_lanes.specs.declared.value_kind.ValueKind.TheVariants as kind
-use Rattle.fm_lanes.specs.Kind.{width_of}
-use Rattle.fm_lanes.specs.Value.{kind_of, number_of_value}
 
 -- the two's complement of the value's number in the value's width
 abbrev pub encoded : Value → ℕ

@@ -1,7 +1,6 @@
 -- The bytes of each kind of value.
 use Rattle.std.specs.Prelude.{ℕ}
-use Rattle.fm_lanes.specs.declared.value_kind.ValueKind.{ValueKind}
-use Rattle.fm_lanes.specs.declared.value_kind.ValueKind.TheVariants.{Byte, Boolean, Char, Short, Int, Long}
+use Rattle.fm_lanes.specs.declared.value_kind.ValueKind.{ValueKind, TheVariants.{Byte, Boolean, Char, Short, Int, Long}}
 
 -- the bytes that a value takes
 abbrev pub width_of : ValueKind → ℕ

@@ -1,8 +1,6 @@
 -- The names of kinds of value and of byte orders.
 use Rattle.std.specs.Prelude.{ℕ, Option, List, [], ◌∷◌, codes, bytes_eq, find}
-use Rattle.fm_lanes.specs.declared.order.Order.{Order}
-use Rattle.fm_lanes.specs.declared.order.Order.TheVariants.{Little, Big}
-use Rattle.fm_lanes.specs.declared.value_kind.ValueKind.{ValueKind}
+use Rattle.fm_lanes.specs.declared.{order.Order.{Order, TheVariants.{Little, Big}}, value_kind.ValueKind.{ValueKind}}
 use Rattle.fm_lanes.specs.declared.value_kind.ValueKind.TheVariants.{Byte, Boolean, Char, Short, Int, Long}
 
 abbrev pub kind_text : ValueKind → List ℕ

@@ -1,8 +1,6 @@
 -- The kind of a value, and the number that it is.
 use Rattle.std.specs.Prelude.{ℤ, pos, true, false}
-use Rattle.fm_lanes.specs.declared.value.Value.{Value}
-use Rattle.fm_lanes.specs.declared.value.Value.TheVariants.{Byte, Boolean, Char, Short, Int, Long}
-use Rattle.fm_lanes.specs.declared.value_kind.ValueKind.{ValueKind}
+use Rattle.fm_lanes.specs.declared.{value.Value.{Value, TheVariants.{Byte, Boolean, Char, Short, Int, Long}}, value_kind.ValueKind.{ValueKind}}
 use Rattle.fm_lanes.specs.declared.value_kind.ValueKind.TheVariants as kind
 
 abbrev pub kind_of : Value → ValueKind

@@ -1,8 +1,6 @@
 -- A layout of a list is no deeper than the deepest.
 use Rattle.std.proofs.Common.{◌≡◌, ap, ℕ, zero, suc, ◌<◌, ◌≤◌, List, [], ◌∷◌, length, get_or, arith}
-use Rattle.fm_layout.specs.Tree.{Tree}
-use Rattle.fm_layout.specs.Depth.{depth, deepest}
-use Rattle.fm_layout.specs.Views.{trees}
+use Rattle.fm_layout.specs.{Tree.{Tree}, Depth.{depth, deepest}, Views.{trees}}
 
 -- Each is at most as deep as the deepest of the list.
 pub deep_at : (ts : List Tree) (i : ℕ) (d t : Tree) → i < length ts → t ≡ get_or ts i d → depth t ≤ deepest (trees ts)

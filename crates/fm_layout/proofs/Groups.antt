@@ -1,14 +1,8 @@
 -- What is known on the way through a group's members comes to its size and its alignment.
 use Rattle.std.proofs.Common.{◌≡◌, refl, sym, ap, subst, ℕ, ◌+◌, ◌%◌, ◌<◌, ◌≤◌, max, List, ◌∷◌, length, drop, get_or, arith, ◌∙◌, eq-eqb, le-leb}
-use Rattle.std.specs.Int.{IsPowerOfTwo}
-use Rattle.std.proofs.lemmas.List.{drop_more, drop_all}
-use Rattle.fm_layout.specs.Tree.{Tree, Trees, NoMore, More, alignment_of}
-use Rattle.fm_layout.specs.Size.{size_of, greatest_alignment}
-use Rattle.fm_layout.specs.WellFormed.{limit, IsWellFormed}
-use Rattle.fm_layout.specs.Named.{HasNames}
-use Rattle.fm_layout.specs.Made.{fault_of}
-use Rattle.fm_layout.specs.Extent.{IsStructExtent, IsUnionExtent, IsLaying, IsStacking}
-use Rattle.fm_layout.specs.Views.{trees}
+use Rattle.std.{specs.Int.{IsPowerOfTwo}, proofs.lemmas.List.{drop_more, drop_all}}
+use Rattle.fm_layout.specs.{Tree.{Tree, Trees, NoMore, More, alignment_of}, Size.{size_of, greatest_alignment}, WellFormed.{limit, IsWellFormed}}
+use Rattle.fm_layout.specs.{Named.{HasNames}, Made.{fault_of}, Extent.{IsStructExtent, IsUnionExtent, IsLaying, IsStacking}, Views.{trees}}
 use Rattle.fm_layout.proofs.Sound.{IsPowerOfTwo-max, positive_power, fit_of}
 
 -- ---- structs

@@ -1,11 +1,7 @@
 -- Members by their index.
 use Rattle.std.proofs.Common.{◌≡◌, refl, sym, ℕ, zero, suc, ◌<◌, ◌≤◌, List, [], ◌∷◌, length, get_or, arith, None, Some, Option, Bor}
-use Rattle.std.specs.Option.{option_copied, IfSome, MatchOption}
-use Rattle.std.specs.List.{slice_get}
-use Rattle.std.proofs.lemmas.Option.{slice_get_read, slice_get_past}
-use Rattle.fm_layout.specs.Tree.{Tree}
-use Rattle.fm_layout.specs.Parts.{count_of, tree_at}
-use Rattle.fm_layout.specs.Views.{trees}
+use Rattle.std.{specs.{Option.{option_copied, IfSome, MatchOption}, List.{slice_get}}, proofs.lemmas.Option.{slice_get_read, slice_get_past}}
+use Rattle.fm_layout.specs.{Tree.{Tree}, Parts.{count_of, tree_at}, Views.{trees}}
 
 -- As many as the list has.
 pub count_of-trees : (ts : List Tree) → count_of (trees ts) ≡ length ts

@@ -1,8 +1,6 @@
 -- Names, by a test on each byte.
 use Rattle.std.proofs.Common.{◌≡◌, ℕ, ◌-◌, ◌<◌, ◌≤◌, ◌||◌, Bool, true, List, [], ◌∷◌, length, take, drop, slice_index, refl, sym, ap, ◌∙◌, arith}
-use Rattle.std.specs.List.{list_all}
-use Rattle.std.proofs.lemmas.Bool.{and_parts, and_from}
-use Rattle.std.proofs.lemmas.List.{take_rest}
+use Rattle.std.{specs.List.{list_all}, proofs.lemmas.{Bool.{and_parts, and_from}, List.{take_rest}}}
 use Rattle.fm_layout.specs.Name.{is_digit, is_letter, IsName, IsNameEnd}
 
 -- Bytes that pass the test end a name.

@@ -1,17 +1,8 @@
 -- The tree of a node with another label.
-use Rattle.std.proofs.Common.{◌≡◌, ℕ, ◌≤◌, true, refl, sym, subst}
-use Rattle.std.specs.Int.{is_power_of_two}
-use Rattle.fm_layout.specs.Tree.{Label, relabelled}
-use Rattle.fm_layout.specs.Size.{least_of}
-use Rattle.fm_layout.specs.WellFormed.{limit}
-use Rattle.fm_layout.specs.Named.{HasNames, IsNameIfAny}
-use Rattle.fm_layout.specs.Sound.{IsSound}
-use Rattle.fm_layout.specs.Parts.{IsPadding}
-use Rattle.fm_layout.specs.Views.{tree_of}
-use Rattle.fm_layout.specs.declared.layout.Node.{Node}
+use Rattle.std.{proofs.Common.{◌≡◌, ℕ, ◌≤◌, true, refl, sym, subst}, specs.Int.{is_power_of_two}}
+use Rattle.fm_layout.specs.{Tree.{Label, relabelled}, Size.{least_of}, WellFormed.{limit}, Named.{HasNames, IsNameIfAny}, Sound.{IsSound}, Parts.{IsPadding}}
+use Rattle.fm_layout.{specs.{Views.{tree_of}, declared.layout.Node.{Node}}, proofs.{Powers.{IsPowerOfTwo-from_test}, Sound.{realigned_sound}}}
 use Rattle.fm_layout.specs.declared.layout.Node.TheVariants as node
-use Rattle.fm_layout.proofs.Powers.{IsPowerOfTwo-from_test}
-use Rattle.fm_layout.proofs.Sound.{realigned_sound}
 
 -- The label is all that changes.
 tree_of-relabelled : (size : ℕ) (l m : Label) (n : Node) → tree_of size l n ≡ relabelled l (tree_of size m n)

@@ -1,10 +1,7 @@
 -- The library's test of powers of two.
 use Rattle.std.proofs.Common.{◌≡◌, ℕ, zero, suc, ◌+◌, ◌*◌, ◌/◌, ◌%◌, ◌^◌, ◌≤◌, true, sym, ap, ◌∙◌, arith, inl, inr, eq-eqb}
-use Rattle.std.specs.Int.{IsPowerOfTwo, is_power_of_two}
-use Rattle.std.specs.Int.RustNames.{count_ones}
-use Rattle.std.proofs.lemmas.Nat.{ones_cat, zero_from_ones, ones_le_self, pow_pos}
-use Rattle.std.proofs.lemmas.Bool.{cases_lt, eqb-true}
-use Rattle.std.proofs.Math.Nat.{pow-succ'}
+use Rattle.std.{specs.Int.{IsPowerOfTwo, is_power_of_two, RustNames.{count_ones}}, proofs.lemmas.Nat.{ones_cat, zero_from_ones, ones_le_self, pow_pos}}
+use Rattle.std.proofs.{lemmas.Bool.{cases_lt, eqb-true}, Math.Nat.{pow-succ'}}
 
 -- A number's ones are those of its half and its lowest bit.
 ones_halved : (n : ℕ) → count_ones n ≡ count_ones (n / 2) + count_ones (n % 2)

@@ -1,21 +1,10 @@
 -- What constructors make is well formed.
-use Rattle.std.proofs.Common.{◌≡◌, refl, ℕ, ◌≤◌, max, arith, ◌∙◌, nat_cmp, inl, inr}
-use Rattle.std.specs.Int.{IsPowerOfTwo}
-use Rattle.std.specs.Ordering.{ord_max}
-use Rattle.std.proofs.lemmas.Bool.{cases_lt}
-use Rattle.std.proofs.lemmas.Bool.Decides.{nat_tests}
-use Rattle.std.proofs.lemmas.Nat.{pow_pos}
-use Rattle.fm_lanes.specs.Kind.{width_of}
-use Rattle.fm_lanes.specs.declared.order.Order.TheVariants.{Little}
-use Rattle.fm_lanes.specs.declared.value_kind.ValueKind.{ValueKind}
+use Rattle.std.{proofs.{Common.{◌≡◌, refl, ℕ, ◌≤◌, max, arith, ◌∙◌, nat_cmp, inl, inr}, lemmas.Bool.{cases_lt}}, specs.{Int.{IsPowerOfTwo}, Ordering.{ord_max}}}
+use Rattle.std.proofs.lemmas.{Bool.Decides.{nat_tests}, Nat.{pow_pos}}
+use Rattle.fm_lanes.specs.{Kind.{width_of}, declared.{order.Order.TheVariants.{Little}, value_kind.ValueKind.{ValueKind}}}
 use Rattle.fm_lanes.specs.declared.value_kind.ValueKind.TheVariants.{Byte, Boolean, Char, Short, Int, Long}
-use Rattle.fm_layout.specs.Tree.{Tree, Value, Padding, Sequence, Struct, Union, Label, alignment_of, relabelled}
-use Rattle.fm_layout.specs.Size.{least_of}
-use Rattle.fm_layout.specs.WellFormed.{limit, IsFit, IsWellFormed}
-use Rattle.fm_layout.specs.Named.{IsNameIfAny}
-use Rattle.fm_layout.specs.Sound.{IsSound}
-use Rattle.fm_layout.specs.Parts.{IsPadding}
-use Rattle.fm_layout.specs.Made.{plain}
+use Rattle.fm_layout.specs.{Tree.{Tree, Value, Padding, Sequence, Struct, Union, Label, alignment_of, relabelled}, Size.{least_of}}
+use Rattle.fm_layout.specs.{WellFormed.{limit, IsFit, IsWellFormed}, Named.{IsNameIfAny}, Sound.{IsSound}, Parts.{IsPadding}, Made.{plain}}
 
 -- ---- powers of two
 

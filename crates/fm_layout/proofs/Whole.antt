@@ -1,11 +1,7 @@
 -- A layout is what it is and what stands in it.
 use Rattle.std.proofs.Common.{◌≡◌, ℕ, ◌<◌, List, [], ◌∷◌, refl, sym, ap, ◌∙◌, arith}
-use Rattle.fm_layout.specs.Tree.{Label, Tree, Trees, Value, Padding, Sequence, Struct, Union, NoMore, More, label_of}
-use Rattle.fm_layout.specs.Size.{size_of}
-use Rattle.fm_layout.specs.Depth.{depth, deepest}
-use Rattle.fm_layout.specs.Parts.{form_of, list_of, children_of, HasSameHead}
-use Rattle.fm_layout.specs.Views.{trees}
-use Rattle.fm_layout.specs.declared.form.Form.{Form}
+use Rattle.fm_layout.specs.{Tree.{Label, Tree, Trees, Value, Padding, Sequence, Struct, Union, NoMore, More, label_of}, Size.{size_of}, Depth.{depth, deepest}}
+use Rattle.fm_layout.specs.{Parts.{form_of, list_of, children_of, HasSameHead}, Views.{trees}, declared.form.Form.{Form}}
 use Rattle.fm_layout.specs.declared.form.Form.TheVariants as form
 
 -- The list of a list's trees is the list.

@@ -1,13 +1,7 @@
 -- The test of equality decides it.
-use Rattle.std.proofs.Common.{◌≡◌, ℕ, true, ◌&&◌, Option, Some, None, List, nat_eq, refl, sym, ap, ◌∙◌}
-use Rattle.std.specs.Bool.{Decides, one_answer}
-use Rattle.std.specs.Cmp.{IsEquivalence}
-use Rattle.std.proofs.lemmas.Bool.{and_parts, and_from}
-use Rattle.std.proofs.lemmas.Bool.Decides.{Decides-eqb}
-use Rattle.std.proofs.lemmas.Slice.Eq.{bytes_eq-Decides, slice_eq-Decides}
-use Rattle.fm_layout.specs.Tree.{Tree}
-use Rattle.fm_layout.specs.Codes.{Token, tokens, same_from_tokens}
-use Rattle.fm_layout.specs.Same.{same_name, same_token, same_tree}
+use Rattle.std.{proofs.Common.{◌≡◌, ℕ, true, ◌&&◌, Option, Some, None, List, nat_eq, refl, sym, ap, ◌∙◌}, specs.Bool.{Decides, one_answer}}
+use Rattle.std.{specs.Cmp.{IsEquivalence}, proofs.lemmas.{Bool.{and_parts, and_from, Decides.{Decides-eqb}}, Slice.Eq.{bytes_eq-Decides, slice_eq-Decides}}}
+use Rattle.fm_layout.specs.{Tree.{Tree}, Codes.{Token, tokens, same_from_tokens}, Same.{same_name, same_token, same_tree}}
 
 name_decides : (s t : Option (List ℕ)) → Decides (same_name s t) (s ≡ t)
 name_decides None None = (λ _. refl, λ _. refl)

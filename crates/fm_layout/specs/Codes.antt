@@ -1,11 +1,8 @@
 -- A code for trees, by which proofs tell them apart: a tree is stored as a list of tokens, its parts first, and read back by a stack.
-use Rattle.std.specs.Prelude.{◌≡◌, ◌⊎◌, refl, ℕ, Option, None, List, [], ◌∷◌, ◌++◌}
-use Rattle.std.proofs.Common.{zero, suc, sym, ap, ◌∙◌}
-use mathlib.Core.Logic.{inl, inr}
+use Rattle.std.{specs.Prelude.{◌≡◌, ◌⊎◌, refl, ℕ, Option, None, List, [], ◌∷◌, ◌++◌}, proofs.Common.{zero, suc, sym, ap, ◌∙◌}}
 use Rattle.std.specs.Coded.{Coded, code_by, coded×, coded_ℕ, coded_list, coded_option}
-use Rattle.fm_lanes.specs.declared.order.Order.{Order}
-use Rattle.fm_lanes.specs.declared.order.Order.TheVariants.{Little, Big}
-use Rattle.fm_lanes.specs.declared.value_kind.ValueKind.{ValueKind}
+use mathlib.Core.Logic.{inl, inr}
+use Rattle.fm_lanes.specs.declared.{order.Order.{Order, TheVariants.{Little, Big}}, value_kind.ValueKind.{ValueKind}}
 use Rattle.fm_lanes.specs.declared.value_kind.ValueKind.TheVariants.{Byte, Boolean, Char, Short, Int, Long}
 use Rattle.fm_layout.specs.Tree.{Label, Tree, Trees, Value, Padding, Sequence, Struct, Union, NoMore, More}
 

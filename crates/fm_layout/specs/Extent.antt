@@ -1,10 +1,6 @@
 -- What is known of the size and the alignment of a group, at its end and on the way through its members.
-use Rattle.std.specs.Prelude.{◌≡◌, ℕ, ◌+◌, ◌≤◌, max, None}
-use Rattle.std.specs.Int.{IsPowerOfTwo}
-use Rattle.fm_layout.specs.Tree.{Trees}
-use Rattle.fm_layout.specs.Size.{sum_of, greatest_of, greatest_alignment}
-use Rattle.fm_layout.specs.WellFormed.{limit, AreLaidOut, AreWellFormed}
-use Rattle.fm_layout.specs.Made.{fault_of}
+use Rattle.std.specs.{Prelude.{◌≡◌, ℕ, ◌+◌, ◌≤◌, max, None}, Int.{IsPowerOfTwo}}
+use Rattle.fm_layout.specs.{Tree.{Trees}, Size.{sum_of, greatest_of, greatest_alignment}, WellFormed.{limit, AreLaidOut, AreWellFormed}, Made.{fault_of}}
 use Rattle.fm_layout.specs.Named.{HaveNames}
 
 -- the size and the alignment of a struct of members that keep the rule

@@ -1,13 +1,8 @@
 -- A child is less deep than its parent.
-use Rattle.std.specs.Prelude.{ℕ, ◌+◌, ◌≤◌, List, [], ◌∷◌, max}
-use Rattle.std.proofs.Common.{arith}
+use Rattle.std.{specs.Prelude.{ℕ, ◌+◌, ◌≤◌, List, [], ◌∷◌, max}, proofs.Common.{arith}}
 use denote.Param.Weighed.{most}
-use Rattle.fm_layout.specs.Tree.{Label, Tree}
-use Rattle.fm_layout.specs.Depth.{depth, deepest}
-use Rattle.fm_layout.specs.Views.{trees, tree_of}
-use Rattle.fm_layout.specs.declared.layout.Node.{Node}
+use Rattle.fm_layout.specs.{Tree.{Label, Tree}, Depth.{depth, deepest}, Views.{trees, tree_of}, declared.layout.{Node.{Node}, Layout.TheDeep.{deep-Node}}}
 use Rattle.fm_layout.specs.declared.layout.Node.TheVariants as node
-use Rattle.fm_layout.specs.declared.layout.Layout.TheDeep.{deep-Node}
 
 most-le-deepest : (ts : List Tree) → most (λ t. depth t + 1) ts ≤ deepest (trees ts) + 1
 most-le-deepest [] = omega arith

@@ -1,15 +1,9 @@
 -- What constructors of layouts answer: a layout, or the first refusal that applies.
-use Rattle.std.specs.Prelude.{ℕ, ◌+◌, ◌*◌, ◌%◌, Option, Some, None, Result, Ok, Err, List, if◌then◌else◌, nat_eq, nat_le}
-use Rattle.std.specs.Int.{is_power_of_two}
-use Rattle.fm_base.specs.declared.refusal.Refusal.{Refusal}
-use Rattle.fm_base.specs.declared.refusal.Refusal.TheVariants.{Overflow, MemberMisaligned, ElementRagged, BadPadding, BadAlignment, AlignmentBelow}
-use Rattle.fm_lanes.specs.declared.order.Order.{Order}
-use Rattle.fm_lanes.specs.declared.order.Order.TheVariants.{Little}
-use Rattle.fm_lanes.specs.declared.value_kind.ValueKind.{ValueKind}
-use Rattle.fm_lanes.specs.Kind.{width_of}
+use Rattle.std.specs.{Prelude.{ℕ, ◌+◌, ◌*◌, ◌%◌, Option, Some, None, Result, Ok, Err, List, if◌then◌else◌, nat_eq, nat_le}, Int.{is_power_of_two}}
+use Rattle.fm_base.specs.declared.refusal.Refusal.{Refusal, TheVariants.{Overflow, MemberMisaligned, ElementRagged, BadPadding, BadAlignment, AlignmentBelow}}
+use Rattle.fm_lanes.specs.{declared.{order.Order.{Order, TheVariants.{Little}}, value_kind.ValueKind.{ValueKind}}, Kind.{width_of}}
 use Rattle.fm_layout.specs.Tree.{Label, Tree, Trees, Value, Padding, Sequence, Struct, Union, NoMore, More, label_of, alignment_of, relabelled}
-use Rattle.fm_layout.specs.Size.{size_of, greatest_alignment, least_of}
-use Rattle.fm_layout.specs.WellFormed.{limit}
+use Rattle.fm_layout.specs.{Size.{size_of, greatest_alignment, least_of}, WellFormed.{limit}}
 
 -- this alignment, and no name
 abbrev pub plain : ℕ → Label

@@ -1,7 +1,6 @@
 -- Layouts whose every name is a name.
 use Rattle.std.specs.Prelude.{ℕ, Option, Some, None, List}
-use Rattle.fm_layout.specs.Name.{IsName}
-use Rattle.fm_layout.specs.Tree.{Tree, Trees, Value, Padding, Sequence, Struct, Union, NoMore, More}
+use Rattle.fm_layout.specs.{Name.{IsName}, Tree.{Tree, Trees, Value, Padding, Sequence, Struct, Union, NoMore, More}}
 
 abbrev pub IsNameIfAny : Option (List ℕ) → Type 0
 IsNameIfAny None = Unit {0}

@@ -1,9 +1,6 @@
 -- What a layout is, and what stands directly in it.
-use Rattle.std.specs.Prelude.{◌≡◌, ℕ, ◌+◌, Option, Some, None, List, [], ◌∷◌}
-use Rattle.std.proofs.Common.{zero, suc}
-use Rattle.fm_layout.specs.Tree.{Tree, Trees, Value, Padding, Sequence, Struct, Union, NoMore, More, label_of}
-use Rattle.fm_layout.specs.Size.{size_of}
-use Rattle.fm_layout.specs.declared.form.Form.{Form}
+use Rattle.std.{specs.Prelude.{◌≡◌, ℕ, ◌+◌, Option, Some, None, List, [], ◌∷◌}, proofs.Common.{zero, suc}}
+use Rattle.fm_layout.specs.{Tree.{Tree, Trees, Value, Padding, Sequence, Struct, Union, NoMore, More, label_of}, Size.{size_of}, declared.form.Form.{Form}}
 use Rattle.fm_layout.specs.declared.form.Form.TheVariants as form
 
 abbrev pub count_of : Trees → ℕ

@@ -1,9 +1,6 @@
 -- Whether two layouts are equal in all parts, as a test: whether the same tokens stand for them.
-use Rattle.std.specs.Prelude.{ℕ, Bool, true, false, ◌&&◌, Option, Some, None, List, nat_eq}
-use Rattle.std.specs.Str.{bytes_eq}
-use Rattle.std.specs.Cmp.Lexicographic.{pointwise}
-use Rattle.fm_layout.specs.Tree.{Tree}
-use Rattle.fm_layout.specs.Codes.{Token, tokens}
+use Rattle.std.specs.{Prelude.{ℕ, Bool, true, false, ◌&&◌, Option, Some, None, List, nat_eq}, Str.{bytes_eq}, Cmp.Lexicographic.{pointwise}}
+use Rattle.fm_layout.specs.{Tree.{Tree}, Codes.{Token, tokens}}
 
 abbrev pub same_name : Option (List ℕ) → Option (List ℕ) → Bool
 same_name None None = true

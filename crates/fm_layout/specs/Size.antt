@@ -1,6 +1,5 @@
 -- The sizes of layouts, their least alignments and where members stand, in bytes.
-use Rattle.std.specs.Prelude.{ℕ, ◌+◌, ◌*◌, max}
-use Rattle.std.proofs.Common.{zero, suc}
+use Rattle.std.{specs.Prelude.{ℕ, ◌+◌, ◌*◌, max}, proofs.Common.{zero, suc}}
 use Rattle.fm_lanes.specs.Kind.{width_of}
 use Rattle.fm_layout.specs.Tree.{Tree, Trees, Value, Padding, Sequence, Struct, Union, NoMore, More, alignment_of}
 

@@ -1,7 +1,6 @@
 -- Layouts as trees (`MemoryLayout`, Java SE 22).
 use Rattle.std.specs.Prelude.{ℕ, Option, List}
-use Rattle.fm_lanes.specs.declared.order.Order.{Order}
-use Rattle.fm_lanes.specs.declared.value_kind.ValueKind.{ValueKind}
+use Rattle.fm_lanes.specs.declared.{order.Order.{Order}, value_kind.ValueKind.{ValueKind}}
 
 -- what every layout has beside its form: its alignment in bytes, and perhaps a name
 pub record Label : Type 0 where

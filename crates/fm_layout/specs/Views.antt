@@ -1,10 +1,7 @@
 -- The tree that a layout of the program is seen as.
-use Rattle.std.specs.Prelude.{ℕ, Option, Some, None, List, [], ◌∷◌}
-use Rattle.std.specs.declared.string.String.{String}
-use Rattle.std.specs.String.{string_bytes}
-use Rattle.fm_layout.specs.Tree.{Label, Tree, Trees, NoMore, More}
+use Rattle.std.specs.{Prelude.{ℕ, Option, Some, None, List, [], ◌∷◌}, declared.string.String.{String}, String.{string_bytes}}
+use Rattle.fm_layout.specs.{Tree.{Label, Tree, Trees, NoMore, More}, declared.layout.Node.{Node}}
 use Rattle.fm_layout.specs.Tree as tree
-use Rattle.fm_layout.specs.declared.layout.Node.{Node}
 use Rattle.fm_layout.specs.declared.layout.Node.TheVariants as node
 
 -- a name as its bytes

@@ -1,21 +1,13 @@
 -- Layouts are built one after the other.
 use Rattle.std.proofs.Common.{◌≡◌, inl, inr, ℕ, zero, suc, ◌+◌, ◌-◌, ◌<◌, ◌≤◌, List, [], ◌∷◌, ◌++◌, map, length, drop, get_or, Option, Some, None, Result, Ok, Err, refl, sym, ap, subst, ◌∙◌, arith}
 use Rattle.std.proofs.lemmas.List.{drop_all, drop_more}
-use Rattle.serde_json.specs.Data.{Data}
-use Rattle.serde_json.specs.View.{view}
-use Rattle.serde_json.specs.declared.value.Value.{Value}
-use Rattle.fm_base.specs.declared.refusal.Refusal.{Refusal}
-use Rattle.fm_base.specs.declared.refusal.Refusal.TheVariants.{BadShape}
-use Rattle.fm_layout.specs.Tree.{Tree, Trees, NoMore, More}
-use Rattle.fm_layout.specs.Made.{made, sequence_of, struct_of, union_of}
-use Rattle.fm_layout.specs.Parts.{IsPadding}
-use Rattle.fm_layout.specs.Views.{trees}
+use Rattle.serde_json.specs.{Data.{Data}, View.{view}, declared.value.Value.{Value}}
+use Rattle.fm_base.specs.declared.refusal.Refusal.{Refusal, TheVariants.{BadShape}}
+use Rattle.fm_layout.specs.{Tree.{Tree, Trees, NoMore, More}, Made.{made, sequence_of, struct_of, union_of}, Parts.{IsPadding}, Views.{trees}}
 use Rattle.fm_ljson.specs.Node.{Content, Padding, Sequence, Struct, Union, Node, node_of}
+use Rattle.fm_ljson.specs.{Built.{aligned, all_of, built, built_if_any, content_built, copied, named, node_built, OrMemory, then}, Refs.{ref_of}}
+use Rattle.fm_ljson.{specs.Views.{IsPaddingContent, MayBeAligned}, proofs.Inside.{node_of-good}}
 use Rattle.fm_ljson.specs.Node as said
-use Rattle.fm_ljson.specs.Built.{aligned, all_of, built, built_if_any, content_built, copied, named, node_built, OrMemory, then}
-use Rattle.fm_ljson.specs.Refs.{ref_of}
-use Rattle.fm_ljson.specs.Views.{IsPaddingContent, MayBeAligned}
-use Rattle.fm_ljson.proofs.Inside.{node_of-good}
 
 -- these trees, and then those
 abbrev pub followed : List Tree → Trees → Trees

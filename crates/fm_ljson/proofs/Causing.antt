@@ -1,28 +1,20 @@
 -- Which refusals a layout that is built may give, and why.
 use Rattle.std.proofs.Common.{◌≡◌, ◌⊎◌, inl, inr, ℕ, zero, suc, ◌+◌, ◌*◌, ◌%◌, ◌<◌, ◌≤◌, Bool, true, false, cond, List, [], ◌∷◌, ◌++◌, length, map, Option, Some, None, IfSome, Result, Ok, Err, IfErr, IsUtf8, nat_eq, nat_le, refl, sym, ap, subst, ◌∙◌, arith, bytes_eq, true≢false}
-use Rattle.std.specs.Prelude.{flat_map}
-use Rattle.std.specs.Int.{is_power_of_two}
-use Rattle.std.proofs.lemmas.Bool.{cases_lt}
-use Rattle.std.proofs.lemmas.Option.{none-some, same_Some}
-use Rattle.serde_json.specs.Data.{Data}
-use Rattle.serde_json.specs.Read.{read}
+use Rattle.std.{specs.{Prelude.{flat_map}, Int.{is_power_of_two}}, proofs.lemmas.{Bool.{cases_lt}, Option.{none-some, same_Some}}}
+use Rattle.serde_json.specs.{Data.{Data}, Read.{read}}
 use Rattle.fm_base.specs.declared.refusal.Refusal.{Refusal}
 use Rattle.fm_base.specs.declared.refusal.Refusal.TheVariants.{BadShape, BadAlignment, Overflow, MemberMisaligned, ElementRagged, BadPadding, AlignmentBelow, Memory}
-use Rattle.fm_layout.specs.Tree.{Tree, Trees, NoMore, More, alignment_of}
-use Rattle.fm_layout.specs.Size.{size_of, least_of}
-use Rattle.fm_layout.specs.WellFormed.{limit}
+use Rattle.fm_layout.specs.{Tree.{Tree, Trees, NoMore, More, alignment_of}, Size.{size_of, least_of}, WellFormed.{limit}}
 use Rattle.fm_layout.specs.Made.{fault_of, made, padding_of, sequence_fault, sequence_of, struct_of, with_alignment}
 use Rattle.fm_ljson.specs.Node.{Content, Padding, Sequence, Struct, Union, Node, node_of, parts_in, parts_of}
-use Rattle.fm_ljson.specs.Node as said
 use Rattle.fm_ljson.specs.Nodes.{first_broken, is_broken, most_levels, most_nodes, most_written_levels, most_written_nodes, nodes}
 use Rattle.fm_ljson.specs.Built.{aligned, all_of, built, built_behind, built_if_any, content_built, copied, copied_as, node_built, OrMemory, then}
 use Rattle.fm_ljson.specs.Answer.{fault_in, layout_of_data, made_of, shaped}
 use Rattle.fm_ljson.specs.Documents.{Entry, Text, One, Two, Neither, at_entry, behind, broken_at, entry_of, first_broken_of, first_of, new_entry, parts_at, parts_from, text_of}
-use Rattle.fm_ljson.specs.Measured.{large_of}
-use Rattle.fm_ljson.specs.Refs.{Ref, also_known, is_known_ref, knowing, none_known, ref_of, unknown}
-use Rattle.fm_ljson.specs.Causes.{IsBadAt, IsCause, IsJsonOf, IsRefusedAs}
-use Rattle.fm_ljson.proofs.Counting.{no_node, one_too_many, too_deep, whole_here}
+use Rattle.fm_ljson.specs.{Measured.{large_of}, Refs.{Ref, also_known, is_known_ref, knowing, none_known, ref_of, unknown}}
+use Rattle.fm_ljson.{specs.Causes.{IsBadAt, IsCause, IsJsonOf, IsRefusedAs}, proofs.Counting.{no_node, one_too_many, too_deep, whole_here}}
 use Rattle.fm_ljson.proofs.Entries.{new_entry-says}
+use Rattle.fm_ljson.specs.Node as said
 
 -- the refusals of constructors and of `with_alignment`
 abbrev pub IsOfLayouts : Refusal → Type 0

@@ -1,15 +1,10 @@
 -- The nodes of a part are among those of the whole.
 use Rattle.std.proofs.Common.{◌≡◌, ℕ, zero, suc, ◌+◌, ◌-◌, ◌<◌, ◌≤◌, ◌||◌, Bool, true, false, cond, List, [], ◌∷◌, ◌++◌, length, map, drop, get_or, Option, Some, None, Result, Ok, Err, IfOk, IfErr, refl, sym, ap, subst, ◌∙◌, arith, length-append, nat_eq, le-leb}
-use Rattle.std.specs.Prelude.{flat_map, is_some, nat_le, not}
+use Rattle.std.{specs.Prelude.{flat_map, is_some, nat_le, not}, proofs.lemmas.List.{drop_all, drop_more}}
 use borrow.Author.Tests.{lt-leb, ne_eqb}
-use Rattle.std.proofs.lemmas.List.{drop_all, drop_more}
-use Rattle.serde_json.specs.Data.{Data}
-use Rattle.serde_json.specs.View.{view}
-use Rattle.serde_json.specs.declared.value.Value.{Value}
-use Rattle.fm_ljson.specs.Node.{Node, node_of, parts_in, parts_of, parts_of_node}
-use Rattle.fm_ljson.specs.Refs.{is_known_ref, ref_of}
-use Rattle.fm_ljson.specs.Nodes.{first_broken, is_broken, is_sound, nodes}
-use Rattle.fm_ljson.specs.Counted.{AreSound, IsCounting}
+use Rattle.serde_json.specs.{Data.{Data}, View.{view}, declared.value.Value.{Value}}
+use Rattle.fm_ljson.specs.{Node.{Node, node_of, parts_in, parts_of, parts_of_node}, Refs.{is_known_ref, ref_of}}
+use Rattle.fm_ljson.specs.{Nodes.{first_broken, is_broken, is_sound, nodes}, Counted.{AreSound, IsCounting}}
 
 none_past : (b : Bool) (n : ℕ) (r s t : Option ℕ) → (r ≡ None → s ≡ t) → cond b (Some n) r ≡ None → cond b (Some n) s ≡ t
 none_past true n r s t k h = cc

@@ -1,16 +1,10 @@
 -- What is known behind an entry.
 use Rattle.std.proofs.Common.{◌≡◌, inr, ℕ, ◌+◌, ◌<◌, Bool, true, false, cond, List, [], ◌∷◌, ◌++◌, length, map, drop, get_or, Option, Some, None, option_and_then, refl, sym, ap, subst, ◌∙◌}
-use Rattle.std.specs.Prelude.{nat_lt}
-use Rattle.std.proofs.Math.Path.{fun_ext}
-use Rattle.std.proofs.lemmas.List.{append_assoc, drop_more}
-use Rattle.std.proofs.lemmas.Option.{none-some}
-use Rattle.serde_json.specs.Data.{Data}
-use Rattle.serde_json.specs.View.{view}
-use Rattle.serde_json.specs.declared.value.Value.{Value}
+use Rattle.std.{specs.Prelude.{nat_lt}, proofs.{Math.Path.{fun_ext}, lemmas.{List.{append_assoc, drop_more}, Option.{none-some}}}}
+use Rattle.serde_json.specs.{Data.{Data}, View.{view}, declared.value.Value.{Value}}
 use Rattle.fm_base.specs.declared.refusal.Refusal.TheVariants.{BadShape}
 use Rattle.fm_ljson.specs.Documents.{Entry, Numbered, Parts, at_entry, before, behind, broken_at, entry, entry_of, first_broken_of, first_of, new_entry, numbered, parts_at, parts_from, unless_known}
-use Rattle.fm_ljson.specs.Loops.{IsAt, IsBadShape, IsBrokenEntry, IsReading, IsSoundEntry, behind_all}
-use Rattle.fm_ljson.specs.Nodes.{most_written_nodes}
+use Rattle.fm_ljson.specs.{Loops.{IsAt, IsBadShape, IsBrokenEntry, IsReading, IsSoundEntry, behind_all}, Nodes.{most_written_nodes}}
 use Rattle.fm_ljson.specs.Refs.{also_known, none_known}
 
 unless_said : (b : Bool) (e f : Entry) → cond b None (Some f) ≡ Some e → Some f ≡ Some e

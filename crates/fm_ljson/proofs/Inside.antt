@@ -1,23 +1,13 @@
 -- What is known of a node that breaks no rule.
 use Rattle.std.proofs.Common.{◌≡◌, ℕ, ◌&&◌, ◌||◌, Bool, true, false, cond, List, [], ◌∷◌, length, Option, Some, None, option_map, option_and_then, refl, sym, ap, subst, leb-true, le-leb}
-use Rattle.std.specs.Prelude.{nat_le, codes}
-use Rattle.std.specs.List.{list_all}
-use Rattle.std.specs.Bool.{Decides}
-use Rattle.std.proofs.lemmas.Bool.{and_parts, and_from}
-use Rattle.std.proofs.lemmas.Option.{none-some, same_Some}
-use Rattle.serde_json.specs.Data.{Data, Members}
-use Rattle.serde_json.specs.Find.{as_object, as_str, get_member}
-use Rattle.serde_json.specs.View.{items_of}
-use Rattle.fm_layout.specs.Name.{is_digit, is_letter, IsName}
-use Rattle.fm_layout.specs.Named.{IsNameIfAny}
-use Rattle.fm_layout.proofs.Names.{IsNameEnd-from_all, list_all-IsNameEnd}
+use Rattle.std.{specs.{Prelude.{nat_le, codes}, List.{list_all}, Bool.{Decides}}, proofs.lemmas.{Bool.{and_parts, and_from}, Option.{none-some, same_Some}}}
+use Rattle.serde_json.specs.{Data.{Data, Members}, Find.{as_object, as_str, get_member}, View.{items_of}}
+use Rattle.fm_layout.{specs.{Name.{is_digit, is_letter, IsName}, Named.{IsNameIfAny}}, proofs.Names.{IsNameEnd-from_all, list_all-IsNameEnd}}
 use Rattle.fm_ljson.specs.declared.type_name.TypeName.{TypeName}
-use Rattle.fm_ljson.specs.declared.type_name.TypeName.TheVariants as type_name
 use Rattle.fm_ljson.specs.Node.{Content, Value, Sequence, Struct, Union, Node, align_in, content_in, has_only, if_any, is_name, list_of, members_in, name_in, name_of, node, node_in, node_of, node_of_type, optional, order_in, required, type_of, whole_of}
-use Rattle.fm_ljson.specs.Refs.{Ref, ref, ref_in, ref_named, ref_of, says_ref}
-use Rattle.fm_ljson.specs.Types.{keys_in, keys_of}
+use Rattle.fm_ljson.specs.{Refs.{Ref, ref, ref_in, ref_named, ref_of, says_ref}, Types.{keys_in, keys_of}, Views.{IsPaddingContent, MayBeAligned}}
+use Rattle.fm_ljson.specs.declared.type_name.TypeName.TheVariants as type_name
 use Rattle.fm_ljson.specs.declared.role.Role.TheVariants as role
-use Rattle.fm_ljson.specs.Views.{IsPaddingContent, MayBeAligned}
 
 -- The items of a list are the list.
 pub list_of-items_of : (ds : List Data) → list_of (items_of ds) ≡ ds

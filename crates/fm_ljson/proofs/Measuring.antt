@@ -1,22 +1,12 @@
 -- What a layout measures, its refs replaced, and which is the first that is too large.
 use Rattle.std.proofs.Common.{◌≡◌, inl, inr, ℕ, zero, suc, ◌+◌, ◌-◌, ◌<◌, ◌≤◌, false, cond, List, ◌∷◌, length, map, drop, get_or, Option, Some, None, Ok, refl, sym, ap, subst, ◌∙◌, arith}
-use Rattle.std.specs.Prelude.{nat_lt}
-use Rattle.std.proofs.Math.Path.{fun_ext}
-use Rattle.std.proofs.lemmas.Bool.Decides.{nat_tests}
-use Rattle.std.proofs.lemmas.List.{drop_more}
+use Rattle.std.{specs.Prelude.{nat_lt}, proofs.{Math.Path.{fun_ext}, lemmas.{Bool.Decides.{nat_tests}, List.{drop_more}}}}
 use Rattle.serde_json.specs.Data.{Data}
 use Rattle.fm_layout.specs.Tree.{Tree}
-use Rattle.fm_ljson.specs.Built.{OrMemory, built, built_behind, then}
-use Rattle.fm_ljson.specs.Documents.{Numbered, first_of}
-use Rattle.fm_ljson.specs.Loops.{IsExactly, IsMeasured}
+use Rattle.fm_ljson.specs.{Built.{OrMemory, built, built_behind, then}, Documents.{Numbered, first_of}, Loops.{IsExactly, IsMeasured}}
 use Rattle.fm_ljson.specs.Measured.{IsLarge, above, all_measured, beside, first_large, is_large, large_at, measure, measure_of, node_measured, ref_measured, single}
-use Rattle.fm_ljson.specs.Node.{Node, node_of, parts_in}
-use Rattle.fm_ljson.specs.Nodes.{most_levels, most_nodes, most_written_levels}
-use Rattle.fm_ljson.specs.Refs.{knowing, ref_of}
-use Rattle.fm_ljson.specs.Views.{numbered_view}
-use Rattle.fm_ljson.specs.declared.measure.Extent.{Extent}
-use Rattle.fm_ljson.specs.declared.types.NumberedRef.{NumberedRef}
-use Rattle.fm_ljson.proofs.Building.{not_refused}
+use Rattle.fm_ljson.specs.{Node.{Node, node_of, parts_in}, Nodes.{most_levels, most_nodes, most_written_levels}, Refs.{knowing, ref_of}, Views.{numbered_view}}
+use Rattle.fm_ljson.{specs.declared.{measure.Extent.{Extent}, types.NumberedRef.{NumberedRef}}, proofs.Building.{not_refused}}
 
 -- ---- at a node
 

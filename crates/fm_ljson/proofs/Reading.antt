@@ -1,27 +1,13 @@
 -- Bytes that have a reading, and bytes that have none; what is answered of a value that was read.
 use Rattle.std.proofs.Common.{◌≡◌, ℕ, Bool, true, false, cond, List, [], Option, Some, None, Result, Err, inl, inr, IsUtf8, refl, sym, ap, ◌∙◌, true≢false}
-use Rattle.std.specs.Str.{is_utf8}
-use Rattle.std.proofs.lemmas.Str.{IsUtf8-from_is_utf8, is_utf8-from_IsUtf8}
-use Rattle.serde_json.specs.Data.{Data}
-use Rattle.serde_json.specs.Read.{read}
-use Rattle.fm_base.specs.declared.refusal.Refusal.{Refusal}
-use Rattle.std.specs.BTreeMap.{BTreeMap, get_by_text, is_at}
-use Rattle.std.specs.Map.{lookup}
-use Rattle.std.proofs.lemmas.Map.Text.{text_cmp}
-use Rattle.std.specs.BTreeSet.{BTreeSet, contains_text}
-use Rattle.std.specs.Prelude.{String}
-use Rattle.std.specs.declared.alloc.Global.{Global}
-use Rattle.fm_base.specs.declared.refusal.Refusal.TheVariants.{BadJson, BadShape}
+use Rattle.std.{specs.{Str.{is_utf8}, BTreeMap.{BTreeMap, get_by_text, is_at}, Map.{lookup}}, proofs.lemmas.Str.{IsUtf8-from_is_utf8, is_utf8-from_IsUtf8}}
+use Rattle.std.{proofs.lemmas.Map.Text.{text_cmp}, specs.{BTreeSet.{BTreeSet, contains_text}, Prelude.{String}, declared.alloc.Global.{Global}}}
+use Rattle.serde_json.specs.{Data.{Data}, Read.{read}}
+use Rattle.fm_base.specs.declared.refusal.Refusal.{Refusal, TheVariants.{BadJson, BadShape}}
 use Rattle.fm_layout.specs.Tree.{Tree}
-use Rattle.fm_ljson.specs.Answer.{layout_if_read, layout_of_data, layout_of_json, layout_of_text, shaped}
-use Rattle.fm_ljson.specs.Causes.{IsJsonOf}
-use Rattle.fm_ljson.specs.Built.{OrMemory, built}
-use Rattle.fm_ljson.specs.Counted.{AreSound}
-use Rattle.fm_ljson.specs.Documents.{One, first_of}
-use Rattle.fm_ljson.specs.Loops.{IsAt, IsBadShape}
-use Rattle.fm_ljson.specs.Nodes.{first_broken, most_levels, most_nodes, nodes}
-use Rattle.fm_ljson.specs.Refs.{none_known, unknown}
-use Rattle.fm_ljson.proofs.Building.{or_memory}
+use Rattle.fm_ljson.specs.{Answer.{layout_if_read, layout_of_data, layout_of_json, layout_of_text, shaped}, Causes.{IsJsonOf}, Built.{OrMemory, built}}
+use Rattle.fm_ljson.specs.{Counted.{AreSound}, Documents.{One, first_of}, Loops.{IsAt, IsBadShape}, Nodes.{first_broken, most_levels, most_nodes, nodes}}
+use Rattle.fm_ljson.{specs.Refs.{none_known, unknown}, proofs.Building.{or_memory}}
 
 -- What has a reading is answered as its value is.
 pub value_read : (bytes : List ℕ) (d : Data) (r : Result Tree Refusal) → IsJsonOf bytes d → OrMemory r (layout_of_data d) → OrMemory r (layout_of_json bytes)

@@ -1,16 +1,10 @@
 -- What reading a layout from JSON answers, unless memory runs out.
-use Rattle.std.specs.Prelude.{ℕ, Option, Some, None, Result, Err, List, if◌then◌else◌}
-use Rattle.std.specs.Str.{is_utf8}
-use Rattle.serde_json.specs.Data.{Data}
-use Rattle.serde_json.specs.Read.{read}
-use Rattle.fm_base.specs.declared.refusal.Refusal.{Refusal}
-use Rattle.fm_base.specs.declared.refusal.Refusal.TheVariants.{BadJson, BadShape}
+use Rattle.std.specs.{Prelude.{ℕ, Option, Some, None, Result, Err, List, if◌then◌else◌}, Str.{is_utf8}}
+use Rattle.serde_json.specs.{Data.{Data}, Read.{read}}
+use Rattle.fm_base.specs.declared.refusal.Refusal.{Refusal, TheVariants.{BadJson, BadShape}}
 use Rattle.fm_layout.specs.Tree.{Tree}
-use Rattle.fm_ljson.specs.Built.{built, built_of}
-use Rattle.fm_ljson.specs.Documents.{Document, Text, One, Two, Neither, first_broken_of, first_of, text_of}
-use Rattle.fm_ljson.specs.Measured.{large_of}
-use Rattle.fm_ljson.specs.Nodes.{first_broken, most_levels, most_nodes, nodes}
-use Rattle.fm_ljson.specs.Refs.{none_known, unknown}
+use Rattle.fm_ljson.specs.{Built.{built, built_of}, Documents.{Document, Text, One, Two, Neither, first_broken_of, first_of, text_of}, Measured.{large_of}}
+use Rattle.fm_ljson.specs.{Nodes.{first_broken, most_levels, most_nodes, nodes}, Refs.{none_known, unknown}}
 
 -- the first node that breaks a rule, or else the root of the first layout that is too large
 abbrev pub fault_in_document : Document → Option ℕ

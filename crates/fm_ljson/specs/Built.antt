@@ -1,17 +1,12 @@
 -- The layout that nodes stand for: each is built after its parts, and the first refusal is answered.
 use Rattle.std.specs.Prelude.{◌≡◌, ◌⊎◌, ℕ, zero, suc, Option, Some, None, Result, Ok, Err, List, [], ◌∷◌, map}
-use Rattle.serde_json.specs.Data.{Data}
-use Rattle.serde_json.specs.View.{view}
-use Rattle.serde_json.specs.declared.value.Value.{Value}
-use Rattle.fm_base.specs.declared.refusal.Refusal.{Refusal}
-use Rattle.fm_base.specs.declared.refusal.Refusal.TheVariants.{BadShape, Memory}
+use Rattle.serde_json.specs.{Data.{Data}, View.{view}, declared.value.Value.{Value}}
+use Rattle.fm_base.specs.declared.refusal.Refusal.{Refusal, TheVariants.{BadShape, Memory}}
 use Rattle.fm_layout.specs.Tree.{Tree, Trees, NoMore, More}
 use Rattle.fm_layout.specs.Made.{value_of, padding_of, sequence_of, struct_of, union_of, with_alignment, with_name, with_order}
-use Rattle.fm_ljson.specs.Node.{Content, Padding, Sequence, Struct, Union, Node, node_of}
+use Rattle.fm_ljson.specs.{Node.{Content, Padding, Sequence, Struct, Union, Node, node_of}, Documents.{Document, Numbered, parts_from}}
+use Rattle.fm_ljson.specs.{Nodes.{most_written_levels}, Refs.{Ref, knowing, ref_of, unknown}}
 use Rattle.fm_ljson.specs.Node as said
-use Rattle.fm_ljson.specs.Documents.{Document, Numbered, parts_from}
-use Rattle.fm_ljson.specs.Nodes.{most_written_levels}
-use Rattle.fm_ljson.specs.Refs.{Ref, knowing, ref_of, unknown}
 
 -- what f makes of the first, or the first's refusal
 abbrev pub then : {A B : Type 0} → (A → Result B Refusal) → Result A Refusal → Result B Refusal

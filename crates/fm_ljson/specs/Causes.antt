@@ -1,11 +1,9 @@
 -- Why reading a layout from JSON is refused.
 use Rattle.std.specs.Prelude.{◌≡◌, ℕ, Some, None, Err, List, IsUtf8}
-use Rattle.serde_json.specs.Data.{Data}
-use Rattle.serde_json.specs.Read.{read}
+use Rattle.serde_json.specs.{Data.{Data}, Read.{read}}
 use Rattle.fm_base.specs.declared.refusal.Refusal.{Refusal}
 use Rattle.fm_base.specs.declared.refusal.Refusal.TheVariants.{BadJson, BadShape, BadAlignment, Overflow, MemberMisaligned, ElementRagged, BadPadding, AlignmentBelow, Memory}
-use Rattle.fm_ljson.specs.Answer.{fault_in, made_of}
-use Rattle.fm_ljson.specs.Documents.{text_of}
+use Rattle.fm_ljson.specs.{Answer.{fault_in, made_of}, Documents.{text_of}}
 
 -- the bytes are the JSON text of this value
 pub record IsJsonOf (bytes : List ℕ) (d : Data) : Type 0 where

@@ -1,8 +1,6 @@
 -- What is known on the way through the nodes.
 use Rattle.std.specs.Prelude.{◌≡◌, ℕ, ◌+◌, ◌≤◌, Bool, Some, None, List, length, map, flat_map}
-use Rattle.serde_json.specs.Data.{Data}
-use Rattle.serde_json.specs.View.{view}
-use Rattle.serde_json.specs.declared.value.Value.{Value}
+use Rattle.serde_json.specs.{Data.{Data}, View.{view}, declared.value.Value.{Value}}
 use Rattle.fm_ljson.specs.Nodes.{first_broken, nodes}
 
 -- the nodes from these down

@@ -1,11 +1,8 @@
 -- The text that names types: its version, the types that it names in order, and the layout.
 use Rattle.std.specs.Prelude.{ℕ, ◌+◌, Bool, ◌&&◌, false, Option, Some, None, is_some, List, [], ◌∷◌, length, codes, nat_eq, nat_lt, if◌then◌else◌, option_map, option_and_then}
-use Rattle.serde_json.specs.Data.{Data, Members}
-use Rattle.serde_json.specs.Find.{as_number, as_object, as_u64, get_member}
-use Rattle.fm_ljson.specs.Node.{has_only, members_in, name_of, required}
-use Rattle.fm_ljson.specs.Nodes.{first_broken, most_written_levels, most_written_nodes, nodes}
-use Rattle.fm_ljson.specs.Refs.{also_known}
-use Rattle.fm_ljson.specs.Types.{keys_in}
+use Rattle.serde_json.specs.{Data.{Data, Members}, Find.{as_number, as_object, as_u64, get_member}}
+use Rattle.fm_ljson.specs.{Node.{has_only, members_in, name_of, required}, Nodes.{first_broken, most_written_levels, most_written_nodes, nodes}}
+use Rattle.fm_ljson.specs.{Refs.{also_known}, Types.{keys_in}}
 use Rattle.fm_ljson.specs.declared.role.Role.TheVariants as role
 
 pub record Document : Type 0 where

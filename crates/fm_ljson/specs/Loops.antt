@@ -1,14 +1,9 @@
 -- What is known on the way through the types of a text, and what their parts measure.
 use Rattle.std.specs.Prelude.{◌≡◌, ◌⊎◌, ℕ, ◌+◌, ◌≤◌, ◌++◌, Bool, Option, Some, None, List, map}
-use Rattle.serde_json.specs.Data.{Data}
-use Rattle.serde_json.specs.View.{view}
-use Rattle.serde_json.specs.declared.value.Value.{Value}
-use Rattle.fm_base.specs.declared.refusal.Refusal.{Refusal}
-use Rattle.fm_base.specs.declared.refusal.Refusal.TheVariants.{BadShape, Memory}
+use Rattle.serde_json.specs.{Data.{Data}, View.{view}, declared.value.Value.{Value}}
+use Rattle.fm_base.specs.declared.refusal.Refusal.{Refusal, TheVariants.{BadShape, Memory}}
 use Rattle.fm_ljson.specs.Documents.{Entry, Numbered, Parts, at_entry, behind, broken_at, entry, first_broken_of, first_of, new_entry, parts_from}
-use Rattle.fm_ljson.specs.Measured.{IsLarge, all_measured, measure}
-use Rattle.fm_ljson.specs.Nodes.{most_levels, most_nodes, most_written_nodes}
-use Rattle.fm_ljson.specs.Refs.{none_known}
+use Rattle.fm_ljson.specs.{Measured.{IsLarge, all_measured, measure}, Nodes.{most_levels, most_nodes, most_written_nodes}, Refs.{none_known}}
 use Rattle.fm_ljson.specs.declared.measure.Extent.{Extent}
 
 -- ---- measures

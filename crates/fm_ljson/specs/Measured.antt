@@ -1,11 +1,8 @@
 -- How many levels and nodes a layout has, its refs replaced by what they stand for.
 use Rattle.std.specs.Prelude.{ℕ, zero, suc, ◌+◌, ◌<◌, ◌⊎◌, Bool, ◌||◌, max, nat_lt, Option, Some, None, unwrap_or, List, [], ◌∷◌, if◌then◌else◌}
 use Rattle.serde_json.specs.Data.{Data}
-use Rattle.fm_ljson.specs.Documents.{Document, Numbered, Parts, first_of, parts_from}
-use Rattle.fm_ljson.specs.Node.{Node, node_of, parts_in}
-use Rattle.fm_ljson.specs.Nodes.{most_levels, most_nodes, most_written_levels}
-use Rattle.fm_ljson.specs.Refs.{Ref, knowing, ref_of, unknown}
-use Rattle.fm_ljson.specs.declared.measure.Extent.{Extent}
+use Rattle.fm_ljson.specs.{Documents.{Document, Numbered, Parts, first_of, parts_from}, Node.{Node, node_of, parts_in}}
+use Rattle.fm_ljson.specs.{Nodes.{most_levels, most_nodes, most_written_levels}, Refs.{Ref, knowing, ref_of, unknown}, declared.measure.Extent.{Extent}}
 
 abbrev pub measured : ℕ → ℕ → Extent
 measured levels nodes = record { levels = levels; nodes = nodes }

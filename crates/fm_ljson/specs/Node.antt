@@ -1,17 +1,11 @@
 -- What a layout object says by itself, where it breaks no rule of its own.
 use Rattle.std.specs.Prelude.{ℕ, Bool, true, ◌&&◌, ◌||◌, false, Option, Some, None, List, [], ◌∷◌, length, codes, nat_le, if◌then◌else◌, option_map, option_and_then, unwrap_or}
 use Rattle.std.specs.List.{list_all}
-use Rattle.serde_json.specs.Data.{Data, Items, no_items, item, Members, no_members, member}
-use Rattle.serde_json.specs.Find.{as_array, as_number, as_object, as_str, as_u64, get_member}
-use Rattle.fm_lanes.specs.declared.order.Order.{Order}
-use Rattle.fm_lanes.specs.declared.order.Order.TheVariants.{Little}
-use Rattle.fm_lanes.specs.declared.value_kind.ValueKind.{ValueKind}
-use Rattle.fm_layout.specs.Name.{is_digit, is_letter}
-use Rattle.fm_layout.specs.WellFormed.{limit}
-use Rattle.fm_lanes.specs.Named.{order_named}
-use Rattle.fm_ljson.specs.declared.type_name.TypeName.{TypeName}
+use Rattle.serde_json.specs.{Data.{Data, Items, no_items, item, Members, no_members, member}, Find.{as_array, as_number, as_object, as_str, as_u64, get_member}}
+use Rattle.fm_lanes.specs.{declared.{order.Order.{Order, TheVariants.{Little}}, value_kind.ValueKind.{ValueKind}}, Named.{order_named}}
+use Rattle.fm_layout.specs.{Name.{is_digit, is_letter}, WellFormed.{limit}}
+use Rattle.fm_ljson.specs.{declared.type_name.TypeName.{TypeName}, Types.{is_among, keys_of, type_named}}
 use Rattle.fm_ljson.specs.declared.type_name.TypeName.TheVariants as type_name
-use Rattle.fm_ljson.specs.Types.{is_among, keys_of, type_named}
 
 -- what a layout is: its type, and what its type's own keys say
 pub data Content : Type 0 where

@@ -1,8 +1,7 @@
 -- The nodes of a layout's text, their numbers, and the first that breaks a rule.
 use Rattle.std.specs.Prelude.{ℕ, zero, suc, ◌+◌, ◌-◌, ◌^◌, Bool, ◌||◌, not, Option, Some, None, is_some, List, [], ◌∷◌, flat_map, nat_eq, nat_le, if◌then◌else◌}
 use Rattle.serde_json.specs.Data.{Data}
-use Rattle.fm_ljson.specs.Node.{node_of, parts_of}
-use Rattle.fm_ljson.specs.Refs.{is_known_ref, ref_of}
+use Rattle.fm_ljson.specs.{Node.{node_of, parts_of}, Refs.{is_known_ref, ref_of}}
 
 -- the most levels of a layout; the root stands on the first
 abbrev pub most_levels : ℕ

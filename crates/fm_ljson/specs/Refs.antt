@@ -1,9 +1,7 @@
 -- A ref stands for a copy of the type that it names.
 use Rattle.std.specs.Prelude.{ℕ, Bool, true, false, ◌&&◌, Option, Some, None, List, codes, bytes_eq, if◌then◌else◌, option_map, option_and_then}
-use Rattle.serde_json.specs.Data.{Data, Members}
-use Rattle.serde_json.specs.Find.{as_object, as_str}
-use Rattle.fm_ljson.specs.Node.{has_only, name_of, optional, required}
-use Rattle.fm_ljson.specs.Types.{keys_in}
+use Rattle.serde_json.specs.{Data.{Data, Members}, Find.{as_object, as_str}}
+use Rattle.fm_ljson.specs.{Node.{has_only, name_of, optional, required}, Types.{keys_in}}
 use Rattle.fm_ljson.specs.declared.role.Role.TheVariants as role
 
 -- the name of the type, and the name that the copy gets

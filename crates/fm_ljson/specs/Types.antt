@@ -1,11 +1,7 @@
 -- The types of layout objects, and the keys that an object may have.
-use Rattle.std.specs.List.{list_any}
-use Rattle.std.specs.Prelude.{ℕ, Bool, Option, List, [], ◌∷◌, codes, bytes_eq, find}
-use Rattle.fm_lanes.specs.declared.value_kind.ValueKind.TheVariants.{Byte, Boolean, Char, Short, Int, Long}
-use Rattle.fm_lanes.specs.Named.{kind_text}
-use Rattle.fm_ljson.specs.declared.type_name.TypeName.{TypeName}
-use Rattle.fm_ljson.specs.declared.type_name.TypeName.TheVariants.{Value, Padding, Sequence, Struct, Union}
-use Rattle.fm_ljson.specs.declared.role.Role.{Role}
+use Rattle.std.specs.{List.{list_any}, Prelude.{ℕ, Bool, Option, List, [], ◌∷◌, codes, bytes_eq, find}}
+use Rattle.fm_lanes.specs.{declared.value_kind.ValueKind.TheVariants.{Byte, Boolean, Char, Short, Int, Long}, Named.{kind_text}}
+use Rattle.fm_ljson.specs.declared.{type_name.TypeName.{TypeName, TheVariants.{Value, Padding, Sequence, Struct, Union}}, role.Role.{Role}}
 use Rattle.fm_ljson.specs.declared.role.Role.TheVariants.{Document, Entry, Layout, Ref}
 
 -- what the key `type` has for it

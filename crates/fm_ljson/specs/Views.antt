@@ -1,25 +1,13 @@
 -- What is said by what refers into a value.
-use Rattle.std.specs.Prelude.{Option, Some, None, String, map, option_copied}
-use Rattle.std.specs.BTreeMap.{BTreeMap}
-use Rattle.std.specs.declared.alloc.Global.{Global}
-use Rattle.serde_json.specs.Data.{Members}
-use Rattle.serde_json.specs.View.{members_view, view}
+use Rattle.std.specs.{Prelude.{Option, Some, None, String, map, option_copied}, BTreeMap.{BTreeMap}, declared.alloc.Global.{Global}}
+use Rattle.serde_json.specs.{Data.{Members}, View.{members_view, view}}
 use Rattle.serde_json.specs.declared.value.Value as json
-use Rattle.fm_ljson.specs.Node.{Content, Node}
+use Rattle.fm_ljson.specs.{Node.{Content, Node}, declared.node.ContentRef.{ContentRef, TheVariants.{Value, Padding, Sequence, Struct, Union}}}
+use Rattle.fm_ljson.specs.{declared.node.NodeRef.{NodeRef}, Documents.{Document, Entry, Numbered, Parts, Text}, Refs.{Ref}}
+use Rattle.fm_ljson.specs.declared.document.{DocumentRef.{DocumentRef}, EntryRef.{EntryRef}, TextRef.{TextRef, TheVariants.{One, Two, Neither}}}
+use Rattle.fm_ljson.specs.declared.{refs.TypeRef.{TypeRef}, types.{NumberedRef.{NumberedRef}, PartsRef.{PartsRef}}}
 use Rattle.fm_ljson.specs.Node as node
-use Rattle.fm_ljson.specs.declared.node.ContentRef.{ContentRef}
-use Rattle.fm_ljson.specs.declared.node.ContentRef.TheVariants.{Value, Padding, Sequence, Struct, Union}
-use Rattle.fm_ljson.specs.declared.node.NodeRef.{NodeRef}
-use Rattle.fm_ljson.specs.Documents.{Document, Entry, Numbered, Parts, Text}
 use Rattle.fm_ljson.specs.Documents as document
-use Rattle.fm_ljson.specs.Refs.{Ref}
-use Rattle.fm_ljson.specs.declared.document.DocumentRef.{DocumentRef}
-use Rattle.fm_ljson.specs.declared.document.EntryRef.{EntryRef}
-use Rattle.fm_ljson.specs.declared.document.TextRef.{TextRef}
-use Rattle.fm_ljson.specs.declared.document.TextRef.TheVariants.{One, Two, Neither}
-use Rattle.fm_ljson.specs.declared.refs.TypeRef.{TypeRef}
-use Rattle.fm_ljson.specs.declared.types.NumberedRef.{NumberedRef}
-use Rattle.fm_ljson.specs.declared.types.PartsRef.{PartsRef}
 
 -- the members of an object
 abbrev pub object_view : BTreeMap (String Global) json.Value → Members

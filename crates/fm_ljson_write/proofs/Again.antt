@@ -1,30 +1,19 @@
 -- The nodes of the canonical JSON break no rule, and the layout that they stand for is the one that was written.
 use Rattle.std.proofs.Common.{◌≡◌, refl, sym, ap, ◌∙◌, ℕ, zero, suc, ◌+◌, ◌≤◌, ◌<◌, Bool, true, false, nat_eq, nat_le, le-leb, eq-eqb, cond, map, List, [], ◌∷◌, ◌++◌, Option, Some, None, Result, Ok, arith, append-nil, inl, inr}
-use Rattle.std.specs.Prelude.{flat_map, nat_lt}
-use Rattle.std.specs.Int.{is_power_of_two}
-use Rattle.std.proofs.lemmas.List.{append_assoc}
-use Rattle.std.proofs.lemmas.List.Concat.{flat_map-cons}
-use Rattle.std.proofs.lemmas.Bool.Decides.{nat_tests}
-use Rattle.serde_json.specs.Data.{Data}
+use Rattle.std.{specs.{Prelude.{flat_map, nat_lt}, Int.{is_power_of_two}}, proofs.lemmas.List.{append_assoc, Concat.{flat_map-cons}}}
+use Rattle.std.{proofs.lemmas.Bool.Decides.{nat_tests}, specs.Str.{is_utf8}}
+use Rattle.serde_json.specs.{Data.{Data}, Read.{read}}
 use Rattle.fm_base.specs.declared.refusal.Refusal.{Refusal}
 use Rattle.fm_lanes.specs.Kind.{width_of}
-use Rattle.fm_layout.specs.Depth.{depth, deepest}
-use Rattle.fm_layout.specs.Made.{plain, padding_of, sequence_of, struct_of, with_alignment}
-use Rattle.fm_layout.specs.Named.{HasNames, HaveNames}
+use Rattle.fm_layout.specs.{Depth.{depth, deepest}, Made.{plain, padding_of, sequence_of, struct_of, with_alignment}, Named.{HasNames, HaveNames}}
 use Rattle.fm_layout.specs.Size.{greatest_alignment, least_of, size_of}
 use Rattle.fm_layout.specs.Tree.{Label, Tree, Trees, Value, Padding, Sequence, Struct, Union, NoMore, More, alignment_of, label_of, relabelled}
-use Rattle.fm_layout.specs.WellFormed.{limit, IsFit, IsWellFormed, AreWellFormed, AreLaidOut}
-use Rattle.fm_layout.proofs.Powers.{is_power_of_two-IsPowerOfTwo}
+use Rattle.fm_layout.{specs.WellFormed.{limit, IsFit, IsWellFormed, AreWellFormed, AreLaidOut}, proofs.Powers.{is_power_of_two-IsPowerOfTwo}}
 use Rattle.fm_layout.proofs.Refused.{fault_of-none}
-use Rattle.fm_ljson.specs.Answer.{layout_of_json}
-use Rattle.fm_ljson.specs.Built.{built, built_if_any, copied, node_built, then, all_of, aligned, named}
-use Rattle.fm_ljson.specs.Measured.{above, all_measured, beside, large_at, measure, measured, node_measured, ref_measured}
-use Rattle.fm_ljson.specs.Node.{node_of, list_of, parts_in}
-use Rattle.fm_ljson.specs.Nodes.{nodes, first_broken, most_levels, most_nodes, most_written_levels, most_written_nodes}
-use Rattle.fm_ljson.specs.Refs.{none_known, ref_of, unknown}
+use Rattle.fm_ljson.specs.{Answer.{layout_of_json}, Built.{built, built_if_any, copied, node_built, then, all_of, aligned, named}}
+use Rattle.fm_ljson.specs.{Measured.{above, all_measured, beside, large_at, measure, measured, node_measured, ref_measured}, Node.{node_of, list_of, parts_in}}
+use Rattle.fm_ljson.specs.{Nodes.{nodes, first_broken, most_levels, most_nodes, most_written_levels, most_written_nodes}, Refs.{none_known, ref_of, unknown}}
 use Rattle.fm_ljson.specs.declared.measure.Extent.{Extent}
-use Rattle.serde_json.specs.Read.{read}
-use Rattle.std.specs.Str.{is_utf8}
 use Rattle.fm_ljson_write.specs.Canonical.{all_json, document_json, json_of, StandsFor}
 use Rattle.fm_ljson_write.specs.Limits.{AreCountsSmall, AreAllCountsSmall, IsWithinLimits, node_count, node_counts}
 use Rattle.fm_ljson_write.proofs.Found.{content_said, node_said, said, said_alone, said_document, unlike}

@@ -1,12 +1,10 @@
 -- How deep the canonical JSON nests.
 use Rattle.std.proofs.Common.{◌≡◌, refl, ℕ, suc, ◌+◌, ◌*◌, ◌≤◌, List, Option, Some, None, codes, arith}
 use Rattle.serde_json.specs.Data.{Data, array, Members, member, depth, items_depth, members_depth}
-use Rattle.fm_lanes.specs.Kind.{width_of}
-use Rattle.fm_layout.specs.Depth.{deepest}
-use Rattle.fm_layout.specs.Depth as layout
-use Rattle.fm_layout.specs.Size.{greatest_alignment}
+use Rattle.fm_lanes.specs.{Kind.{width_of}, Named.{kind_text}}
+use Rattle.fm_layout.specs.{Depth.{deepest}, Size.{greatest_alignment}}
 use Rattle.fm_layout.specs.Tree.{Label, Tree, Trees, Value, Padding, Sequence, Struct, Union, NoMore, More, alignment_of}
-use Rattle.fm_lanes.specs.Named.{kind_text}
+use Rattle.fm_layout.specs.Depth as layout
 use Rattle.fm_ljson_write.proofs.Maybe.{IsIfAny, IsOfBoth, of_align, of_name, of_order}
 use Rattle.fm_ljson_write.specs.Canonical.{align_of, all_json, document_json, if_any, json_of, name_of, order_of, typed, whole}
 

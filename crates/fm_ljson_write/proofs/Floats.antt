@@ -1,11 +1,8 @@
 -- No float stands in the canonical JSON.
 use Rattle.std.proofs.Common.{◌≡◌, refl, ℕ, false, List, Option, Some, None, codes}
-use Rattle.serde_json.specs.Data.{Data, Members, member}
-use Rattle.serde_json.specs.Written.{has_float, items_have_float, members_have_float}
-use Rattle.fm_layout.specs.Tree.{Label, Tree, Trees, Value, Padding, Sequence, Struct, Union, NoMore, More, alignment_of}
-use Rattle.fm_layout.specs.Size.{greatest_alignment}
-use Rattle.fm_lanes.specs.Kind.{width_of}
-use Rattle.fm_lanes.specs.Named.{kind_text}
+use Rattle.serde_json.specs.{Data.{Data, Members, member}, Written.{has_float, items_have_float, members_have_float}}
+use Rattle.fm_layout.specs.{Tree.{Label, Tree, Trees, Value, Padding, Sequence, Struct, Union, NoMore, More, alignment_of}, Size.{greatest_alignment}}
+use Rattle.fm_lanes.specs.{Kind.{width_of}, Named.{kind_text}}
 use Rattle.fm_ljson_write.proofs.Maybe.{IsIfAny, IsOfBoth, of_align, of_name, of_order}
 use Rattle.fm_ljson_write.specs.Canonical.{align_of, all_json, document_json, if_any, json_of, name_of, order_of, typed, whole}
 

@@ -1,29 +1,18 @@
 -- What the profile of the format finds in the canonical JSON: each node says what its layout is.
 use Rattle.std.proofs.Common.{◌≡◌, refl, ap, ◌∙◌, ℕ, ◌≤◌, Bool, true, false, ◌&&◌, ◌||◌, nat_eq, nat_le, le-leb, cond, List, [], ◌∷◌, length, Option, Some, None, option_map, unwrap_or, codes}
-use Rattle.std.specs.List.{list_all}
-use Rattle.std.proofs.lemmas.Bool.{and_from}
-use Rattle.serde_json.specs.Data.{Data, string, array, object, Members, member}
-use Rattle.serde_json.specs.Find.{get_member}
-use Rattle.fm_lanes.specs.declared.order.Order.{Order}
-use Rattle.fm_lanes.specs.declared.order.Order.TheVariants.{Little, Big}
-use Rattle.fm_lanes.specs.declared.value_kind.ValueKind.{ValueKind}
-use Rattle.fm_lanes.specs.declared.value_kind.ValueKind.TheVariants.{Byte, Boolean, Char, Short, Int, Long}
-use Rattle.fm_lanes.specs.Kind.{width_of}
-use Rattle.fm_layout.specs.Name.{is_digit, is_letter, IsName}
-use Rattle.fm_layout.specs.Named.{HasNames, IsNameIfAny}
-use Rattle.fm_layout.specs.Size.{greatest_alignment}
-use Rattle.fm_layout.specs.Tree.{Label, Tree, Trees, Value, Padding, Sequence, Struct, Union, alignment_of, label_of}
-use Rattle.fm_layout.specs.WellFormed.{limit, IsWellFormed}
+use Rattle.std.{specs.List.{list_all}, proofs.lemmas.Bool.{and_from}}
+use Rattle.serde_json.specs.{Data.{Data, string, array, object, Members, member}, Find.{get_member}}
+use Rattle.fm_lanes.specs.declared.{order.Order.{Order, TheVariants.{Little, Big}}, value_kind.ValueKind.{ValueKind}}
+use Rattle.fm_lanes.specs.{declared.value_kind.ValueKind.TheVariants.{Byte, Boolean, Char, Short, Int, Long}, Kind.{width_of}, Named.{kind_text}}
+use Rattle.fm_layout.specs.{Name.{is_digit, is_letter, IsName}, Named.{HasNames, IsNameIfAny}, Size.{greatest_alignment}}
+use Rattle.fm_layout.specs.{Tree.{Label, Tree, Trees, Value, Padding, Sequence, Struct, Union, alignment_of, label_of}, WellFormed.{limit, IsWellFormed}}
 use Rattle.fm_layout.proofs.Names.{list_all-IsNameEnd}
-use Rattle.fm_lanes.specs.Named.{kind_text}
 use Rattle.fm_ljson.specs.Documents.{One, Two, document, text_of}
-use Rattle.fm_ljson.specs.Node as node
 use Rattle.fm_ljson.specs.Node.{Content, Node, node_of, content_in, align_in, optional, has_only, is_name, list_of, whole_of}
-use Rattle.fm_ljson.specs.Types.{type_named, type_text, keys_of}
-use Rattle.fm_ljson.specs.declared.type_name.TypeName.{TypeName}
+use Rattle.fm_ljson.specs.{Types.{type_named, type_text, keys_of}, declared.type_name.TypeName.{TypeName}}
+use Rattle.fm_ljson.specs.Node as node
 use Rattle.fm_ljson.specs.declared.type_name.TypeName.TheVariants as type_name
-use Rattle.fm_ljson_write.specs.Canonical.{align_of, all_json, document_json, if_any, json_of, name_of, order_of, typed, whole}
-use Rattle.fm_ljson_write.specs.Limits.{AreCountsSmall}
+use Rattle.fm_ljson_write.specs.{Canonical.{align_of, all_json, document_json, if_any, json_of, name_of, order_of, typed, whole}, Limits.{AreCountsSmall}}
 
 -- ---- what each node says
 

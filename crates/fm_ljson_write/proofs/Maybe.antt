@@ -1,9 +1,7 @@
 -- What a member that may be missing says of a layout is a number or a text.
 use Rattle.std.proofs.Common.{ℕ, Bool, true, false, nat_eq, cond, List, Option, Some, None}
 use Rattle.serde_json.specs.Data.{Data, string}
-use Rattle.fm_lanes.specs.declared.order.Order.{Order}
-use Rattle.fm_lanes.specs.declared.order.Order.TheVariants.{Little, Big}
-use Rattle.fm_lanes.specs.Named.{order_text}
+use Rattle.fm_lanes.specs.{declared.order.Order.{Order, TheVariants.{Little, Big}}, Named.{order_text}}
 use Rattle.fm_layout.specs.Tree.{Label}
 use Rattle.fm_ljson_write.specs.Canonical.{align_of, name_of, order_of, whole}
 

@@ -1,16 +1,10 @@
 -- What is left of the members from an index on.
 use Rattle.std.proofs.Common.{◌≡◌, refl, sym, ap, ◌∙◌, ℕ, zero, suc, ◌+◌, ◌<◌, ◌≤◌, max, map, List, [], ◌∷◌, ◌++◌, Some, None, arith}
-use Rattle.serde_json.specs.Data.{Data, Items, no_items, item}
 use Rattle.std.proofs.lemmas.List.{map-append}
-use Rattle.serde_json.specs.View.{items_of, view}
-use Rattle.serde_json.specs.declared.value.Value.{Value as Json}
-use Rattle.fm_layout.proofs.Groups.{greatest_positive}
-use Rattle.fm_layout.specs.Tree.{Tree, Trees, Value, Padding, Sequence, Struct, Union, NoMore, More, alignment_of}
-use Rattle.fm_layout.specs.Depth.{depth, deepest}
-use Rattle.fm_layout.specs.Parts.{count_of, element_of, member_of, tree_at}
-use Rattle.fm_layout.specs.Size.{greatest_alignment}
-use Rattle.fm_ljson_write.specs.Canonical.{all_json, json_of}
-use Rattle.fm_ljson_write.specs.Groups.{members_of}
+use Rattle.serde_json.specs.{Data.{Data, Items, no_items, item}, View.{items_of, view}, declared.value.Value.{Value as Json}}
+use Rattle.fm_layout.{proofs.Groups.{greatest_positive}, specs.Tree.{Tree, Trees, Value, Padding, Sequence, Struct, Union, NoMore, More, alignment_of}}
+use Rattle.fm_layout.specs.{Depth.{depth, deepest}, Parts.{count_of, element_of, member_of, tree_at}, Size.{greatest_alignment}}
+use Rattle.fm_ljson_write.specs.{Canonical.{all_json, json_of}, Groups.{members_of}}
 
 -- the members from index i on
 abbrev pub rest : ℕ → Trees → Trees

@@ -1,13 +1,8 @@
 -- The canonical JSON of a layout: only what a constructor doesn't give by itself is written, and keys stand in byte order.
 use Rattle.std.specs.Prelude.{◌≡◌, ◌⊎◌, ℕ, List, Option, Some, None, option_map, codes, nat_eq, if◌then◌else◌}
-use Rattle.serde_json.specs.Data.{Data, number, unsigned, string, array, object, Items, no_items, item, Members, no_members, member}
-use Rattle.serde_json.specs.Written.{compact_text}
-use Rattle.fm_lanes.specs.declared.order.Order.{Order}
-use Rattle.fm_lanes.specs.declared.order.Order.TheVariants.{Little, Big}
-use Rattle.fm_lanes.specs.Kind.{width_of}
-use Rattle.fm_layout.specs.Tree.{Label, Tree, Trees, Value, Padding, Sequence, Struct, Union, NoMore, More, alignment_of}
-use Rattle.fm_layout.specs.Size.{greatest_alignment}
-use Rattle.fm_lanes.specs.Named.{kind_text, order_text}
+use Rattle.serde_json.specs.{Data.{Data, number, unsigned, string, array, object, Items, no_items, item, Members, no_members, member}, Written.{compact_text}}
+use Rattle.fm_lanes.specs.{declared.order.Order.{Order, TheVariants.{Little, Big}}, Kind.{width_of}, Named.{kind_text, order_text}}
+use Rattle.fm_layout.specs.{Tree.{Label, Tree, Trees, Value, Padding, Sequence, Struct, Union, NoMore, More, alignment_of}, Size.{greatest_alignment}}
 
 abbrev pub whole : ℕ → Data
 whole n = number (unsigned n)

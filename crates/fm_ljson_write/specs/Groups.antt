@@ -1,8 +1,7 @@
 -- The members of a layout, none where it has none, and the JSON of a group of this word.
 use Rattle.std.specs.Prelude.{List, ℕ, codes}
 use Rattle.serde_json.specs.Data.{Data, array, object, member}
-use Rattle.fm_layout.specs.Tree.{Label, Tree, Trees, Struct, Union, NoMore}
-use Rattle.fm_layout.specs.Size.{greatest_alignment}
+use Rattle.fm_layout.specs.{Tree.{Label, Tree, Trees, Struct, Union, NoMore}, Size.{greatest_alignment}}
 use Rattle.fm_ljson_write.specs.Canonical.{all_json, align_of, if_any, name_of, typed}
 
 abbrev pub members_of : Tree → Trees

@@ -1,10 +1,7 @@
 -- Which layouts are within the limits of the format.
 use Rattle.std.specs.Prelude.{◌≡◌, ℕ, ◌+◌, ◌≤◌, List, Ok}
-use Rattle.fm_layout.specs.Depth.{depth}
-use Rattle.fm_layout.specs.Tree.{Tree, Trees, Value, Padding, Sequence, Struct, Union, NoMore, More}
-use Rattle.fm_layout.specs.WellFormed.{limit}
-use Rattle.fm_ljson.specs.Answer.{layout_of_json}
-use Rattle.fm_ljson.specs.Nodes.{most_levels, most_nodes}
+use Rattle.fm_layout.specs.{Depth.{depth}, Tree.{Tree, Trees, Value, Padding, Sequence, Struct, Union, NoMore, More}, WellFormed.{limit}}
+use Rattle.fm_ljson.specs.{Answer.{layout_of_json}, Nodes.{most_levels, most_nodes}}
 
 abbrev mutual
   -- how many layouts it is made of, itself among them

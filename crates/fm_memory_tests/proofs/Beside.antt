@@ -1,32 +1,18 @@
 -- What another caller does between the calls of caller 0.
 use Rattle.std.proofs.Common.{inl, ◌≡◌, ℕ, ◌+◌, ◌%◌, ◌^◌, ◌≤◌, true, false, cond, List, [], ◌∷◌, ◌++◌, refl, ap, sym, ◌∙◌, subst, arith, Option, Some, None, All, not}
-use Rattle.std.specs.Prelude.{filter, slice_index, Result, Ok, Err}
-use Rattle.std.proofs.lemmas.List.Elements.{All-nil, All-head, All-tail, All-contains}
-use Rattle.fm_base.specs.declared.caller.Caller.{Caller}
-use Rattle.fm_base.specs.declared.arena_id.ArenaId.{ArenaId}
-use Rattle.fm_base.specs.declared.kind.Kind.TheVariants.{Confined}
-use Rattle.fm_base.specs.declared.refusal.Refusal.{Refusal}
+use Rattle.std.{specs.Prelude.{filter, slice_index, Result, Ok, Err}, proofs.lemmas.List.Elements.{All-nil, All-head, All-tail, All-contains}}
+use Rattle.fm_base.specs.declared.{caller.Caller.{Caller}, arena_id.ArenaId.{ArenaId}, kind.Kind.TheVariants.{Confined}, refusal.Refusal.{Refusal}}
+use Rattle.fm_base.specs.{Arenas.{are_one, only_caller, State, Arena, has_arena, arena_of, changed, IsUnderWay, MayUse}, Calls.{Call, Reply, Add, Found, Entry}}
+use Rattle.fm_base.specs.{Machine.{IsUnderWayNowhere, enter_reply, entered, left, written}, Histories.{IsLegal, state_after, made_by}, Visits.{visit}}
+use Rattle.fm_base.specs.{View.{View, Makes, Did, but_loans}, Does.{DoesEnter, DoesAct, DoesPatch, DoesClose, DidEnter, DidAct, DidPatch}}
+use Rattle.fm_base.proofs.{Making.{Makes-then}, Lookup.{lookup_changed, changed_has, changed_twice, changed_alike}, Alone.{only_act}}
 use Rattle.fm_base.specs.declared.refusal.Refusal.TheVariants as refusal
-use Rattle.fm_base.specs.Arenas.{are_one, only_caller, State, Arena, has_arena, arena_of, changed, IsUnderWay, MayUse}
-use Rattle.fm_base.specs.Calls.{Call, Reply, Add, Found, Entry}
-use Rattle.fm_base.specs.Machine.{IsUnderWayNowhere, enter_reply, entered, left, written}
-use Rattle.fm_base.specs.Histories.{IsLegal, state_after, made_by}
-use Rattle.fm_base.specs.Visits.{visit}
-use Rattle.fm_base.specs.View.{View, Makes, Did, but_loans}
-use Rattle.fm_base.specs.Does.{DoesEnter, DoesAct, DoesPatch, DoesClose, DidEnter, DidAct, DidPatch}
-use Rattle.fm_base.proofs.Making.{Makes-then}
-use Rattle.fm_base.proofs.Lookup.{lookup_changed, changed_has, changed_twice, changed_alike}
-use Rattle.fm_base.proofs.Alone.{only_act}
 use Rattle.fm_mono.specs.Shown.{Arenas, view_of}
-use Rattle.fm_memory_tests.specs.declared.heard.Heard.{Heard}
-use Rattle.fm_memory_tests.specs.declared.heard.Heard.TheVariants as heard
-use Rattle.fm_memory_tests.specs.declared.others.Others.{Others}
-use Rattle.fm_memory_tests.specs.declared.others.Others.TheVariants as others
-use Rattle.fm_memory_tests.specs.Heard.{close_by}
+use Rattle.fm_memory_tests.specs.{declared.{heard.Heard.{Heard}, others.Others.{Others}}, Heard.{close_by}}
 use Rattle.fm_memory_tests.specs.Double.{another, gathered_one, Doubled, doubled, IsOnlyZero, IsInAlive, IsDouble}
-use Rattle.fm_memory_tests.proofs.Hearing.{Made, made_of, made_outside, close_own}
-use Rattle.fm_memory_tests.proofs.Going.{Went, Goes, goes_on, calm_by}
-use Rattle.fm_memory_tests.proofs.Zero.{alive_changed}
+use Rattle.fm_memory_tests.proofs.{Hearing.{Made, made_of, made_outside, close_own}, Going.{Went, Goes, goes_on, calm_by}, Zero.{alive_changed}}
+use Rattle.fm_memory_tests.specs.declared.heard.Heard.TheVariants as heard
+use Rattle.fm_memory_tests.specs.declared.others.Others.TheVariants as others
 
 -- ---- a visit
 

@@ -1,30 +1,19 @@
 -- Each call of caller 0, which the `Mono` does and is heard.
 use Rattle.std.proofs.Common.{◌≡◌, ℕ, ◌+◌, ◌%◌, ◌^◌, ◌==◌, false, List, [], ◌∷◌, ◌++◌, refl, ap, sym, ◌∙◌, subst, arith, Option, Some, None}
-use Rattle.std.specs.Prelude.{Result, Ok, Err, IsTrue}
-use Rattle.std.proofs.lemmas.Bool.Decides.{nat_tests}
-use Rattle.std.proofs.lemmas.List.Elements.{All-nil, All-cons}
-use Rattle.fm_base.specs.declared.arena_id.ArenaId.{ArenaId}
-use Rattle.fm_base.specs.declared.kind.Kind.{Kind}
-use Rattle.fm_base.specs.declared.refusal.Refusal.{Refusal}
-use Rattle.fm_base.specs.declared.refusal.Refusal.TheVariants as refusal
+use Rattle.std.{specs.Prelude.{Result, Ok, Err, IsTrue}, proofs.lemmas.{Bool.Decides.{nat_tests}, List.Elements.{All-nil, All-cons}}}
+use Rattle.fm_base.specs.declared.{arena_id.ArenaId.{ArenaId}, kind.Kind.{Kind}, refusal.Refusal.{Refusal}}
 use Rattle.fm_base.specs.Arenas.{only_caller, State, Life, Alive, Closing, Ended, arena_of, changed}
-use Rattle.fm_base.specs.Calls.{Call, Reply, Read, Write, SwapIf, Add, Leave, Fine, Found, Entry, entry_of}
-use Rattle.fm_base.specs.Finds.{FoundNothing, is_slot}
-use Rattle.fm_base.specs.Machine.{enter_reply, state_by, entered, written, swapped}
-use Rattle.fm_base.specs.Histories.{IsLegal, state_after}
-use Rattle.fm_base.specs.Visits.{Acts, entries_of, Tries, looked, missed, hit}
-use Rattle.fm_base.specs.View.{Did, IsSound, inside_after, but_loans}
-use Rattle.fm_base.specs.Does.{DoesEnter, DoesAct, DoesPatch, patched, DoesOpen, DoesAllocate, DoesClose}
-use Rattle.fm_base.specs.Outcomes.{MayCome}
-use Rattle.fm_base.proofs.Lookup.{swapped_miss}
+use Rattle.fm_base.specs.{Calls.{Call, Reply, Read, Write, SwapIf, Add, Leave, Fine, Found, Entry, entry_of}, Finds.{FoundNothing, is_slot}}
+use Rattle.fm_base.specs.{Machine.{enter_reply, state_by, entered, written, swapped}, Histories.{IsLegal, state_after}}
+use Rattle.fm_base.specs.{Visits.{Acts, entries_of, Tries, looked, missed, hit}, View.{Did, IsSound, inside_after, but_loans}}
+use Rattle.fm_base.{specs.{Does.{DoesEnter, DoesAct, DoesPatch, patched, DoesOpen, DoesAllocate, DoesClose}, Outcomes.{MayCome}}, proofs.Lookup.{swapped_miss}}
+use Rattle.fm_base.specs.declared.refusal.Refusal.TheVariants as refusal
 use Rattle.fm_mono.specs.Shown.{Arenas, view_of}
-use Rattle.fm_memory_tests.specs.declared.heard.Heard.{Heard}
-use Rattle.fm_memory_tests.specs.declared.heard.Heard.TheVariants as heard
-use Rattle.fm_memory_tests.specs.Heard.{entries_by, finds_by, finds_in, own_enter, inside_by}
+use Rattle.fm_memory_tests.specs.{declared.heard.Heard.{Heard}, Heard.{entries_by, finds_by, finds_in, own_enter, inside_by}}
 use Rattle.fm_memory_tests.specs.Double.{Doubled, double_view, nature_of_double, IsInAlive, IsDouble}
-use Rattle.fm_memory_tests.proofs.Hearing.{finds_more, Made, made_of, enter_own, open_own, allocate_own, close_own, made_outside}
-use Rattle.fm_memory_tests.proofs.Zero.{alive_changed}
+use Rattle.fm_memory_tests.proofs.{Hearing.{finds_more, Made, made_of, enter_own, open_own, allocate_own, close_own, made_outside}, Zero.{alive_changed}}
 use Rattle.fm_memory_tests.proofs.Going.{Goes, own_goes}
+use Rattle.fm_memory_tests.specs.declared.heard.Heard.TheVariants as heard
 
 -- ---- acts
 

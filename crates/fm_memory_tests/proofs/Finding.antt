@@ -1,11 +1,6 @@
 -- What a caller that is by itself finds.
-use Rattle.std.proofs.Common.{◌≡◌, ℕ, ap, ◌∙◌, slice_index}
-use Rattle.std.proofs.lemmas.List.{get_or-set_same}
-use Rattle.fm_base.specs.Calls.{Read, Write, Fine, Found}
-use Rattle.fm_base.specs.View.{View, IsByItself}
-use Rattle.fm_base.specs.Does.{CanReach}
-use Rattle.fm_base.specs.Learnt.{AfterAct}
-use Rattle.fm_base.proofs.Making.{by_itself_still}
+use Rattle.std.proofs.{Common.{◌≡◌, ℕ, ap, ◌∙◌, slice_index}, lemmas.List.{get_or-set_same}}
+use Rattle.fm_base.{specs.{Calls.{Read, Write, Fine, Found}, View.{View, IsByItself}, Does.{CanReach}, Learnt.{AfterAct}}, proofs.Making.{by_itself_still}}
 use Rattle.fm_base.proofs.Alone.{only_act, stored_words, loaded_word}
 
 -- A word that was put is found.

@@ -1,19 +1,12 @@
 -- A history that is told goes on by each call of the `Mono`, beside other callers.
 use Rattle.std.proofs.Common.{inr, inl, ◌≡◌, true, List, [], ◌∷◌, ◌++◌, refl, ap, sym, ◌∙◌, subst, Option}
 use Rattle.std.proofs.lemmas.List.Elements.{All-nil, All-cons, filter-append}
-use Rattle.fm_base.specs.declared.arena_id.ArenaId.{ArenaId}
-use Rattle.fm_base.specs.Arenas.{only_caller, State}
-use Rattle.fm_base.specs.Calls.{Entry}
-use Rattle.fm_base.specs.Finds.{Gathered}
-use Rattle.fm_base.specs.Histories.{IsLegal, state_after, made_by}
-use Rattle.fm_base.specs.View.{Makes, Did, inside_after}
-use Rattle.fm_base.proofs.Making.{IsLegal-append, state_after-append}
+use Rattle.fm_base.specs.{declared.arena_id.ArenaId.{ArenaId}, Arenas.{only_caller, State}, Calls.{Entry}, Finds.{Gathered}}
+use Rattle.fm_base.{specs.{Histories.{IsLegal, state_after, made_by}, View.{Makes, Did, inside_after}}, proofs.Making.{IsLegal-append, state_after-append}}
 use Rattle.fm_mono.specs.Shown.{Arenas}
-use Rattle.fm_memory_tests.specs.declared.heard.Heard.{Heard}
-use Rattle.fm_memory_tests.specs.Heard.{entries_by, entries_in, finds_by, finds_in}
+use Rattle.fm_memory_tests.specs.{declared.heard.Heard.{Heard}, Heard.{entries_by, entries_in, finds_by, finds_in}}
 use Rattle.fm_memory_tests.specs.Double.{gathered_one, Doubled, doubled, double_view, are_gathered, IsOnlyZero, IsInAlive, IsDouble}
-use Rattle.fm_memory_tests.proofs.Hearing.{entries_more, finds_more, no_draws, Made, mine_is, quiet_is}
-use Rattle.fm_memory_tests.proofs.Zero.{zero_after}
+use Rattle.fm_memory_tests.proofs.{Hearing.{entries_more, finds_more, no_draws, Made, mine_is, quiet_is}, Zero.{zero_after}}
 
 -- these entries led from the double to one with this `Mono`, and of them `own` are caller 0's
 pub record Went (d : Doubled) (n : Arenas) (all own : List Entry) : Type 0 where

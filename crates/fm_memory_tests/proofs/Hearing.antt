@@ -1,27 +1,16 @@
 -- What is heard of the calls of a `Mono`: its entries but loans, made by caller 0.
 use Rattle.std.proofs.Common.{inl, ◌≡◌, ℕ, ◌+◌, Bool, true, false, cond, List, [], ◌∷◌, ◌++◌, length, refl, ap, sym, ◌∙◌, subst, append_assoc, Option, All}
-use Rattle.std.specs.Prelude.{filter, Result, Ok, Err}
-use Rattle.std.proofs.lemmas.List.{append-nil}
+use Rattle.std.{specs.Prelude.{filter, Result, Ok, Err}, proofs.lemmas.List.{append-nil}}
 use Rattle.std.proofs.lemmas.List.Elements.{All-head, All-tail, All-nil, All-cons, All-filter, All-weaker, filter_passes}
-use Rattle.fm_base.specs.declared.caller.Caller.{Caller}
-use Rattle.fm_base.specs.declared.arena_id.ArenaId.{ArenaId}
-use Rattle.fm_base.specs.declared.kind.Kind.{Kind}
-use Rattle.fm_base.specs.declared.refusal.Refusal.{Refusal}
+use Rattle.fm_base.specs.declared.{caller.Caller.{Caller}, arena_id.ArenaId.{ArenaId}, kind.Kind.{Kind}, refusal.Refusal.{Refusal}}
+use Rattle.fm_base.specs.{Arenas.{are_one, only_caller, State}, Calls.{Call, Lend, Back, Reply, Entry, entry_of}, Finds.{Find, is_draw}}
+use Rattle.fm_base.specs.{Machine.{state_by, after}, Histories.{IsLegal, state_after, made_by}, View.{Makes, Did, inside_after, inside_next, but_loans}}
+use Rattle.fm_base.{specs.Does.{DoesEnter, DoesOpen, DoesAllocate, DoesClose}, proofs.{Faith.{Makes-alone}, Names.{are_one-true}}}
 use Rattle.fm_base.specs.declared.refusal.Refusal.TheVariants as refusal
-use Rattle.fm_base.specs.Arenas.{are_one, only_caller, State}
-use Rattle.fm_base.specs.Calls.{Call, Lend, Back, Reply, Entry, entry_of}
-use Rattle.fm_base.specs.Finds.{Find, is_draw}
-use Rattle.fm_base.specs.Machine.{state_by, after}
-use Rattle.fm_base.specs.Histories.{IsLegal, state_after, made_by}
-use Rattle.fm_base.specs.View.{Makes, Did, inside_after, inside_next, but_loans}
-use Rattle.fm_base.specs.Does.{DoesEnter, DoesOpen, DoesAllocate, DoesClose}
-use Rattle.fm_base.proofs.Faith.{Makes-alone}
-use Rattle.fm_base.proofs.Names.{are_one-true}
 use Rattle.fm_mono.specs.Shown.{Arenas, view_of}
-use Rattle.fm_memory_tests.specs.declared.heard.Heard.{Heard}
-use Rattle.fm_memory_tests.specs.declared.heard.Heard.TheVariants as heard
-use Rattle.fm_memory_tests.specs.Double.{gathered_one}
+use Rattle.fm_memory_tests.specs.{declared.heard.Heard.{Heard}, Double.{gathered_one}}
 use Rattle.fm_memory_tests.specs.Heard.{own_enter, own_open, own_allocate, close_by, entries_by, entries_in, finds_by, finds_in}
+use Rattle.fm_memory_tests.specs.declared.heard.Heard.TheVariants as heard
 
 -- ---- one more
 

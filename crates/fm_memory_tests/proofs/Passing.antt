@@ -1,11 +1,9 @@
 -- Passes of one pool are beside each other after calls of either.
 use Rattle.std.proofs.Common.{◌∙◌, sym, List}
-use Rattle.fm_base.specs.Calls.{Entry}
-use Rattle.fm_base.specs.View.{Makes}
+use Rattle.fm_base.specs.{Calls.{Entry}, View.{Makes}}
 use Rattle.fm_rule_facts.specs.Views.{View}
 use Rattle.fm_rule_calls.specs.Told.{view_of_pass}
-use Rattle.fm_arena.specs.Lasting.{SamePool}
-use Rattle.fm_arena.proofs.Lasting.{stays}
+use Rattle.fm_arena.{specs.Lasting.{SamePool}, proofs.Lasting.{stays}}
 use Rattle.fm_memory_tests.specs.Beside.{AreBeside}
 
 -- After a call of the first.

@@ -1,12 +1,9 @@
 -- What stays: nobody but caller 0 is under way, and the arena that it entered is alive.
 use Rattle.std.proofs.Common.{◌≡◌, ℕ, List, [], ◌∷◌, refl, sym, ◌∙◌, subst, Option, Some, None, All}
 use Rattle.std.proofs.lemmas.List.Elements.{All-nil, All-cons, All-head, All-tail, All-filter}
-use Rattle.fm_base.specs.declared.caller.Caller.{Caller}
-use Rattle.fm_base.specs.declared.arena_id.ArenaId.{ArenaId}
-use Rattle.fm_base.specs.Arenas.{only_caller, State, Arena, arena_of, changed}
+use Rattle.fm_base.specs.{declared.{caller.Caller.{Caller}, arena_id.ArenaId.{ArenaId}}, Arenas.{only_caller, State, Arena, arena_of, changed}}
 use Rattle.fm_base.specs.Calls.{Call, Open, Enter, Write, SwapIf, Add, Allocate, Leave, Hold, Unhold, Shut, End, Reply, Fine, Found, Given, Entry}
-use Rattle.fm_base.specs.Machine.{change_of, state_by, after}
-use Rattle.fm_base.specs.Histories.{state_after}
+use Rattle.fm_base.specs.{Machine.{change_of, state_by, after}, Histories.{state_after}}
 use Rattle.fm_base.proofs.Lookup.{Relates, made_lookup, KeepsName, changed_lookup, changed_has}
 use Rattle.fm_memory_tests.specs.Double.{IsOnlyZero, IsInAlive}
 

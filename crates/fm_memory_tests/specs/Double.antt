@@ -1,17 +1,9 @@
 -- What contracts see of a `Double`: the arenas of a `Mono`, which other callers use too, with the whole history.
 use Rattle.std.specs.Prelude.{◌≡◌, ◌≤◌, ◌^◌, Bool, true, false, List, [], ◌∷◌, Option, Some, None, All, ⊤}
-use Rattle.fm_base.specs.declared.arena_id.ArenaId.{ArenaId}
-use Rattle.fm_base.specs.declared.caller.Caller.{Caller}
-use Rattle.fm_base.specs.Arenas.{only_caller, State, Alive, has_arena, arena_of}
-use Rattle.fm_base.specs.Finds.{Rest}
-use Rattle.fm_base.specs.Histories.{IsLegal, state_after, made_by}
-use Rattle.fm_base.specs.View.{View, Told}
-use Rattle.fm_base.specs.Outcomes.{Nature}
+use Rattle.fm_base.specs.{declared.{arena_id.ArenaId.{ArenaId}, caller.Caller.{Caller}}, Arenas.{only_caller, State, Alive, has_arena, arena_of}, Finds.{Rest}}
+use Rattle.fm_base.specs.{Histories.{IsLegal, state_after, made_by}, View.{View, Told}, Outcomes.{Nature}}
 use Rattle.fm_mono.specs.Shown.{Arenas}
-use Rattle.fm_memory_tests.specs.declared.heard.Heard.{Heard}
-use Rattle.fm_memory_tests.specs.declared.others.Others.{Others}
-use Rattle.fm_memory_tests.specs.declared.others.Others.TheVariants.{Gathered}
-use Rattle.fm_memory_tests.specs.Heard.{entries_in, finds_in}
+use Rattle.fm_memory_tests.specs.{declared.{heard.Heard.{Heard}, others.Others.{Others, TheVariants.{Gathered}}}, Heard.{entries_in, finds_in}}
 
 -- the caller that comes between the calls of caller 0
 abbrev pub another : Caller

@@ -1,16 +1,10 @@
 -- The entries and finds that what is heard stands for.
 use Rattle.std.specs.Prelude.{ℕ, ◌+◌, List, [], ◌∷◌, ◌++◌, length, Option, Some, None, true, Result, Ok, Err}
-use Rattle.fm_base.specs.Arenas.{only_caller}
-use Rattle.fm_base.specs.declared.caller.Caller.{Caller}
-use Rattle.fm_base.specs.declared.arena_id.ArenaId.{ArenaId}
-use Rattle.fm_base.specs.declared.refusal.Refusal.{Refusal}
+use Rattle.fm_base.specs.{Arenas.{only_caller}, declared.{caller.Caller.{Caller}, arena_id.ArenaId.{ArenaId}, refusal.Refusal.{Refusal}}}
+use Rattle.fm_base.specs.{Calls.{Entry, entry_of}, Finds.{Find, TakesSlot}, Visits.{visit, refused_visit}}
 use Rattle.fm_base.specs.declared.refusal.Refusal.TheVariants as refusal
 use Rattle.fm_base.specs.Calls as machine
-use Rattle.fm_base.specs.Calls.{Entry, entry_of}
-use Rattle.fm_base.specs.Finds.{Find, TakesSlot}
-use Rattle.fm_base.specs.Visits.{visit, refused_visit}
-use Rattle.fm_memory_tests.specs.declared.heard.Heard.{Heard}
-use Rattle.fm_memory_tests.specs.declared.heard.Heard.TheVariants.{Enter, Load, Store, SwapIf, Add, Leave, Open, Allocate, Close, Visit}
+use Rattle.fm_memory_tests.specs.declared.heard.Heard.{Heard, TheVariants.{Enter, Load, Store, SwapIf, Add, Leave, Open, Allocate, Close, Visit}}
 
 abbrev pub own_enter : ArenaId → Result (Unit {0}) Refusal → List Entry
 own_enter id (Ok u) = entry_of only_caller (machine.Enter id) machine.Fine ∷ []

@@ -1,19 +1,11 @@
 -- An arena that gives more bytes, and one that ends.
 use Rattle.std.proofs.Common.{◌≡◌, ℕ, ◌+◌, ◌-◌, ◌<◌, ◌≤◌, true, false, List, ◌++◌, length, set, take, replicate, get_or, refl, ap, sym, ◌∙◌, subst, arith, append_assoc, length-append, Option, Some, None, slice_get}
-use Rattle.std.specs.Prelude.{nat_le, vec_capacity}
-use Rattle.std.proofs.lemmas.Bool.Decides.{nat_tests}
+use Rattle.std.{specs.Prelude.{nat_le, vec_capacity}, proofs.lemmas.Bool.Decides.{nat_tests}}
 use Rattle.std.proofs.lemmas.List.{length-set, length-replicate, replicate-append-replicate, set-get_or, take_all}
-use Rattle.fm_base.specs.declared.arena_id.ArenaId.{ArenaId}
-use Rattle.fm_base.specs.Arenas.{Arena, Alive, arena_of, changed, has_arena}
-use Rattle.fm_base.specs.Calls.{Given, NoRoom}
-use Rattle.fm_base.specs.Machine.{words_within, rounded_up, allocate_reply, given_up_to, ended}
-use Rattle.fm_base.proofs.Growing.{le-rounded_up}
-use Rattle.fm_base.proofs.Lookup.{changed_same}
-use Rattle.fm_mono.specs.declared.arena.MonoArena.{MonoArena}
-use Rattle.fm_mono.specs.Shown.{Arenas, shown, shown_all, seen_of, IsKept, IsSoundMono, filled, WantsWords}
-use Rattle.fm_mono.specs.declared.mono.Mono.TheInside.{Inside}
-use Rattle.fm_mono.proofs.Inside.{entered_of}
-use Rattle.fm_mono.proofs.Showing.{change_shown, CountFrom-set}
+use Rattle.fm_base.specs.{declared.arena_id.ArenaId.{ArenaId}, Arenas.{Arena, Alive, arena_of, changed, has_arena}, Calls.{Given, NoRoom}}
+use Rattle.fm_base.{specs.Machine.{words_within, rounded_up, allocate_reply, given_up_to, ended}, proofs.{Growing.{le-rounded_up}, Lookup.{changed_same}}}
+use Rattle.fm_mono.specs.{declared.arena.MonoArena.{MonoArena}, Shown.{Arenas, shown, shown_all, seen_of, IsKept, IsSoundMono, filled, WantsWords}}
+use Rattle.fm_mono.{specs.declared.mono.Mono.TheInside.{Inside}, proofs.{Inside.{entered_of}, Showing.{change_shown, CountFrom-set}}}
 use Rattle.fm_mono.proofs.Steps.{IsPlaced, placed, placed_read, life_true, fit_set, sound_set}
 
 -- zeros behind the words are not seen

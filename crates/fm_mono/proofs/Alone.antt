@@ -1,12 +1,7 @@
 -- Entries of the only caller.
-use Rattle.std.proofs.Common.{◌≡◌, subst, ℕ, ◌≤◌, ◌^◌, [], ◌∷◌, ◌==◌, arith, refl, sym, false, true, Some}
-use Rattle.std.proofs.lemmas.Bool.Decides.{nat_tests}
-use Rattle.fm_base.specs.declared.arena_id.ArenaId.{ArenaId}
-use Rattle.fm_base.specs.Arenas.{only_caller, State, changed, word_in}
-use Rattle.fm_base.specs.Calls.{Call, Reply, entry_of}
-use Rattle.fm_base.specs.Machine.{MayCall, MayReach, reply_to, state_by, written, swapped}
-use Rattle.fm_base.specs.View.{Makes, Did, IsSound, inside_next}
-use Rattle.fm_base.specs.Does.{DoesAct}
+use Rattle.std.proofs.{Common.{◌≡◌, subst, ℕ, ◌≤◌, ◌^◌, [], ◌∷◌, ◌==◌, arith, refl, sym, false, true, Some}, lemmas.Bool.Decides.{nat_tests}}
+use Rattle.fm_base.specs.{declared.arena_id.ArenaId.{ArenaId}, Arenas.{only_caller, State, changed, word_in}, Calls.{Call, Reply, entry_of}}
+use Rattle.fm_base.specs.{Machine.{MayCall, MayReach, reply_to, state_by, written, swapped}, View.{Makes, Did, IsSound, inside_next}, Does.{DoesAct}}
 use Rattle.fm_base.proofs.Lookup.{swapped_hit, swapped_miss}
 use Rattle.fm_mono.specs.Shown.{Arenas, view_of, Finds}
 

@@ -1,9 +1,7 @@
 -- Which arena a `Mono` is inside, as its fields say it.
 use Rattle.std.proofs.Common.{◌≡◌, ℕ, zero, suc, Bool, true, false, List, [], ◌∷◌, set, refl, sym, ap, ◌∙◌, Option, Some, None, slice_get}
 use Rattle.fm_base.specs.declared.arena_id.ArenaId.{ArenaId}
-use Rattle.fm_mono.specs.declared.arena.MonoArena.{MonoArena}
-use Rattle.fm_mono.specs.declared.mono.Mono.TheInside.{Inside}
-use Rattle.fm_mono.specs.Shown.{name_at, inside_of}
+use Rattle.fm_mono.specs.{declared.{arena.MonoArena.{MonoArena}, mono.Mono.TheInside.{Inside}}, Shown.{name_at, inside_of}}
 
 -- the arena that a `Mono` is inside
 abbrev pub entered_of : Inside → Option ArenaId

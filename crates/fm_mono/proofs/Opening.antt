@@ -1,14 +1,9 @@
 -- One arena more.
 use Rattle.std.proofs.Common.{◌≡◌, ℕ, zero, suc, ◌+◌, ◌-◌, ◌≤◌, true, false, if◌then◌else◌, List, [], ◌∷◌, ◌++◌, length, refl, ap, sym, ◌∙◌, subst, arith, Option, Some, None, ◌⊎◌, inl, inr, slice_get, ◌<◌, length-append}
-use Rattle.fm_base.specs.declared.arena_id.ArenaId.{ArenaId}
-use Rattle.fm_base.specs.Arenas.{owner_of, only_caller, State, Arena, has_arena}
-use Rattle.fm_base.specs.Calls.{Open, Fine, entry_of}
-use Rattle.fm_base.specs.View.{Makes}
-use Rattle.fm_base.specs.Machine.{words_within, opened}
-use Rattle.fm_mono.specs.declared.arena.MonoArena.{MonoArena}
-use Rattle.fm_mono.specs.Shown.{shown, shown_all, CountFrom, IsSoundMono, FitsIn, most_arenas, seen_of, view_of}
+use Rattle.fm_base.specs.{declared.arena_id.ArenaId.{ArenaId}, Arenas.{owner_of, only_caller, State, Arena, has_arena}, Calls.{Open, Fine, entry_of}}
+use Rattle.fm_base.{specs.{View.{Makes}, Machine.{words_within, opened}}, proofs.Names.{same_id-slot}}
+use Rattle.fm_mono.specs.{declared.arena.MonoArena.{MonoArena}, Shown.{shown, shown_all, CountFrom, IsSoundMono, FitsIn, most_arenas, seen_of, view_of}}
 use Rattle.fm_mono.proofs.Alone.{makes_one}
-use Rattle.fm_base.proofs.Names.{same_id-slot}
 
 pub shown_push : (limit : ℕ) (i : Option ArenaId) (os : List MonoArena) (o : MonoArena)
     → shown_all limit i (os ++ o ∷ []) ≡ shown_all limit i os ++ shown limit i o ∷ []

@@ -1,11 +1,8 @@
 -- The arenas that contracts see, looked up and changed.
 use Rattle.std.proofs.Common.{◌≡◌, ℕ, zero, suc, ◌+◌, ◌<◌, Bool, true, false, if◌then◌else◌, List, [], ◌∷◌, set, refl, ap, ◌∙◌, arith, Option, Some, None, slice_get}
-use Rattle.fm_base.specs.declared.arena_id.ArenaId.{ArenaId}
-use Rattle.fm_base.specs.Arenas.{owner_of, only_caller, State, Arena, arena_of, has_arena, changed, same_id}
-use Rattle.fm_base.specs.Machine.{entered, left}
-use Rattle.fm_mono.specs.declared.arena.MonoArena.{MonoArena}
-use Rattle.fm_mono.specs.Shown.{shown, shown_all, CountFrom}
-use Rattle.fm_base.proofs.Names.{same_id-self, same_id-slot, same_id-true}
+use Rattle.fm_base.specs.{declared.arena_id.ArenaId.{ArenaId}, Arenas.{owner_of, only_caller, State, Arena, arena_of, has_arena, changed, same_id}}
+use Rattle.fm_base.{specs.Machine.{entered, left}, proofs.Names.{same_id-self, same_id-slot, same_id-true}}
+use Rattle.fm_mono.specs.{declared.arena.MonoArena.{MonoArena}, Shown.{shown, shown_all, CountFrom}}
 
 -- the name of the arena at a place
 pub slot_at : (n k : ℕ) (os : List MonoArena) (o : MonoArena) → CountFrom n os → slice_get os k ≡ Some o → (o.id.slot ≡ n + k) × (owner_of o.id ≡ only_caller)

@@ -1,19 +1,13 @@
 -- What the fields say of the arena that a call names.
 use Rattle.std.proofs.Common.{◌≡◌, ℕ, zero, suc, ◌+◌, ◌-◌, ◌*◌, ◌<◌, ◌≤◌, ◌++◌, replicate, Bool, true, false, if◌then◌else◌, List, [], ◌∷◌, length, set, get_or, refl, ap, sym, ◌∙◌, subst, arith, Option, Some, None, ◌⊎◌, inl, inr, slice_get, slice_index, length-append}
-use Rattle.std.specs.Prelude.{IsSome}
-use Rattle.std.proofs.lemmas.List.{get_or_append_left, set-append_left, length-set}
-use Rattle.std.proofs.lemmas.List.Edits.{sets}
-use Rattle.std.proofs.Math.Seq.{length-sets}
+use Rattle.std.{specs.Prelude.{IsSome}, proofs.{lemmas.List.{get_or_append_left, set-append_left, length-set, Edits.{sets}}, Math.Seq.{length-sets}}}
 use Rattle.std.proofs.lemmas.Option.{get_or_from_slice_get, slice_get_within}
 use Rattle.fm_base.specs.declared.arena_id.ArenaId.{ArenaId}
 use Rattle.fm_base.specs.Arenas.{owner_of, only_caller, State, Arena, Alive, Ended, arena_of, has_arena, changed, IsUnderWay}
-use Rattle.fm_base.specs.Machine.{entered, left, words_within, MayReach}
+use Rattle.fm_base.{specs.{Machine.{entered, left, words_within, MayReach}, Does.{CanReach, CanReachAll}}, proofs.Names.{same_id-self}}
 use Rattle.fm_mono.specs.declared.arena.MonoArena.{MonoArena}
 use Rattle.fm_mono.specs.Shown.{view_of, seen_of, inside_of, shown, shown_all, CountFrom, IsSoundMono, IsKept, IsThere, FitsIn, filled, GoesOut}
-use Rattle.fm_base.specs.Does.{CanReach, CanReachAll}
-use Rattle.fm_base.proofs.Names.{same_id-self}
-use Rattle.fm_mono.proofs.Inside.{inside_of-set}
-use Rattle.fm_mono.proofs.Showing.{slot_at, found_shown, place_of, change_shown, CountFrom-set, enter_shown, leave_shown, nobody}
+use Rattle.fm_mono.proofs.{Inside.{inside_of-set}, Showing.{slot_at, found_shown, place_of, change_shown, CountFrom-set, enter_shown, leave_shown, nobody}}
 
 -- the arena that was entered
 pub record IsActed (limit : ℕ) (inside : Option ArenaId) (current : ℕ) (os : List MonoArena) (o : MonoArena) : Type 0 where

@@ -1,19 +1,10 @@
 -- Many words put at once, as the machine puts them one after the other.
-use Rattle.std.proofs.Common.{◌≡◌, ℕ, suc, ◌+◌, ◌^◌, ◌<◌, ◌≤◌, true, List, [], ◌∷◌, length, get_or, refl, ◌∙◌, arith, Some}
-use Rattle.std.proofs.lemmas.List.{length-set}
-use Rattle.fm_base.specs.declared.arena_id.ArenaId.{ArenaId}
-use Rattle.fm_base.specs.Arenas.{only_caller, arena_of, has_arena, changed, IsUnderWay}
-use Rattle.fm_base.specs.Calls.{Write, Fine, entry_of}
-use Rattle.fm_base.specs.Learnt.{AfterStores}
-use Rattle.fm_base.specs.Machine.{written, MayPut}
-use Rattle.fm_base.specs.View.{Makes}
-use Rattle.fm_base.specs.Visits.{entries_of, writes}
-use Rattle.fm_base.proofs.Lookup.{KeepsName, changed_has, lookup_changed, changed_twice, changed_same}
-use Rattle.fm_base.proofs.Making.{Makes-then, Makes-none}
+use Rattle.std.proofs.{Common.{◌≡◌, ℕ, suc, ◌+◌, ◌^◌, ◌<◌, ◌≤◌, true, List, [], ◌∷◌, length, get_or, refl, ◌∙◌, arith, Some}, lemmas.List.{length-set}}
+use Rattle.fm_base.specs.{declared.arena_id.ArenaId.{ArenaId}, Arenas.{only_caller, arena_of, has_arena, changed, IsUnderWay}, Calls.{Write, Fine, entry_of}}
+use Rattle.fm_base.specs.{Learnt.{AfterStores}, Machine.{written, MayPut}, View.{Makes}, Visits.{entries_of, writes}}
+use Rattle.fm_base.proofs.{Lookup.{KeepsName, changed_has, lookup_changed, changed_twice, changed_same}, Making.{Makes-then, Makes-none}}
 use Rattle.fm_base.proofs.Outcomes.{Makes-lasts}
-use Rattle.fm_mono.specs.Shown.{Arenas, view_of}
-use Rattle.fm_mono.proofs.Alone.{makes_one, sound_of}
-use Rattle.fm_mono.proofs.Steps.{written_all}
+use Rattle.fm_mono.{specs.Shown.{Arenas, view_of}, proofs.{Alone.{makes_one, sound_of}, Steps.{written_all}}}
 
 -- inside an arena that is known, which has so many words from this index on
 pub record CanStore (m : Arenas) (a : ArenaId) (first count : ℕ) : Type 0 where

@@ -1,21 +1,13 @@
 -- Whole calls of the only caller.
-use Rattle.std.proofs.Common.{◌≡◌, ℕ, ◌+◌, true, List, [], ◌∷◌, refl, sym, ap, ◌∙◌, arith, Some, Result, Ok, Err, not}
-use Rattle.std.specs.Prelude.{filter}
-use Rattle.fm_base.specs.declared.caller.Caller.{Caller}
-use Rattle.fm_base.specs.declared.arena_id.ArenaId.{ArenaId}
-use Rattle.fm_base.specs.declared.refusal.Refusal.{Refusal}
-use Rattle.fm_base.specs.declared.refusal.Refusal.TheVariants as refusal
-use Rattle.fm_base.specs.declared.kind.Kind.TheVariants.{Global}
+use Rattle.std.{proofs.Common.{◌≡◌, ℕ, ◌+◌, true, List, [], ◌∷◌, refl, sym, ap, ◌∙◌, arith, Some, Result, Ok, Err, not}, specs.Prelude.{filter}}
+use Rattle.fm_base.specs.declared.{caller.Caller.{Caller}, arena_id.ArenaId.{ArenaId}, refusal.Refusal.{Refusal}, kind.Kind.TheVariants.{Global}}
 use Rattle.fm_base.specs.Arenas.{are_one, only_caller, State, Arena, Alive, Closing, Ended, arena_of, has_arena, changed, IsUnderWay}
 use Rattle.fm_base.specs.Calls.{Enter, Allocate, Leave, Shut, End, Closed, Fine, Given, NoRoom, entry_of}
-use Rattle.fm_base.specs.Machine.{IsPower, reply_to, allocate_reply, entered, left, given_up_to, closing, ended, enter_reply}
-use Rattle.fm_base.specs.Visits.{visit, refused_visit}
-use Rattle.fm_base.specs.View.{Makes, Did, but_loans}
-use Rattle.fm_base.specs.Does.{DoesAllocate}
-use Rattle.fm_base.proofs.Lookup.{KeepsName, changed_has, lookup_changed, changed_twice, changed_alike, changed_same}
-use Rattle.fm_base.proofs.Making.{Makes-then, Makes-none}
-use Rattle.fm_mono.specs.Shown.{Arenas, view_of, CanEnter, Allots}
-use Rattle.fm_mono.proofs.Alone.{makes_one}
+use Rattle.fm_base.specs.{Machine.{IsPower, reply_to, allocate_reply, entered, left, given_up_to, closing, ended, enter_reply}, Visits.{visit, refused_visit}}
+use Rattle.fm_base.specs.{View.{Makes, Did, but_loans}, Does.{DoesAllocate}}
+use Rattle.fm_base.proofs.{Lookup.{KeepsName, changed_has, lookup_changed, changed_twice, changed_alike, changed_same}, Making.{Makes-then, Makes-none}}
+use Rattle.fm_base.specs.declared.refusal.Refusal.TheVariants as refusal
+use Rattle.fm_mono.{specs.Shown.{Arenas, view_of, CanEnter, Allots}, proofs.Alone.{makes_one}}
 
 -- a refused Enter
 pub enter_closed : (m : Arenas) (a : ArenaId) → CanEnter m a → (arena_of m.state a).life ≡ Ended → Makes (view_of m) (view_of m) (refused_visit only_caller a)

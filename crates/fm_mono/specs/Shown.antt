@@ -1,14 +1,11 @@
 -- What contracts see of a `Mono`, and the machine's arena that each of its arenas is.
 use Rattle.std.specs.Prelude.{◌≡◌, ℕ, zero, suc, ◌+◌, ◌-◌, ◌^◌, ◌<◌, ◌≤◌, Bool, true, false, if◌then◌else◌, List, [], ◌∷◌, ◌++◌, Option, Some, None, length, replicate, slice_get, Result, Ok, Err, vec_capacity}
-use Rattle.fm_base.specs.declared.arena_id.ArenaId.{ArenaId}
-use Rattle.fm_base.specs.declared.kind.Kind.TheVariants.{Global}
-use Rattle.fm_base.specs.declared.refusal.Refusal.{Refusal}
-use Rattle.fm_base.specs.declared.refusal.Refusal.TheVariants as refusal
+use Rattle.fm_base.specs.declared.{arena_id.ArenaId.{ArenaId}, kind.Kind.TheVariants.{Global}, refusal.Refusal.{Refusal}}
 use Rattle.fm_base.specs.Arenas.{owner_of, only_caller, State, Arena, Alive, Ended, MayUse, same_id, arena_of, has_arena, changed, word_in, IsUnderWay}
 use Rattle.fm_base.specs.Calls.{Allocate, Given, NoRoom}
-use Rattle.fm_base.specs.Machine.{words_within, rounded_up, reply_to, given_up_to, written, left, IsUnderWayNowhere, MayReach, MayPut}
-use Rattle.fm_base.specs.View.{View}
+use Rattle.fm_base.specs.{Machine.{words_within, rounded_up, reply_to, given_up_to, written, left, IsUnderWayNowhere, MayReach, MayPut}, View.{View}}
 use Rattle.fm_base.specs.Outcomes.{Nature}
+use Rattle.fm_base.specs.declared.refusal.Refusal.TheVariants as refusal
 use Rattle.fm_mono.specs.declared.arena.MonoArena.{MonoArena}
 
 -- the arenas of one thread

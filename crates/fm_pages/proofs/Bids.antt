@@ -1,19 +1,12 @@
 -- Claiming a page.
 use Rattle.std.proofs.Common.{◌≡◌, ◌⊎◌, ℕ, ◌==◌, ◌<◌, Bool, true, false, if◌then◌else◌, List, [], refl, ap, sym, ◌∙◌, subst, inl, inr, ⊎_elim, eq-eqb}
-use Rattle.std.proofs.lemmas.List.Elements.{All-cons, All-nil}
-use Rattle.std.specs.Int.{bit_at}
-use Rattle.fm_words.specs.declared.shape.Shape.{Shape}
-use Rattle.fm_words.specs.Bits.{number_at}
+use Rattle.std.{proofs.lemmas.List.Elements.{All-cons, All-nil}, specs.Int.{bit_at}}
+use Rattle.fm_words.specs.{declared.shape.Shape.{Shape}, Bits.{number_at}}
 use Rattle.fm_base.specs.Finds.{Find, TakesPage, is_draw}
-use Rattle.fm_rule_facts.specs.Hands.{takes}
-use Rattle.fm_rule_facts.specs.Parts.{pages_taken}
-use Rattle.fm_rule_facts.specs.Views.{View}
-use Rattle.fm_rule_facts.specs.Steps.{Stepped, none_noted, note_of, is_clear}
-use Rattle.fm_rule.specs.declared.pool.Pool.{Pool}
-use Rattle.fm_rule.specs.Passes.{IsOf}
+use Rattle.fm_rule_facts.specs.{Hands.{takes}, Parts.{pages_taken}, Views.{View}, Steps.{Stepped, none_noted, note_of, is_clear}}
+use Rattle.fm_rule.specs.{declared.pool.Pool.{Pool}, Passes.{IsOf}}
 use Rattle.fm_rule_calls.proofs.Going.{NoDraws, goes_step, goes_then, no_draws}
-use Rattle.fm_pages.specs.Claims.{Went, PageClaimed, TryOutcome}
-use Rattle.fm_pages.proofs.Clear.{clear_still}
+use Rattle.fm_pages.{specs.Claims.{Went, PageClaimed, TryOutcome}, proofs.Clear.{clear_still}}
 
 abbrev pub Takes : View → View → (group word bit found : ℕ) → Type 0
 Takes p q group word bit found =

@@ -1,12 +1,8 @@
 -- A pass that is clear, or known to be whole.
 use Rattle.std.proofs.Common.{◌≡◌, ◌+◌, ◌&&◌, Bool, true, false, List, [], ◌∷◌, ◌++◌, length, refl, ap, sym, ◌∙◌, arith}
 use Rattle.std.proofs.lemmas.List.{append-nil, length-append}
-use Rattle.fm_base.specs.Calls.{Entry}
-use Rattle.fm_base.specs.Finds.{Find}
-use Rattle.fm_rule_facts.specs.Hands.{slots_in}
-use Rattle.fm_rule_facts.specs.Parts.{Mapping}
-use Rattle.fm_rule_facts.specs.Views.{View, Begins}
-use Rattle.fm_rule_facts.specs.Steps.{is_clear, is_empty}
+use Rattle.fm_base.specs.{Calls.{Entry}, Finds.{Find}}
+use Rattle.fm_rule_facts.specs.{Hands.{slots_in}, Parts.{Mapping}, Views.{View, Begins}, Steps.{is_clear, is_empty}}
 use Rattle.fm_rule_calls.specs.Kept.{Goes}
 
 -- a pass that was clear is so without a page, whatever it has seen, found and read

@@ -1,31 +1,18 @@
 -- When pages are too few for the bytes that are asked for.
 use Rattle.std.proofs.Common.{◌≡◌, ℕ, ◌+◌, ◌-◌, ◌*◌, ◌/◌, ◌<◌, ◌≤◌, Bool, true, if◌then◌else◌, List, [], ◌∷◌, ◌++◌, refl, ap, sym, ◌∙◌, subst, All, Some, eq-eqb, append_assoc, arith}
-use Rattle.std.specs.Prelude.{Contains}
-use Rattle.std.proofs.Math.Nat.{div-lt_iff_lt-mul, lt_of_not-le, mul-div_cancel}
-use Rattle.std.proofs.lemmas.Bool.{le-leb}
+use Rattle.std.{specs.Prelude.{Contains}, proofs.{Math.Nat.{div-lt_iff_lt-mul, lt_of_not-le, mul-div_cancel}, lemmas.Bool.{le-leb}}}
 use Rattle.std.proofs.lemmas.List.Elements.{All-head, All-tail, All-weaker}
 use Rattle.fm_words.specs.declared.shape.Shape.{Shape}
-use Rattle.fm_base.specs.declared.caller.Caller.{Caller}
-use Rattle.fm_base.specs.declared.arena_id.ArenaId.{ArenaId}
-use Rattle.fm_base.specs.Arenas.{State, Arena, has_arena, arena_of}
-use Rattle.fm_base.specs.Calls.{Call, Allocate, Given, NoRoom, Reply, Entry, entry_of}
-use Rattle.fm_base.specs.Machine.{after, allocate_reply, given_up_to, rounded_up, state_by}
-use Rattle.fm_base.specs.Histories.{IsLegal, state_after}
-use Rattle.fm_base.proofs.Growing.{given_is}
-use Rattle.fm_base.proofs.Lookup.{lookup_changed}
-use Rattle.fm_base.proofs.Making.{IsLegal-split, state_after-append}
+use Rattle.fm_base.specs.{declared.{caller.Caller.{Caller}, arena_id.ArenaId.{ArenaId}}, Arenas.{State, Arena, has_arena, arena_of}}
+use Rattle.fm_base.specs.{Calls.{Call, Allocate, Given, NoRoom, Reply, Entry, entry_of}, Machine.{after, allocate_reply, given_up_to, rounded_up, state_by}}
+use Rattle.fm_base.{specs.Histories.{IsLegal, state_after}, proofs.{Growing.{given_is}, Lookup.{lookup_changed}, Making.{IsLegal-split, state_after-append}}}
 use Rattle.fm_base.proofs.Placing.{there_by_way}
-use Rattle.fm_rule_facts.specs.Loans.{Loan, loans_of, loans_after, HasPart, IsRightlyLent}
-use Rattle.fm_rule_facts.specs.Scarcity.{IsScarce, has_part, lacking, parts_before, end_of}
-use Rattle.fm_rule_facts.specs.Steps.{is_clear, where_found}
-use Rattle.fm_rule_facts.specs.Views.{View, IsSound, given_of, limit_of, state_in, unlent}
-use Rattle.fm_rule_facts.proofs.Lending.{loans_after-append}
-use Rattle.fm_rule_facts.proofs.Scarcity.{LendsFirst, has_part_of, has_part_not, lends_even, none_lacking, some_lacking}
+use Rattle.fm_rule_facts.specs.{Loans.{Loan, loans_of, loans_after, HasPart, IsRightlyLent}, Scarcity.{IsScarce, has_part, lacking, parts_before, end_of}}
+use Rattle.fm_rule_facts.specs.{Steps.{is_clear, where_found}, Views.{View, IsSound, given_of, limit_of, state_in, unlent}}
+use Rattle.fm_rule_facts.proofs.{Lending.{loans_after-append}, Scarcity.{LendsFirst, has_part_of, has_part_not, lends_even, none_lacking, some_lacking}}
 use Rattle.fm_rule_facts.proofs.Unlending.{lent-first, lent-split}
 use Rattle.fm_rule_calls.proofs.UnderWay.{stands_under_way}
-use Rattle.fm_pages.specs.Covers.{LendsIn, Lacks}
-use Rattle.fm_pages.specs.Gives.{allocates}
-use Rattle.fm_pages.specs.Maps.{Way}
+use Rattle.fm_pages.specs.{Covers.{LendsIn, Lacks}, Gives.{allocates}, Maps.{Way}}
 use Rattle.fm_rule_steps.proofs.Claiming.{whole_clear}
 
 -- ---- parts of a range

@@ -1,23 +1,12 @@
 -- A word whose part is lent is found by its part's map word.
 use Rattle.std.proofs.Common.{◌≡◌, ◌≢◌, ℕ, ◌+◌, ◌-◌, ◌*◌, ◌/◌, ◌%◌, ◌<◌, ◌≤◌, ◌==◌, Bool, false, if◌then◌else◌, List, [], ◌∷◌, ◌++◌, refl, ap, sym, ◌∙◌, subst, append_assoc, arith, inl, inr, ⊎_elim, Some, ne_eqb}
-use Rattle.std.proofs.Math.Nat.{div-lt_iff_lt-mul, div-mul-le_self, lt-div-mul-add}
-use Rattle.fm_words.specs.declared.shape.Shape.{Shape}
-use Rattle.fm_words.specs.Places.{at, page_word}
-use Rattle.fm_base.specs.declared.arena_id.ArenaId.{ArenaId}
-use Rattle.fm_base.specs.Arenas.{State, arena_of}
-use Rattle.fm_base.specs.Calls.{Entry}
-use Rattle.fm_base.specs.Histories.{IsLegal, state_after}
-use Rattle.fm_base.proofs.Making.{state_after-append, IsLegal-split}
-use Rattle.fm_base.proofs.Growing.{Grows-state_after}
-use Rattle.fm_rule_facts.specs.Parts.{Mapping, mapping_of, reads_after}
-use Rattle.fm_rule_facts.specs.Views.{View, In, IsSound, given_of, limit_of, state_in}
-use Rattle.fm_rule_facts.specs.Moves.{LearnsMap}
-use Rattle.fm_rule_facts.specs.Steps.{Stepped, CanReach, HasPlace, HasParts, none_noted}
-use Rattle.fm_rule_facts.specs.Loans.{HasPart, loans_of, loan_of}
-use Rattle.fm_base.proofs.Placing.{there_by_way}
-use Rattle.fm_rule_calls.proofs.Lent.{part_on}
-use Rattle.fm_rule_calls.proofs.UnderWay.{stands_under_way}
-use Rattle.std.specs.Prelude.{Contains}
+use Rattle.std.{proofs.Math.Nat.{div-lt_iff_lt-mul, div-mul-le_self, lt-div-mul-add}, specs.Prelude.{Contains}}
+use Rattle.fm_words.specs.{declared.shape.Shape.{Shape}, Places.{at, page_word}}
+use Rattle.fm_base.specs.{declared.arena_id.ArenaId.{ArenaId}, Arenas.{State, arena_of}, Calls.{Entry}, Histories.{IsLegal, state_after}}
+use Rattle.fm_base.proofs.{Making.{state_after-append, IsLegal-split}, Growing.{Grows-state_after}, Placing.{there_by_way}}
+use Rattle.fm_rule_facts.specs.{Parts.{Mapping, mapping_of, reads_after}, Views.{View, In, IsSound, given_of, limit_of, state_in}, Moves.{LearnsMap}}
+use Rattle.fm_rule_facts.specs.{Steps.{Stepped, CanReach, HasPlace, HasParts, none_noted}, Loans.{HasPart, loans_of, loan_of}}
+use Rattle.fm_rule_calls.proofs.{Lent.{part_on}, UnderWay.{stands_under_way}}
 use Rattle.fm_pages.specs.Places.{CanFind, Placed}
 
 -- the part of a word that can be found is lent

@@ -1,23 +1,12 @@
 -- One try to give bytes.
 use Rattle.std.proofs.Common.{◌≡◌, ◌≢◌, ℕ, ◌+◌, ◌==◌, ◌≤◌, Bool, true, false, if◌then◌else◌, List, [], ◌∷◌, ◌++◌, refl, ap, sym, ◌∙◌, subst, Option, Some, None}
-use Rattle.std.proofs.lemmas.List.Elements.{All-nil}
-use Rattle.std.proofs.lemmas.Bool.{leb-true}
-use Rattle.std.specs.Prelude.{nat_le}
+use Rattle.std.{proofs.lemmas.{List.Elements.{All-nil}, Bool.{leb-true}}, specs.Prelude.{nat_le}}
 use Rattle.fm_words.specs.declared.shape.Shape.{Shape}
-use Rattle.fm_base.specs.declared.caller.Caller.{Caller}
-use Rattle.fm_base.specs.declared.arena_id.ArenaId.{ArenaId}
-use Rattle.fm_base.specs.Calls.{Reply, Allocate, entry_of}
-use Rattle.fm_base.specs.Machine.{rounded_up, allocate_reply}
-use Rattle.fm_base.specs.Histories.{made_by}
-use Rattle.fm_base.specs.View.{inside_after}
-use Rattle.fm_rule_facts.specs.Parts.{Mapping}
-use Rattle.fm_rule_facts.specs.Views.{View, In, limit_of, given_of}
-use Rattle.fm_rule_facts.specs.Steps.{Stepped, none_noted, where_found, acted, room}
+use Rattle.fm_base.specs.{declared.{caller.Caller.{Caller}, arena_id.ArenaId.{ArenaId}}, Calls.{Reply, Allocate, entry_of}}
+use Rattle.fm_base.specs.{Machine.{rounded_up, allocate_reply}, Histories.{made_by}, View.{inside_after}}
+use Rattle.fm_rule_facts.specs.{Parts.{Mapping}, Views.{View, In, limit_of, given_of}, Steps.{Stepped, none_noted, where_found, acted, room}}
 use Rattle.fm_rule_calls.proofs.Going.{goes_step, no_draws, made_by-one}
-use Rattle.fm_pages.specs.Maps.{Way}
-use Rattle.fm_pages.specs.Covers.{Covered, LendsIn}
-use Rattle.fm_pages.specs.Gives.{Tried, Unpaged, allocates}
-use Rattle.fm_pages.proofs.Exact.{tried_exact, unpaged_exact}
+use Rattle.fm_pages.{specs.{Maps.{Way}, Covers.{Covered, LendsIn}, Gives.{Tried, Unpaged, allocates}}, proofs.Exact.{tried_exact, unpaged_exact}}
 use Rattle.fm_pages.proofs.Parts.{way_then, pages_way}
 
 -- ---- the exchange

@@ -1,25 +1,14 @@
 -- Each word of page bits is found 0, one after another.
 use Rattle.std.proofs.Common.{◌≡◌, ℕ, ◌+◌, ◌<◌, ◌≤◌, true, false, List, [], ◌∷◌, ◌++◌, length, refl, ap, sym, ◌∙◌, subst, inl, ⊎_elim, None, append_assoc, arith}
+use Rattle.std.proofs.lemmas.List.{append-nil, length-append, Elements.{Contains-append_left, Contains-append_right, Contains-push}}
 use mathlib.Core.Logic.{dite}
 use native.Mathlib.Decide.{ℕ_discrete}
-use Rattle.std.proofs.lemmas.List.{append-nil, length-append}
-use Rattle.std.proofs.lemmas.List.Elements.{Contains-append_left, Contains-append_right, Contains-push}
-use Rattle.fm_words.specs.declared.shape.Shape.{Shape}
-use Rattle.fm_words.specs.Places.{page_groups}
-use Rattle.fm_base.specs.Calls.{Entry}
-use Rattle.fm_base.specs.Finds.{Find, FindsMore, TakesPage}
-use Rattle.fm_base.proofs.Making.{FindsMore-none}
-use Rattle.fm_rule_facts.specs.Loans.{loans_of}
-use Rattle.fm_rule_facts.specs.Views.{View, In, FewLeft, unlent_in}
-use Rattle.fm_rule_facts.specs.Steps.{is_clear}
-use Rattle.fm_rule_facts.proofs.Groups.{none_in_all}
-use Rattle.fm_rule_facts.proofs.Keeping.{in_right}
-use Rattle.fm_rule.specs.declared.pool.Pool.{Pool}
-use Rattle.fm_rule.specs.Passes.{IsOf}
-use Rattle.fm_rule.proofs.Seeking.{takes_zero}
+use Rattle.fm_words.specs.{declared.shape.Shape.{Shape}, Places.{page_groups}}
+use Rattle.fm_base.{specs.{Calls.{Entry}, Finds.{Find, FindsMore, TakesPage}}, proofs.Making.{FindsMore-none}}
+use Rattle.fm_rule_facts.{specs.{Loans.{loans_of}, Views.{View, In, FewLeft, unlent_in}, Steps.{is_clear}}, proofs.{Groups.{none_in_all}, Keeping.{in_right}}}
+use Rattle.fm_rule.{specs.{declared.pool.Pool.{Pool}, Passes.{IsOf}}, proofs.Seeking.{takes_zero}}
 use Rattle.fm_rule_calls.specs.Kept.{Goes}
-use Rattle.fm_pages.specs.Claims.{Went, FoundEmpty, AllFoundEmpty, NoneClaimed}
-use Rattle.fm_pages.proofs.Clear.{begins_all, still_seen}
+use Rattle.fm_pages.{specs.Claims.{Went, FoundEmpty, AllFoundEmpty, NoneClaimed}, proofs.Clear.{begins_all, still_seen}}
 use Rattle.fm_pages.proofs.Bids.{Bidding, Takes, bids_begin, bids_clear, bids_go_on, bids_shape, took, went_on}
 use Rattle.fm_rule_steps.proofs.Claiming.{whole_clear}
 

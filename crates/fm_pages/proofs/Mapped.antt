@@ -1,18 +1,11 @@
 -- A page of the hand is mapped, or comes back.
 use Rattle.std.proofs.Common.{◌≡◌, ◌≢◌, ℕ, ◌-◌, ◌==◌, Bool, true, false, if◌then◌else◌, List, [], ◌∷◌, refl, ap, sym, ◌∙◌, subst, inl, inr, Option, Some, eq-eqb, ne_eqb}
 use Rattle.std.proofs.lemmas.List.Elements.{All-cons, All-nil}
-use Rattle.fm_base.specs.declared.caller.Caller.{Caller}
-use Rattle.fm_base.specs.declared.arena_id.ArenaId.{ArenaId}
-use Rattle.fm_base.specs.Calls.{Lend, Fine, entry_of}
-use Rattle.fm_base.specs.Histories.{made_by}
-use Rattle.fm_base.specs.View.{inside_after}
+use Rattle.fm_base.specs.{declared.{caller.Caller.{Caller}, arena_id.ArenaId.{ArenaId}}, Calls.{Lend, Fine, entry_of}, Histories.{made_by}, View.{inside_after}}
 use Rattle.fm_base.specs.Finds.{Maps, is_draw}
-use Rattle.fm_rule_facts.specs.Parts.{Mapping, mapping_of, reads_mapped, pages_mapped}
-use Rattle.fm_rule_facts.specs.Views.{View, In}
-use Rattle.fm_rule_facts.specs.Steps.{Stepped, note_of, where_found}
+use Rattle.fm_rule_facts.specs.{Parts.{Mapping, mapping_of, reads_mapped, pages_mapped}, Views.{View, In}, Steps.{Stepped, note_of, where_found}}
 use Rattle.fm_rule_calls.proofs.Going.{NoDraws, goes_step, made_by-one}
-use Rattle.fm_pages.specs.Maps.{Way}
-use Rattle.fm_pages.specs.Maps.{PageMapped, PartTaken}
+use Rattle.fm_pages.specs.Maps.{Way, PageMapped, PartTaken}
 
 inside_lent : (b : Bool) (now : Option ArenaId) (c : Caller) (a : ArenaId) (i page : ℕ)
     → now ≡ inside_after now (where_found b (entry_of c (Lend page a i) Fine ∷ []))

@@ -1,15 +1,10 @@
 -- Ways of a pass that maps pages, and reads which page a part has.
 use Rattle.std.proofs.Common.{◌≡◌, ◌≢◌, ℕ, ◌-◌, ◌==◌, Bool, true, false, if◌then◌else◌, List, [], ◌∷◌, ◌++◌, refl, ap, sym, ◌∙◌, subst, inl, inr, ne_eqb}
 use Rattle.fm_base.specs.Calls.{Entry}
-use Rattle.fm_rule_facts.specs.Parts.{Mapping, mapping_of, reads_after}
-use Rattle.fm_rule_facts.specs.Views.{View, In}
-use Rattle.fm_rule_facts.specs.Steps.{Stepped, none_noted, is_clear}
-use Rattle.fm_rule.specs.declared.pool.Pool.{Pool}
-use Rattle.fm_rule.specs.Passes.{IsOf}
+use Rattle.fm_rule_facts.specs.{Parts.{Mapping, mapping_of, reads_after}, Views.{View, In}, Steps.{Stepped, none_noted, is_clear}}
+use Rattle.fm_rule.specs.{declared.pool.Pool.{Pool}, Passes.{IsOf}}
 use Rattle.fm_rule_calls.proofs.Going.{goes_step, goes_then, no_draws}
-use Rattle.fm_pages.specs.Claims.{Went}
-use Rattle.fm_pages.proofs.Clear.{clear_still}
-use Rattle.fm_pages.specs.Maps.{Way}
+use Rattle.fm_pages.{specs.{Claims.{Went}, Maps.{Way}}, proofs.Clear.{clear_still}}
 
 -- ---- ways
 

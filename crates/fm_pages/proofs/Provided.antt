@@ -1,25 +1,13 @@
 -- A part gets a page, where it has none and one is free.
 use Rattle.std.proofs.Common.{◌≡◌, ◌≢◌, ℕ, ◌-◌, true, false, List, [], ◌∷◌, refl, ap, sym, ◌∙◌, subst, inl, inr, Err}
 use Rattle.fm_words.specs.declared.shape.Shape.{Shape}
-use Rattle.fm_base.specs.declared.caller.Caller.{Caller}
-use Rattle.fm_base.specs.declared.arena_id.ArenaId.{ArenaId}
-use Rattle.fm_base.specs.Calls.{Entry, Lend, Fine, entry_of}
-use Rattle.fm_base.specs.Histories.{made_by}
-use Rattle.fm_rule_facts.specs.Loans.{HasPart, loans_of}
-use Rattle.fm_rule_facts.specs.Parts.{mapping_of, reads_after}
-use Rattle.fm_rule_facts.specs.Views.{View, unlent}
-use Rattle.fm_rule_facts.specs.Moves.{LearnsMap}
-use Rattle.fm_rule_facts.specs.Steps.{Stepped, none_noted}
-use Rattle.fm_pages.specs.Claims.{Went, PageClaimed, NoneClaimed}
-use Rattle.fm_pages.specs.Maps.{Way}
+use Rattle.fm_base.specs.{declared.{caller.Caller.{Caller}, arena_id.ArenaId.{ArenaId}}, Calls.{Entry, Lend, Fine, entry_of}, Histories.{made_by}}
 use Rattle.fm_base.specs.declared.refusal.Refusal.{Refusal}
+use Rattle.fm_rule_facts.specs.{Loans.{HasPart, loans_of}, Parts.{mapping_of, reads_after}, Views.{View, unlent}, Moves.{LearnsMap}}
+use Rattle.fm_rule_facts.specs.Steps.{Stepped, none_noted}
+use Rattle.fm_pages.specs.{Claims.{Went, PageClaimed, NoneClaimed, ClaimOutcome}, Maps.{Way, PageMapped, PartTaken}, Provides.{Provided}}
+use Rattle.fm_pages.proofs.{Clear.{still_seen}, Looking.{all_earlier}, Parts.{way_then, way_went, way_read, read_there, clear_way}}
 use Rattle.fm_base.specs.declared.refusal.Refusal.TheVariants as refusal
-use Rattle.fm_pages.specs.Claims.{ClaimOutcome}
-use Rattle.fm_pages.specs.Maps.{PageMapped, PartTaken}
-use Rattle.fm_pages.specs.Provides.{Provided}
-use Rattle.fm_pages.proofs.Clear.{still_seen}
-use Rattle.fm_pages.proofs.Looking.{all_earlier}
-use Rattle.fm_pages.proofs.Parts.{way_then, way_went, way_read, read_there, clear_way}
 use Rattle.fm_rule_steps.proofs.Claiming.{whole_clear}
 
 -- `claim` is refused with nothing else

@@ -1,22 +1,12 @@
 -- Giving all parts of a range pages.
 use Rattle.std.proofs.Common.{◌≡◌, ◌≢◌, ℕ, ◌+◌, ◌*◌, ◌/◌, ◌==◌, ◌<◌, ◌≤◌, Bool, true, false, List, [], ◌∷◌, ◌++◌, refl, ap, sym, ◌∙◌, subst, ⊎_elim, All, arith, append_assoc}
-use Rattle.std.proofs.lemmas.List.Elements.{All-append, All-cons, All-nil}
-use Rattle.std.proofs.Math.Nat.{mul-le-mul_right, mul_assoc, lt_of_not-le}
+use Rattle.std.proofs.{lemmas.List.Elements.{All-append, All-cons, All-nil}, Math.Nat.{mul-le-mul_right, mul_assoc, lt_of_not-le}}
 use Rattle.fm_words.specs.declared.shape.Shape.{Shape}
-use Rattle.fm_base.specs.declared.caller.Caller.{Caller}
-use Rattle.fm_base.specs.declared.arena_id.ArenaId.{ArenaId}
-use Rattle.fm_base.specs.Calls.{Entry, Lend, Fine, entry_of}
-use Rattle.fm_base.specs.Histories.{made_by}
-use Rattle.fm_rule_facts.specs.Loans.{loans_of}
-use Rattle.fm_rule_facts.specs.Parts.{mapping_of}
-use Rattle.fm_rule_facts.specs.Views.{View, In, IsSound, limit_of, unlent}
+use Rattle.fm_base.specs.{declared.{caller.Caller.{Caller}, arena_id.ArenaId.{ArenaId}}, Calls.{Entry, Lend, Fine, entry_of}, Histories.{made_by}}
+use Rattle.fm_rule_facts.specs.{Loans.{loans_of}, Parts.{mapping_of}, Views.{View, In, IsSound, limit_of, unlent}}
 use Rattle.fm_rule_calls.proofs.Going.{goes_none}
-use Rattle.fm_pages.specs.Maps.{Way}
-use Rattle.fm_pages.specs.Provides.{Provided, LendsPart}
-use Rattle.fm_pages.specs.Covers.{Covering, Covered, LendsIn, page_bytes}
-use Rattle.fm_pages.proofs.Finding.{parts_cover}
-use Rattle.fm_pages.proofs.Looking.{all_earlier}
-use Rattle.fm_pages.proofs.Parts.{way_then, clear_way}
+use Rattle.fm_pages.{specs.{Maps.{Way}, Provides.{Provided, LendsPart}, Covers.{Covering, Covered, LendsIn, page_bytes}}, proofs.Finding.{parts_cover}}
+use Rattle.fm_pages.proofs.{Looking.{all_earlier}, Parts.{way_then, clear_way}}
 use Rattle.fm_rule_steps.proofs.Reading.{eqb_true, eqb_false}
 
 pub covering_begins : {v : View} (a : ArenaId) (from to : ℕ) → IsSound v → v.pages ≡ [] → Covering v v a from to (from / page_bytes v)

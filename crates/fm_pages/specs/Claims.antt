@@ -1,12 +1,9 @@
 -- What claiming a page and giving one back does to a pass.
 use Rattle.std.specs.Prelude.{◌≡◌, ◌<◌, ◌≤◌, ℕ, Bool, true, false, List, [], ◌∷◌, length, Result, Ok, Err}
-use Rattle.fm_base.specs.declared.refusal.Refusal.{Refusal}
+use Rattle.fm_base.specs.{declared.refusal.Refusal.{Refusal}, Finds.{FoundNothing, is_page, group_of}}
 use Rattle.fm_base.specs.declared.refusal.Refusal.TheVariants as refusal
-use Rattle.fm_base.specs.Finds.{FoundNothing, is_page, group_of}
 use Rattle.fm_words.specs.Places.{page_groups}
-use Rattle.fm_rule_facts.specs.Loans.{loans_of}
-use Rattle.fm_rule_facts.specs.Steps.{is_clear}
-use Rattle.fm_rule_facts.specs.Views.{View, FewLeft, unlent}
+use Rattle.fm_rule_facts.specs.{Loans.{loans_of}, Steps.{is_clear}, Views.{View, FewLeft, unlent}}
 use Rattle.fm_rule_calls.specs.Kept.{Goes}
 use Rattle.fm_pages.specs.declared.page.Page.{Page}
 

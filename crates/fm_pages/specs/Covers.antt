@@ -1,12 +1,8 @@
 -- What a pass does that gives all parts of a range pages.
 use Rattle.std.specs.Prelude.{◌≡◌, ◌<◌, ◌≤◌, ◌*◌, ◌/◌, ℕ, Bool, true, false, List, [], All}
-use Rattle.fm_base.specs.declared.arena_id.ArenaId.{ArenaId}
-use Rattle.fm_base.specs.Calls.{Entry, Lend, Fine, entry_of}
-use Rattle.fm_rule_facts.specs.Parts.{mapping_of}
-use Rattle.fm_rule_facts.specs.Views.{View, In}
-use Rattle.fm_rule_facts.specs.Steps.{HasParts}
-use Rattle.fm_pages.specs.Maps.{Way}
-use Rattle.fm_pages.specs.Provides.{NoneFree}
+use Rattle.fm_base.specs.{declared.arena_id.ArenaId.{ArenaId}, Calls.{Entry, Lend, Fine, entry_of}}
+use Rattle.fm_rule_facts.specs.{Parts.{mapping_of}, Views.{View, In}, Steps.{HasParts}}
+use Rattle.fm_pages.specs.{Maps.{Way}, Provides.{NoneFree}}
 
 -- the bytes of a page
 abbrev pub page_bytes : View → ℕ

@@ -1,13 +1,8 @@
 -- What one try to give bytes does, with pages for them.
 use Rattle.std.specs.Prelude.{◌≡◌, true, ◌≢◌, ◌≤◌, ◌==◌, ◌+◌, ℕ, List, [], ◌∷◌, ◌++◌, All, Option, Some, None}
-use Rattle.fm_base.specs.declared.arena_id.ArenaId.{ArenaId}
-use Rattle.fm_base.specs.Calls.{Entry, Allocate, entry_of}
-use Rattle.fm_base.specs.Machine.{rounded_up, allocate_reply}
-use Rattle.fm_rule_facts.specs.Views.{View, given_of, limit_of}
-use Rattle.fm_rule_facts.specs.Scarcity.{IsScarce}
-use Rattle.fm_rule_facts.specs.Steps.{where_found, is_clear}
-use Rattle.fm_pages.specs.Maps.{Way}
-use Rattle.fm_pages.specs.Covers.{LendsIn, Lacks}
+use Rattle.fm_base.specs.{declared.arena_id.ArenaId.{ArenaId}, Calls.{Entry, Allocate, entry_of}, Machine.{rounded_up, allocate_reply}}
+use Rattle.fm_rule_facts.specs.{Views.{View, given_of, limit_of}, Scarcity.{IsScarce}, Steps.{where_found, is_clear}}
+use Rattle.fm_pages.specs.{Maps.{Way}, Covers.{LendsIn, Lacks}}
 
 abbrev pub allocates : View → ArenaId → (count size align found : ℕ) → List Entry
 allocates v a count size align found =

@@ -1,10 +1,7 @@
 -- What a pass does that maps its page.
 use Rattle.std.specs.Prelude.{◌≡◌, ℕ, List, [], ◌∷◌, Contains, Option, Some, None}
-use Rattle.fm_base.specs.declared.arena_id.ArenaId.{ArenaId}
-use Rattle.fm_base.specs.Calls.{Entry, Lend, Fine, entry_of}
-use Rattle.fm_rule_facts.specs.Loans.{loans_of, loan_of}
-use Rattle.fm_rule_facts.specs.Parts.{Mapping, mapping_of}
-use Rattle.fm_rule_facts.specs.Views.{View, In}
+use Rattle.fm_base.specs.{declared.arena_id.ArenaId.{ArenaId}, Calls.{Entry, Lend, Fine, entry_of}}
+use Rattle.fm_rule_facts.specs.{Loans.{loans_of, loan_of}, Parts.{Mapping, mapping_of}, Views.{View, In}}
 use Rattle.fm_rule_calls.specs.Kept.{Goes}
 use Rattle.fm_pages.specs.declared.page.Page.{Page}
 

@@ -1,10 +1,7 @@
 -- Where a word of an arena stands.
 use Rattle.std.specs.Prelude.{◌≡◌, ◌⊎◌, ◌*◌, ◌/◌, ◌<◌, ℕ, List, [], Contains, Some}
 use Rattle.fm_base.specs.declared.arena_id.ArenaId.{ArenaId}
-use Rattle.fm_rule_facts.specs.Loans.{HasPart, loans_of, loan_of}
-use Rattle.fm_rule_facts.specs.Parts.{Mapping}
-use Rattle.fm_rule_facts.specs.Views.{View, given_of}
-use Rattle.fm_rule_facts.specs.Steps.{Stepped, CanReach, HasPlace, none_noted}
+use Rattle.fm_rule_facts.specs.{Loans.{HasPart, loans_of, loan_of}, Parts.{Mapping}, Views.{View, given_of}, Steps.{Stepped, CanReach, HasPlace, none_noted}}
 
 -- the pass is inside an arena, where the word has a given byte, or its part is lent as the pass has seen
 pub record CanFind (v : View) (word : ℕ) : Type 0 where

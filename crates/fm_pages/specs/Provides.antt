@@ -1,15 +1,8 @@
 -- What a pass does that gives a part of its arena a page, where it has none.
 use Rattle.std.specs.Prelude.{◌≡◌, ◌⊎◌, ℕ, Bool, true, false, List, [], ◌∷◌, ◌++◌}
-use Rattle.fm_base.specs.declared.caller.Caller.{Caller}
-use Rattle.fm_base.specs.declared.arena_id.ArenaId.{ArenaId}
-use Rattle.fm_base.specs.Calls.{Entry, Lend, Fine, entry_of}
-use Rattle.fm_base.specs.Histories.{made_by}
-use Rattle.fm_rule_facts.specs.Loans.{HasPart, loans_of}
-use Rattle.fm_rule_facts.specs.Parts.{mapping_of}
-use Rattle.fm_rule_facts.specs.Steps.{is_clear}
-use Rattle.fm_rule_facts.specs.Views.{View, In, Begins, unlent}
-use Rattle.fm_pages.specs.Claims.{AllFoundEmpty}
-use Rattle.fm_pages.specs.Maps.{Way}
+use Rattle.fm_base.specs.{declared.{caller.Caller.{Caller}, arena_id.ArenaId.{ArenaId}}, Calls.{Entry, Lend, Fine, entry_of}, Histories.{made_by}}
+use Rattle.fm_rule_facts.specs.{Loans.{HasPart, loans_of}, Parts.{mapping_of}, Steps.{is_clear}, Views.{View, In, Begins, unlent}}
+use Rattle.fm_pages.specs.{Claims.{AllFoundEmpty}, Maps.{Way}}
 
 -- none, or the entry that lends a page to the arena as this part
 abbrev pub LendsPart : Caller → ArenaId → ℕ → List Entry → Type 0

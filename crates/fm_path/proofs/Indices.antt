@@ -1,12 +1,8 @@
 -- What the pass over indices keeps: each is checked, and then summed.
 use Rattle.std.proofs.Common.{◌≡◌, ℕ, ℤ, pos, negsuc, zero, suc, ◌+◌, ◌-◌, ◌*◌, ◌%◌, ◌^◌, ◌<◌, ◌≤◌, List, drop, sym, ap, subst, ◌∙◌, arith}
-use Rattle.std.specs.Int.{w64, cast_unsigned}
-use Rattle.std.proofs.Math.Nat.{add-mod-mod, add-mul-mod_self_left, add-mul}
+use Rattle.std.{specs.Int.{w64, cast_unsigned}, proofs.Math.Nat.{add-mod-mod, add-mul-mod_self_left, add-mul}}
 use Rattle.fm_base.specs.declared.refusal.Refusal.{Refusal}
-use Rattle.fm_path_meaning.specs.declared.dim.Dim.{Dim}
-use Rattle.fm_path_meaning.specs.Found.{IsFirstOut}
-use Rattle.fm_path_meaning.specs.Steady.{IsInside, IsSteady}
-use Rattle.fm_path_meaning.specs.Walk.{offset_at, reach, AreAdmitted}
+use Rattle.fm_path_meaning.specs.{declared.dim.Dim.{Dim}, Found.{IsFirstOut}, Steady.{IsInside, IsSteady}, Walk.{offset_at, reach, AreAdmitted}}
 
 -- the indices before k are admitted
 pub record IsChecked (k : ℕ) (ds : List Dim) (is : List ℕ) : Type 0 where

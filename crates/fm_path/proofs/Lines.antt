@@ -1,14 +1,8 @@
 -- The lines of a layout, written from the texts of their paths and dims.
-use Rattle.std.proofs.Common.{◌≡◌, refl, sym, ap, ℕ, ◌+◌, List, [], ◌∷◌, ◌++◌, ◌∙◌}
-use Rattle.std.proofs.lemmas.List.{append_assoc, append-nil}
-use Rattle.fm_layout.specs.Tree.{Tree, Trees, Value, Padding, Sequence, Struct, Union, NoMore, More}
-use Rattle.fm_layout.specs.Size.{size_of, member_offset}
-use Rattle.fm_path_text.specs.declared.step.PathStep.{PathStep}
-use Rattle.fm_path_text.specs.declared.step.PathStep.TheVariants.{Name, Each}
-use Rattle.fm_path_text.specs.Grammar.{path_text, pieces_of}
-use Rattle.fm_path_text.proofs.Reading.{pieces_snoc}
-use Rattle.fm_path.specs.Listing.{Line, step_to, lines, member_lines, dim_text, dims_text, lines_text}
-use Rattle.fm_path.specs.Listed.{shown, longer_dims, listed, listed_members}
+use Rattle.std.proofs.{Common.{◌≡◌, refl, sym, ap, ℕ, ◌+◌, List, [], ◌∷◌, ◌++◌, ◌∙◌}, lemmas.List.{append_assoc, append-nil}}
+use Rattle.fm_layout.specs.{Tree.{Tree, Trees, Value, Padding, Sequence, Struct, Union, NoMore, More}, Size.{size_of, member_offset}}
+use Rattle.fm_path_text.{specs.{declared.step.PathStep.{PathStep, TheVariants.{Name, Each}}, Grammar.{path_text, pieces_of}}, proofs.Reading.{pieces_snoc}}
+use Rattle.fm_path.specs.{Listing.{Line, step_to, lines, member_lines, dim_text, dims_text, lines_text}, Listed.{shown, longer_dims, listed, listed_members}}
 
 -- a path's text is its pieces, or a dot
 shown_path : (path : List PathStep) → path_text path ≡ shown (pieces_of path)

@@ -1,20 +1,11 @@
 -- The names of the members so far tell whether the next one is the first of its name.
 use Rattle.std.proofs.Common.{◌≡◌, refl, sym, ap, subst, ℕ, ◌+◌, ◌<◌, Bool, true, false, ◌||◌, not, if◌then◌else◌, Option, Some, None, List, arith, ◌∙◌, eq-eqb, Bor}
-use Rattle.std.specs.List.{list_any}
-use Rattle.std.specs.BTreeMap.{is_at}
-use Rattle.std.specs.BTreeSet.{IsEmpty, Updates}
-use Rattle.std.specs.Cmp.Lexicographic.{slice_cmp}
-use Rattle.std.specs.Ordering.{nat_cmp}
-use Rattle.std.proofs.lemmas.Bool.{ne_eqb}
-use Rattle.std.proofs.lemmas.Map.Text.{is_eq-slice_cmp}
-use Rattle.std.proofs.lemmas.Slice.Eq.{bytes_eq-Decides}
-use Rattle.fm_layout.specs.Tree.{Tree, name_of}
-use Rattle.fm_layout.specs.Parts.{member_of}
+use Rattle.std.specs.{List.{list_any}, BTreeMap.{is_at}, BTreeSet.{IsEmpty, Updates}, Cmp.Lexicographic.{slice_cmp}, Ordering.{nat_cmp}}
+use Rattle.std.proofs.lemmas.{Bool.{ne_eqb}, Map.Text.{is_eq-slice_cmp}, Slice.Eq.{bytes_eq-Decides}}
+use Rattle.fm_layout.specs.{Tree.{Tree, name_of}, Parts.{member_of}}
 use Rattle.fm_path_text.specs.declared.step.PathStep.TheVariants.{Name, Group}
-use Rattle.fm_path_meaning.specs.Follow.{members_of, is_name_of, index_in}
-use Rattle.fm_path_meaning.proofs.Members.{IsSeeking, seek_start, seek_more, seek_found}
-use Rattle.fm_path.specs.Listing.{is_index, step_named, step_to}
-use Rattle.fm_path.specs.Noted.{Names, has_name, is_new, Notes, step_by}
+use Rattle.fm_path_meaning.{specs.Follow.{members_of, is_name_of, index_in}, proofs.Members.{IsSeeking, seek_start, seek_more, seek_found}}
+use Rattle.fm_path.specs.{Listing.{is_index, step_named, step_to}, Noted.{Names, has_name, is_new, Notes, step_by}}
 
 -- whether a member before index i is the first of this name
 abbrev pub IsSought : Bool → List ℕ → ℕ → Tree → Type 0

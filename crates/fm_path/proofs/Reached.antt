@@ -1,28 +1,16 @@
 -- The steps to a value are those to which a line's path comes.
 use Rattle.std.proofs.Common.{◌≡◌, refl, sym, ap, subst, ℕ, zero, suc, ◌+◌, Some, Result, Ok, inl, List, [], ◌∷◌, ◌++◌, map, arith, ◌∙◌}
-use Rattle.std.proofs.lemmas.List.{append_assoc, append-nil}
-use Rattle.std.proofs.lemmas.Result.{IfOk-at_ok}
+use Rattle.std.proofs.lemmas.{List.{append_assoc, append-nil}, Result.{IfOk-at_ok}}
 use Rattle.fm_base.specs.declared.refusal.Refusal.{Refusal}
-use Rattle.fm_lanes.specs.declared.order.Order.{Order}
-use Rattle.fm_lanes.specs.declared.value_kind.ValueKind.{ValueKind}
-use Rattle.fm_layout.specs.Tree.{Label, Tree, Trees, Value, Sequence, Struct, Union, NoMore, More}
-use Rattle.fm_layout.specs.Size.{size_of, sum_before, member_offset}
+use Rattle.fm_lanes.specs.declared.{order.Order.{Order}, value_kind.ValueKind.{ValueKind}}
+use Rattle.fm_layout.specs.{Tree.{Label, Tree, Trees, Value, Sequence, Struct, Union, NoMore, More}, Size.{size_of, sum_before, member_offset}}
 use Rattle.fm_layout.specs.Parts.{form_of, tree_at, member_of, IsValue}
-use Rattle.fm_base_lists.specs.Among.{IsAmong}
-use Rattle.fm_base_lists.proofs.Among.{among_left, among_right}
-use Rattle.fm_path_text.specs.declared.step.PathStep.{PathStep}
-use Rattle.fm_path_text.specs.declared.step.PathStep.TheVariants.{Each}
+use Rattle.fm_base_lists.{specs.Among.{IsAmong}, proofs.Among.{among_left, among_right}}
+use Rattle.fm_path_text.specs.declared.step.PathStep.{PathStep, TheVariants.{Each}}
 use Rattle.fm_path_meaning.specs.Places.{Step, Element, Member, Place, places, IsAt}
-use Rattle.fm_path_meaning.specs.Follow.{Lead, Part, Open, lead, step_at, end_at, first, after, before, ◌>>=◌, follow_by}
-use Rattle.fm_path_meaning.specs.Walk.{AreAdmitted, offset_at}
-use Rattle.fm_path_meaning.proofs.Agreeing.{Agrees, agrees}
-use Rattle.fm_path_meaning.proofs.Fitting.{leads}
-use Rattle.fm_path_meaning.proofs.Listed.{stands}
-use Rattle.fm_path_meaning.proofs.Once.{at_once}
-use Rattle.fm_path.specs.Laws.{dim_of, Shows}
-use Rattle.fm_path.specs.Listing.{Line, step_to, lines, member_lines}
-use Rattle.fm_path.proofs.Stepping.{member_lead}
-use Rattle.fm_path.proofs.Walked.{line_walked}
+use Rattle.fm_path_meaning.specs.{Follow.{Lead, Part, Open, lead, step_at, end_at, first, after, before, ◌>>=◌, follow_by}, Walk.{AreAdmitted, offset_at}}
+use Rattle.fm_path_meaning.proofs.{Agreeing.{Agrees, agrees}, Fitting.{leads}, Listed.{stands}, Once.{at_once}}
+use Rattle.fm_path.{specs.{Laws.{dim_of, Shows}, Listing.{Line, step_to, lines, member_lines}}, proofs.{Stepping.{member_lead}, Walked.{line_walked}}}
 
 abbrev line : List PathStep → ℕ → List (ℕ × ℕ) → ValueKind → Order → Line
 line path at dims k o = record { path = path; offset = at; dims = dims; kind = k; order = o }

@@ -1,20 +1,12 @@
 -- What the pass over a path comes to is what a resolved path is.
-use Rattle.std.proofs.Common.{◌≡◌, ap, ◌∙◌, ℕ, ◌%◌, ◌^◌, ◌≤◌, List, arith}
-use Rattle.std.specs.Int.{IsPowerOfTwo}
+use Rattle.std.{proofs.Common.{◌≡◌, ap, ◌∙◌, ℕ, ◌%◌, ◌^◌, ◌≤◌, List, arith}, specs.Int.{IsPowerOfTwo}}
 use Rattle.fm_lanes.specs.Kind.{width_of}
-use Rattle.fm_layout.specs.Tree.{Tree, Value, alignment_of}
-use Rattle.fm_layout.specs.Size.{size_of}
-use Rattle.fm_layout.specs.WellFormed.{IsWellFormed}
-use Rattle.fm_layout.proofs.Powers.{is_power_of_two-IsPowerOfTwo}
+use Rattle.fm_layout.{specs.{Tree.{Tree, Value, alignment_of}, Size.{size_of}, WellFormed.{IsWellFormed}}, proofs.Powers.{is_power_of_two-IsPowerOfTwo}}
 use Rattle.fm_layout.proofs.Sound.{fit_of}
 use Rattle.fm_path_text.specs.declared.step.PathStep.{PathStep}
-use Rattle.fm_path_meaning.specs.declared.dim.Dim.{Dim}
-use Rattle.fm_path_meaning.specs.Found.{LeadsTo}
-use Rattle.fm_path_meaning.proofs.Dims.{leads_dims}
-use Rattle.fm_path_meaning.proofs.Walking.{leads_finds, leads_steady, leads_inside, leads_aligned, leads_end}
-use Rattle.fm_path.specs.declared.value_spec.ValueSpec.{ValueSpec}
-use Rattle.fm_path_meaning.specs.Walk.{offset_at}
-use Rattle.fm_path.specs.Resolution.{resolution, StaysInside, StandsAligned, IsSpecOf, IsResolved}
+use Rattle.fm_path_meaning.{specs.{declared.dim.Dim.{Dim}, Found.{LeadsTo}}, proofs.Dims.{leads_dims}}
+use Rattle.fm_path_meaning.{proofs.Walking.{leads_finds, leads_steady, leads_inside, leads_aligned, leads_end}, specs.Walk.{offset_at}}
+use Rattle.fm_path.specs.{declared.value_spec.ValueSpec.{ValueSpec}, Resolution.{resolution, StaysInside, StandsAligned, IsSpecOf, IsResolved}}
 
 -- a value layout is as large as its kind is wide, and this is its alignment
 spec_is : (u : Tree) (v : ValueSpec) → IsSpecOf u v → (width_of v.kind ≡ size_of u) × (v.alignment ≡ alignment_of u)

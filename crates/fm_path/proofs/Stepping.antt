@@ -1,12 +1,9 @@
 -- The step that a line takes to a member leads there.
-use Rattle.std.proofs.Common.{◌≡◌, refl, sym, ap, ℕ, Bool, true, false, if◌then◌else◌, Option, Some, None, Result, Ok, List, ◌∙◌}
-use Rattle.std.proofs.lemmas.Bool.{eqb-true}
+use Rattle.std.proofs.{Common.{◌≡◌, refl, sym, ap, ℕ, Bool, true, false, if◌then◌else◌, Option, Some, None, Result, Ok, List, ◌∙◌}, lemmas.Bool.{eqb-true}}
 use Rattle.fm_base.specs.declared.refusal.Refusal.{Refusal}
-use Rattle.fm_layout.specs.Tree.{Tree, Struct, Union, name_of}
-use Rattle.fm_layout.specs.Parts.{member_of}
+use Rattle.fm_layout.specs.{Tree.{Tree, Struct, Union, name_of}, Parts.{member_of}}
 use Rattle.fm_path_text.specs.declared.step.PathStep.TheVariants.{Name, Group}
-use Rattle.fm_path_meaning.specs.Places.{Member}
-use Rattle.fm_path_meaning.specs.Follow.{members_of, index_in, Lead, Part, lead_member, lead_found, in_group, lead}
+use Rattle.fm_path_meaning.specs.{Places.{Member}, Follow.{members_of, index_in, Lead, Part, lead_member, lead_found, in_group, lead}}
 use Rattle.fm_path.specs.Listing.{is_index, step_named, step_to}
 
 -- the index that the test finds

@@ -1,16 +1,12 @@
 -- The text of a group's values is that of its members, one after the other.
 use Rattle.std.proofs.Common.{◌≡◌, sym, ap, ℕ, zero, suc, ◌+◌, ◌*◌, ◌^◌, ◌<◌, ◌≤◌, Some, None, List, ◌++◌, length, arith, ◌∙◌}
 use Rattle.std.proofs.lemmas.List.{append_assoc, append-nil}
-use Rattle.fm_layout.specs.Tree.{Tree, Trees, Sequence, Struct, Union, NoMore, More}
-use Rattle.fm_layout.specs.Size.{member_offset}
-use Rattle.fm_layout.specs.Parts.{tree_at, member_of, element_of}
-use Rattle.fm_layout.specs.WellFormed.{IsWellFormed}
-use Rattle.fm_layout.specs.Depth.{depth, deepest}
+use Rattle.fm_layout.specs.{Tree.{Tree, Trees, Sequence, Struct, Union, NoMore, More}, Size.{member_offset}, Parts.{tree_at, member_of, element_of}}
+use Rattle.fm_layout.specs.{WellFormed.{IsWellFormed}, Depth.{depth, deepest}}
 use Rattle.fm_path_text.specs.Grammar.{piece_of}
 use Rattle.fm_path_meaning.specs.Follow.{members_of, count_in}
 use Rattle.fm_path_meaning.proofs.Members.{skip_none, members_from, from_more, from_past, none_past, offset_more, offset_fits, offset_none}
-use Rattle.fm_path.specs.Listing.{step_to}
-use Rattle.fm_path.specs.Listed.{listed, listed_members, extent_of}
+use Rattle.fm_path.specs.{Listing.{step_to}, Listed.{listed, listed_members, extent_of}}
 
 -- the text so far, and then that of the members left, is the whole
 pub record IsListing (before text path : List ℕ) (at : ℕ) (dims : List ℕ) (t : Tree) (i inner : ℕ) : Type 0 where

@@ -1,25 +1,15 @@
 -- The path of a line is walked to the value that the line shows.
 use Rattle.std.proofs.Common.{◌≡◌, refl, sym, ap, subst, ℕ, suc, ◌+◌, ◌-◌, ◌^◌, min, Some, Ok, inl, inr, List, [], ◌∷◌, ◌++◌, map, arith, ◌∙◌}
 use Rattle.std.proofs.lemmas.List.{append_assoc, append-nil}
-use Rattle.fm_layout.specs.Tree.{Label, Tree, Trees, Value, Padding, Sequence, Struct, Union, NoMore, More, alignment_of}
-use Rattle.fm_layout.specs.Size.{size_of, member_offset}
-use Rattle.fm_layout.specs.Parts.{tree_at, member_of}
-use Rattle.fm_layout.specs.WellFormed.{IsWellFormed}
-use Rattle.fm_base_lists.specs.Among.{IsAmong}
-use Rattle.fm_base_lists.proofs.Among.{among_either}
-use Rattle.fm_path_text.specs.declared.step.PathStep.{PathStep}
-use Rattle.fm_path_text.specs.declared.step.PathStep.TheVariants.{Each}
-use Rattle.fm_path_meaning.specs.Places.{Member}
-use Rattle.fm_path_meaning.specs.Follow.{Lead, Part, Open, lead, end_at, ◌>>=◌}
+use Rattle.fm_layout.specs.{Tree.{Label, Tree, Trees, Value, Padding, Sequence, Struct, Union, NoMore, More, alignment_of}, Size.{size_of, member_offset}}
+use Rattle.fm_layout.specs.{Parts.{tree_at, member_of}, WellFormed.{IsWellFormed}}
+use Rattle.fm_base_lists.{specs.Among.{IsAmong}, proofs.Among.{among_either}}
+use Rattle.fm_path_text.specs.declared.step.PathStep.{PathStep, TheVariants.{Each}}
+use Rattle.fm_path_meaning.specs.{Places.{Member}, Follow.{Lead, Part, Open, lead, end_at, ◌>>=◌}}
+use Rattle.fm_path_meaning.{specs.Walk.{by_of, move_by, move, with_dim, walk_on, moved, walk_by}, proofs.Listed.{same_index}}
 use Rattle.fm_path_meaning.specs.Walk as walk
-use Rattle.fm_path_meaning.specs.Walk.{by_of, move_by, move, with_dim, walk_on, moved, walk_by}
-use Rattle.fm_path_meaning.proofs.Listed.{same_index}
-use Rattle.fm_path.specs.declared.value_spec.ValueSpec.{ValueSpec}
-use Rattle.fm_path.specs.Laws.{dim_of, dims_of, IsOfPath}
-use Rattle.fm_path.specs.Listing.{Line, step_to, lines, member_lines}
-use Rattle.fm_path.specs.Resolution.{resolution}
-use Rattle.fm_path.proofs.Resolving.{is_resolved}
-use Rattle.fm_path.proofs.Stepping.{member_lead}
+use Rattle.fm_path.specs.{declared.value_spec.ValueSpec.{ValueSpec}, Laws.{dim_of, dims_of, IsOfPath}, Listing.{Line, step_to, lines, member_lines}}
+use Rattle.fm_path.{specs.Resolution.{resolution}, proofs.{Resolving.{is_resolved}, Stepping.{member_lead}}}
 
 -- a line below this layout goes on from the path, the offset and the dims that lead here, as the walk from here does
 record IsWalked (path : List PathStep) (at : ℕ) (dims : List (ℕ × ℕ)) (t : Tree) (l : Line) : Type 0 where

@@ -1,16 +1,10 @@
 -- Where the places of a layout lie, and what its lines are of them.
 use Rattle.std.specs.Prelude.{◌≡◌, ℕ, pos, ◌+◌, ◌-◌, ◌%◌, ◌^◌, ◌≤◌, min, Ok, List, [], map}
-use Rattle.fm_layout.specs.Tree.{Tree, alignment_of}
-use Rattle.fm_layout.specs.Size.{size_of}
-use Rattle.fm_layout.specs.Parts.{form_of, IsValue}
+use Rattle.fm_layout.specs.{Tree.{Tree, alignment_of}, Size.{size_of}, Parts.{form_of, IsValue}}
 use Rattle.fm_layout.specs.declared.form.Form.TheVariants as form
 use Rattle.fm_base_lists.specs.Among.{IsAmong}
-use Rattle.fm_path_meaning.specs.declared.dim.Dim.{Dim}
-use Rattle.fm_path_meaning.specs.Places.{Place, places, Apart}
-use Rattle.fm_path_meaning.specs.Follow.{follow}
-use Rattle.fm_path_meaning.specs.Walk.{AreAdmitted, offset_at}
-use Rattle.fm_path.specs.Listing.{Line, lines}
-use Rattle.fm_path.specs.Resolution.{Resolution, IsResolved}
+use Rattle.fm_path_meaning.specs.{declared.dim.Dim.{Dim}, Places.{Place, places, Apart}, Follow.{follow}, Walk.{AreAdmitted, offset_at}}
+use Rattle.fm_path.specs.{Listing.{Line, lines}, Resolution.{Resolution, IsResolved}}
 
 -- each place ends within the layout
 abbrev pub LieInside : Tree → Type 0

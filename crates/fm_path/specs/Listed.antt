@@ -1,9 +1,6 @@
 -- The text of a layout's values, from the texts of the path and the dims that lead to it.
-use Rattle.std.specs.declared.string.String.{String}
-use Rattle.std.specs.String.{string_bytes}
-use Rattle.std.specs.Prelude.{◌≡◌, ℕ, ◌+◌, List, [], ◌∷◌, ◌++◌, codes}
-use Rattle.fm_layout.specs.Tree.{Tree, Trees, Value, Padding, Sequence, Struct, Union, NoMore, More}
-use Rattle.fm_layout.specs.Size.{size_of, member_offset}
+use Rattle.std.specs.{declared.string.String.{String}, String.{string_bytes}, Prelude.{◌≡◌, ℕ, ◌+◌, List, [], ◌∷◌, ◌++◌, codes}}
+use Rattle.fm_layout.specs.{Tree.{Tree, Trees, Value, Padding, Sequence, Struct, Union, NoMore, More}, Size.{size_of, member_offset}}
 use Rattle.fm_path_text.specs.Grammar.{piece_of}
 use Rattle.fm_path.specs.Listing.{value_text, dim_text, step_to}
 

@@ -1,13 +1,8 @@
 -- The text that lists the values of a layout.
 use Rattle.std.specs.Prelude.{ℕ, ◌+◌, Bool, false, Option, Some, None, List, [], ◌∷◌, ◌++◌, codes, decimal, nat_eq, if◌then◌else◌}
-use Rattle.fm_lanes.specs.declared.order.Order.{Order}
-use Rattle.fm_lanes.specs.declared.value_kind.ValueKind.{ValueKind}
-use Rattle.fm_lanes.specs.Named.{kind_text, order_text}
-use Rattle.fm_layout.specs.Tree.{Tree, Trees, Value, Padding, Sequence, Struct, Union, NoMore, More, alignment_of, name_of}
-use Rattle.fm_layout.specs.Size.{size_of, member_offset}
-use Rattle.fm_path_text.specs.declared.step.PathStep.{PathStep}
-use Rattle.fm_path_text.specs.declared.step.PathStep.TheVariants.{Name, Group, Each}
-use Rattle.fm_path_text.specs.Grammar.{path_text}
+use Rattle.fm_lanes.specs.{declared.{order.Order.{Order}, value_kind.ValueKind.{ValueKind}}, Named.{kind_text, order_text}}
+use Rattle.fm_layout.specs.{Tree.{Tree, Trees, Value, Padding, Sequence, Struct, Union, NoMore, More, alignment_of, name_of}, Size.{size_of, member_offset}}
+use Rattle.fm_path_text.specs.{declared.step.PathStep.{PathStep, TheVariants.{Name, Group, Each}}, Grammar.{path_text}}
 use Rattle.fm_path_meaning.specs.Follow.{members_of, index_in}
 
 abbrev pub newline : List ℕ

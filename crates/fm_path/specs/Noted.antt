@@ -1,11 +1,7 @@
 -- The names of a group's members, noted one after the other.
-use Rattle.std.specs.Prelude.{◌≡◌, ℕ, Bool, false, ◌||◌, not, Option, Some, None, List, if◌then◌else◌}
-use Rattle.std.specs.BTreeSet.{BTreeSet, contains_by}
-use Rattle.std.specs.Cmp.Lexicographic.{slice_cmp}
-use Rattle.std.specs.Ordering.{nat_cmp}
-use Rattle.std.proofs.Common.{Bor}
-use Rattle.fm_path_text.specs.declared.step.PathStep.{PathStep}
-use Rattle.fm_path_text.specs.declared.step.PathStep.TheVariants.{Name, Group}
+use Rattle.std.specs.{Prelude.{◌≡◌, ℕ, Bool, false, ◌||◌, not, Option, Some, None, List, if◌then◌else◌}, BTreeSet.{BTreeSet, contains_by}}
+use Rattle.std.{specs.{Cmp.Lexicographic.{slice_cmp}, Ordering.{nat_cmp}}, proofs.Common.{Bor}}
+use Rattle.fm_path_text.specs.declared.step.PathStep.{PathStep, TheVariants.{Name, Group}}
 use Rattle.fm_path_meaning.specs.Follow.{is_name_of}
 
 abbrev pub Names : Type 0

@@ -1,17 +1,12 @@
 -- What a resolved path is seen as.
-use Rattle.std.specs.Prelude.{◌≡◌, ℕ, ◌+◌, ◌%◌, ◌^◌, ◌≤◌, true, List, Ok}
-use Rattle.std.specs.Int.{IsPowerOfTwo, is_power_of_two}
+use Rattle.std.specs.{Prelude.{◌≡◌, ℕ, ◌+◌, ◌%◌, ◌^◌, ◌≤◌, true, List, Ok}, Int.{IsPowerOfTwo, is_power_of_two}}
 use Rattle.fm_lanes.specs.Kind.{width_of}
-use Rattle.fm_layout.specs.Tree.{Tree, Value, alignment_of}
-use Rattle.fm_layout.specs.Size.{size_of}
-use Rattle.fm_path_meaning.specs.declared.dim.Dim.{Dim}
+use Rattle.fm_layout.specs.{Tree.{Tree, Value, alignment_of}, Size.{size_of}}
+use Rattle.fm_path_meaning.specs.{declared.dim.Dim.{Dim}, Found.{Finds, HasDims, LeadsTo, EndsElsewhere, IsRefused, end_of}, Steady.{IsSteady}}
+use Rattle.fm_path_meaning.specs.Walk.{AreAdmitted, offset_at}
 use Rattle.fm_path.specs.declared.value_spec.ValueSpec.{ValueSpec}
 use Rattle.fm_path_text.specs.declared.step.PathStep.{PathStep}
-use Rattle.fm_base.specs.declared.refusal.Refusal.{Refusal}
-use Rattle.fm_base.specs.declared.refusal.Refusal.TheVariants.{NotValue, Memory}
-use Rattle.fm_path_meaning.specs.Found.{Finds, HasDims, LeadsTo, EndsElsewhere, IsRefused, end_of}
-use Rattle.fm_path_meaning.specs.Steady.{IsSteady}
-use Rattle.fm_path_meaning.specs.Walk.{AreAdmitted, offset_at}
+use Rattle.fm_base.specs.declared.refusal.Refusal.{Refusal, TheVariants.{NotValue, Memory}}
 
 pub record Resolution : Type 0 where
   pub offset : ℕ

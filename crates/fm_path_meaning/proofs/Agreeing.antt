@@ -1,16 +1,12 @@
 -- The offset at admitted indices is that of the place that following the path finds.
-use Rattle.std.proofs.Common.{◌≡◌, refl, sym, ap, subst, ℕ, ℤ, pos, negsuc, ◌+◌, ◌≤◌, Result, Ok, Err, List, [], ◌∷◌, arith, ◌∙◌}
-use Rattle.std.specs.Result.{IfOk}
+use Rattle.std.{proofs.Common.{◌≡◌, refl, sym, ap, subst, ℕ, ℤ, pos, negsuc, ◌+◌, ◌≤◌, Result, Ok, Err, List, [], ◌∷◌, arith, ◌∙◌}, specs.Result.{IfOk}}
 use Rattle.fm_base.specs.declared.refusal.Refusal.{Refusal}
-use Rattle.fm_layout.specs.Tree.{Tree}
-use Rattle.fm_layout.specs.Size.{size_of}
+use Rattle.fm_layout.specs.{Tree.{Tree}, Size.{size_of}}
 use Rattle.fm_path_text.specs.declared.step.PathStep.{PathStep}
-use Rattle.fm_path_meaning.specs.declared.dim.Dim.{Dim}
-use Rattle.fm_path_meaning.specs.Places.{Step, Element, IsAt}
+use Rattle.fm_path_meaning.specs.{declared.dim.Dim.{Dim}, Places.{Step, Element, IsAt}}
 use Rattle.fm_path_meaning.specs.Follow.{Lead, Part, Open, element_at, step_at, end_at, first, after, before, ◌>>=◌, follow_by}
 use Rattle.fm_path_meaning.specs.Walk.{first_bytes, by_of, dim_from, dim_of, move_by, Walk, walk_on, moved, walk_by, reach, offset_at, AreAdmitted}
-use Rattle.fm_path_meaning.specs.Steady.{dip}
-use Rattle.fm_path_meaning.proofs.Fitting.{IsLead, lands}
+use Rattle.fm_path_meaning.{specs.Steady.{dip}, proofs.Fitting.{IsLead, lands}}
 
 -- no index leads back further than the offset so far
 abbrev pub StaysAbove : ℕ → List Dim → List ℕ → Type 0

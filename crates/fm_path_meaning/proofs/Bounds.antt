@@ -1,9 +1,7 @@
 -- Strides of sequences that stay within the limit.
-use Rattle.std.proofs.Common.{◌≡◌, ℕ, ℤ, pos, negsuc, zero, suc, ◌-◌, ◌*◌, ◌/◌, ◌^◌, ◌<◌, ◌≤◌, ◌≢◌, refl, arith}
-use Rattle.std.proofs.Math.Nat.{mul-le-mul_right}
+use Rattle.std.proofs.{Common.{◌≡◌, ℕ, ℤ, pos, negsuc, zero, suc, ◌-◌, ◌*◌, ◌/◌, ◌^◌, ◌<◌, ◌≤◌, ◌≢◌, refl, arith}, Math.Nat.{mul-le-mul_right}}
 use Rattle.std.proofs.lemmas.Nat.{div-add-mod'}
-use Rattle.fm_path_meaning.specs.Steady.{IsShort}
-use Rattle.fm_path_meaning.specs.Walk.{bound_of}
+use Rattle.fm_path_meaning.specs.{Steady.{IsShort}, Walk.{bound_of}}
 
 -- a quotient above 0 has a divisor of at most the number
 positive_quotient : (n m : ℕ) → 0 < n / m → m ≤ n

@@ -1,18 +1,10 @@
 -- Each open step has its dim, and its bound is the number of the indices that are admitted.
 use Rattle.std.proofs.Common.{◌≡◌, refl, sym, subst, ℕ, pos, negsuc, zero, suc, ◌+◌, ◌-◌, ◌*◌, ◌/◌, ◌≤◌, Ok, List, ◌∷◌, inl, inr, arith, ◌∙◌}
-use Rattle.std.proofs.lemmas.Bool.{cases_lt}
-use Rattle.std.proofs.lemmas.Nat.{div-add-mod'}
-use Rattle.std.proofs.lemmas.Result.{IfOk-at_ok}
-use Rattle.std.proofs.Math.Nat.{mul-le-mul_right}
-use Rattle.fm_layout.specs.Tree.{Tree}
-use Rattle.fm_layout.specs.Size.{size_of}
-use Rattle.fm_path_text.specs.declared.step.PathStep.{PathStep}
-use Rattle.fm_path_text.specs.declared.step.PathStep.TheVariants.{Each, EachFrom}
-use Rattle.fm_path_meaning.specs.declared.dim.Dim.{Dim}
-use Rattle.fm_path_meaning.specs.Follow.{Lead, Part, Open, lead, end_at}
-use Rattle.fm_path_meaning.specs.Walk.{dim_from, dim_of, Walk, with_dim}
-use Rattle.fm_path_meaning.specs.Found.{IsDimOf, HasDims, no_step, closed_step, open_step, LeadsTo}
-use Rattle.fm_path_meaning.proofs.Agreeing.{each_walk}
+use Rattle.std.proofs.{lemmas.{Bool.{cases_lt}, Nat.{div-add-mod'}, Result.{IfOk-at_ok}}, Math.Nat.{mul-le-mul_right}}
+use Rattle.fm_layout.specs.{Tree.{Tree}, Size.{size_of}}
+use Rattle.fm_path_text.specs.declared.step.PathStep.{PathStep, TheVariants.{Each, EachFrom}}
+use Rattle.fm_path_meaning.specs.{declared.dim.Dim.{Dim}, Follow.{Lead, Part, Open, lead, end_at}, Walk.{dim_from, dim_of, Walk, with_dim}}
+use Rattle.fm_path_meaning.{specs.Found.{IsDimOf, HasDims, no_step, closed_step, open_step, LeadsTo}, proofs.Agreeing.{each_walk}}
 use Rattle.fm_path_meaning.proofs.Fitting.{Begins, IsLead, leads, closed_same, ups, downs}
 
 -- a quotient is at least each number whose multiple fits

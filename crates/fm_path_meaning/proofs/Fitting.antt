@@ -1,21 +1,12 @@
 -- Where a step leads there is a part, at each index, and its move says where.
 use Rattle.std.proofs.Common.{◌≡◌, ◌≢◌, refl, sym, ap, subst, ℕ, ℤ, pos, negsuc, zero, suc, ◌+◌, ◌-◌, ◌*◌, ◌/◌, ◌<◌, ◌≤◌, nat_lt, nat_eq, Option, Some, None, Result, Ok, Err, arith, ◌∙◌}
-use Rattle.std.specs.Result.{IfOk}
-use Rattle.std.proofs.lemmas.Bool.{cond_both, ltb-true}
-use Rattle.std.proofs.lemmas.Bool.Decides.{nat_tests}
-use Rattle.std.proofs.Math.Nat.{mul-le-mul_right}
-use Rattle.std.proofs.lemmas.Nat.{div-add-mod'}
-use Rattle.fm_base.specs.declared.refusal.Refusal.{Refusal}
-use Rattle.fm_base.specs.declared.refusal.Refusal.TheVariants.{IndexOut}
-use Rattle.fm_layout.specs.Tree.{Tree, Trees, Sequence}
-use Rattle.fm_layout.specs.Size.{size_of}
-use Rattle.fm_layout.specs.Parts.{member_of}
-use Rattle.fm_path_text.specs.declared.step.PathStep.{PathStep}
-use Rattle.fm_path_text.specs.declared.step.PathStep.TheVariants.{Name, Group, At, Each, EachFrom}
+use Rattle.std.{specs.Result.{IfOk}, proofs.{lemmas.{Bool.{cond_both, ltb-true, Decides.{nat_tests}}, Nat.{div-add-mod'}}, Math.Nat.{mul-le-mul_right}}}
+use Rattle.fm_base.specs.declared.refusal.Refusal.{Refusal, TheVariants.{IndexOut}}
+use Rattle.fm_layout.specs.{Tree.{Tree, Trees, Sequence}, Size.{size_of}, Parts.{member_of}}
+use Rattle.fm_path_text.specs.declared.step.PathStep.{PathStep, TheVariants.{Name, Group, At, Each, EachFrom}}
 use Rattle.fm_path_meaning.specs.Places.{Element, IsPart}
 use Rattle.fm_path_meaning.specs.Follow.{members_of, row_of, index_in, Lead, Part, Open, lead_member, lead_found, in_group, row_or, lead_at, lead_from, lead, lead_closed, element_at, ◌>>=◌}
-use Rattle.fm_path_meaning.specs.Steady.{dip}
-use Rattle.fm_path_meaning.specs.Walk.{bound_of, below, stride_of, first_bytes, by_of, dim_from, reach}
+use Rattle.fm_path_meaning.specs.{Steady.{dip}, Walk.{bound_of, below, stride_of, first_bytes, by_of, dim_from, reach}}
 
 -- a step that leaves no index open
 abbrev pub IsClosed : PathStep → Type 0

@@ -1,15 +1,10 @@
 -- Places lie inside, stand aligned, and share no byte but in a union.
 use Rattle.std.proofs.Common.{◌≡◌, ◌≢◌, refl, sym, ap, subst, ℕ, ◌+◌, ◌*◌, ◌-◌, ◌%◌, ◌/◌, ◌^◌, ◌<◌, ◌≤◌, inl, inr, zero, suc, Some, List, [], ◌∷◌, arith, ◌∙◌}
-use Rattle.std.proofs.lemmas.Bool.{cases_lt, cases_order}
-use Rattle.std.proofs.lemmas.Nat.{pow-add, mod-mul-add, div-add-mod'}
-use Rattle.std.proofs.Math.Nat.{mul-le-mul_right}
-use Rattle.std.proofs.Math.Pow.{pow-lt}
-use Rattle.fm_layout.specs.Tree.{Tree, Trees, Value, Sequence, Struct, Union, NoMore, More, alignment_of}
-use Rattle.fm_layout.specs.Size.{size_of, greatest_of, greatest_alignment, sum_before}
-use Rattle.fm_layout.specs.WellFormed.{IsWellFormed, AreLaidOut, AreWellFormed}
+use Rattle.std.proofs.{lemmas.{Bool.{cases_lt, cases_order}, Nat.{pow-add, mod-mul-add, div-add-mod'}}, Math.{Nat.{mul-le-mul_right}, Pow.{pow-lt}}}
 use Rattle.std.specs.Int.{IsPowerOfTwo}
-use Rattle.fm_layout.specs.Parts.{tree_at, IsValue}
-use Rattle.fm_layout.proofs.Sound.{fit_of, positive_alignment}
+use Rattle.fm_layout.specs.Tree.{Tree, Trees, Value, Sequence, Struct, Union, NoMore, More, alignment_of}
+use Rattle.fm_layout.specs.{Size.{size_of, greatest_of, greatest_alignment, sum_before}, WellFormed.{IsWellFormed, AreLaidOut, AreWellFormed}}
+use Rattle.fm_layout.{specs.Parts.{tree_at, IsValue}, proofs.Sound.{fit_of, positive_alignment}}
 use Rattle.fm_path_meaning.proofs.Members.{before_more, before_apart}
 use Rattle.fm_path_meaning.specs.Places.{Step, Element, Member, IsPart, IsAt, IsUnion, Apart, One, In_union, First, Second}
 

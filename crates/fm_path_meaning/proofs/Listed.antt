@@ -1,11 +1,8 @@
 -- The list of places holds exactly what stands at steps.
-use Rattle.std.proofs.Common.{◌≡◌, refl, sym, ap, subst, ℕ, ◌+◌, ◌*◌, ◌<◌, inl, inr, zero, suc, Some, List, [], ◌∷◌, map, arith, ◌∙◌}
-use Rattle.std.proofs.lemmas.Bool.{cases_lt}
-use Rattle.fm_layout.specs.Tree.{Tree, Trees, Value, Padding, Sequence, Struct, Union, NoMore, More}
-use Rattle.fm_layout.specs.Parts.{tree_at, member_of}
+use Rattle.std.proofs.{Common.{◌≡◌, refl, sym, ap, subst, ℕ, ◌+◌, ◌*◌, ◌<◌, inl, inr, zero, suc, Some, List, [], ◌∷◌, map, arith, ◌∙◌}, lemmas.Bool.{cases_lt}}
+use Rattle.fm_layout.specs.{Tree.{Tree, Trees, Value, Padding, Sequence, Struct, Union, NoMore, More}, Parts.{tree_at, member_of}}
 use Rattle.fm_layout.specs.Size.{size_of, member_offset}
-use Rattle.fm_base_lists.specs.Among.{IsAmong}
-use Rattle.fm_base_lists.proofs.Among.{among_left, among_right, among_either, among_map, among_back}
+use Rattle.fm_base_lists.{specs.Among.{IsAmong}, proofs.Among.{among_left, among_right, among_either, among_map, among_back}}
 use Rattle.fm_path_meaning.specs.Places.{Step, Element, Member, Place, here, within, in_elements, places, in_members, IsAt}
 
 -- a place in an element is among those of the elements

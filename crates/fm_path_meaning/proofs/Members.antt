@@ -1,11 +1,8 @@
 -- Where members stand, summed one by one, and the first of a name, sought one by one.
 use Rattle.std.proofs.Common.{◌≡◌, refl, sym, ap, ℕ, zero, suc, ◌+◌, ◌<◌, ◌≤◌, Bool, true, false, if◌then◌else◌, Some, None, List, arith, ◌∙◌}
-use Rattle.fm_layout.specs.Tree.{Tree, Trees, Struct, Union, NoMore, More, name_of}
-use Rattle.fm_layout.specs.Size.{size_of, sum_of}
-use Rattle.fm_layout.specs.Parts.{tree_at, count_of, member_of}
-use Rattle.fm_layout.specs.WellFormed.{IsWellFormed, limit}
+use Rattle.fm_layout.specs.{Tree.{Tree, Trees, Struct, Union, NoMore, More, name_of}, Size.{size_of, sum_of, sum_before, member_offset}}
+use Rattle.fm_layout.specs.{Parts.{tree_at, count_of, member_of}, WellFormed.{IsWellFormed, limit}}
 use Rattle.fm_path_meaning.specs.Follow.{IsStruct, members_of, is_name_of, index_named, index_in, count_in}
-use Rattle.fm_layout.specs.Size.{sum_before, member_offset}
 
 -- one more member lies before the next one
 pub before_more : (n : ℕ) (ms : Trees) (u : Tree) → tree_at n ms ≡ Some u

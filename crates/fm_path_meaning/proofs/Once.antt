@@ -2,9 +2,7 @@
 use Rattle.std.proofs.Common.{◌≡◌, sym, subst, ℕ, List, [], ◌∷◌, arith, ◌∙◌}
 use Rattle.fm_layout.specs.Tree.{Tree}
 use Rattle.fm_base_lists.specs.Among.{IsAmong}
-use Rattle.fm_path_meaning.specs.Places.{Step, Place, places, IsAt}
-use Rattle.fm_path_meaning.proofs.Inside.{part_once}
-use Rattle.fm_path_meaning.proofs.Listed.{at_steps, stands}
+use Rattle.fm_path_meaning.{specs.Places.{Step, Place, places, IsAt}, proofs.{Inside.{part_once}, Listed.{at_steps, stands}}}
 
 -- Steps lead to one layout.
 pub at_once : (ss : List Step) (t : Tree) (a b : ℕ) (u v : Tree) → IsAt ss t a u → IsAt ss t b v → (a ≡ b) × (u ≡ v)

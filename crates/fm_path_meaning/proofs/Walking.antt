@@ -1,25 +1,14 @@
 -- The pass over a path, step by step, and what it comes to.
 use Rattle.std.proofs.Common.{◌≡◌, refl, sym, ap, subst, ℕ, ℤ, pos, negsuc, ◌+◌, ◌-◌, ◌%◌, ◌^◌, ◌<◌, ◌≤◌, min, Option, Some, None, Result, Ok, Err, List, [], ◌∷◌, ◌++◌, length, drop, get_or, arith, ◌∙◌}
-use Rattle.std.proofs.lemmas.List.{append_assoc, append-nil, drop_more, drop_all}
-use Rattle.std.specs.Result.{IfOk}
-use Rattle.std.proofs.lemmas.Result.{IfOk-at_ok}
+use Rattle.std.{proofs.lemmas.{List.{append_assoc, append-nil, drop_more, drop_all}, Result.{IfOk-at_ok}}, specs.{Result.{IfOk}, Int.{IsPowerOfTwo}}}
 use Rattle.fm_base.specs.declared.refusal.Refusal.{Refusal}
-use Rattle.std.specs.Int.{IsPowerOfTwo}
-use Rattle.fm_layout.specs.Tree.{Tree, alignment_of}
-use Rattle.fm_layout.specs.Size.{size_of}
-use Rattle.fm_layout.specs.WellFormed.{IsWellFormed}
-use Rattle.fm_layout.proofs.Sound.{fit_of}
-use Rattle.fm_path_text.specs.declared.step.PathStep.{PathStep}
-use Rattle.fm_path_text.specs.declared.step.PathStep.TheVariants.{Each, EachFrom}
-use Rattle.fm_path_meaning.specs.declared.dim.Dim.{Dim}
-use Rattle.fm_path_meaning.specs.Follow.{Lead, Part, Open, lead, lead_closed, end_at, ◌>>=◌, follow_closed}
-use Rattle.fm_path_meaning.specs.Found.{LeadsTo, Finds, FindsClosed, end_from, end_of, IsRefused}
-use Rattle.fm_path_meaning.specs.Steady.{IsSteady}
+use Rattle.fm_layout.{specs.{Tree.{Tree, alignment_of}, Size.{size_of}, WellFormed.{IsWellFormed}}, proofs.Sound.{fit_of}}
+use Rattle.fm_path_text.specs.declared.step.PathStep.{PathStep, TheVariants.{Each, EachFrom}}
+use Rattle.fm_path_meaning.specs.{declared.dim.Dim.{Dim}, Follow.{Lead, Part, Open, lead, lead_closed, end_at, ◌>>=◌, follow_closed}}
+use Rattle.fm_path_meaning.specs.{Found.{LeadsTo, Finds, FindsClosed, end_from, end_of, IsRefused}, Steady.{IsSteady}}
 use Rattle.fm_path_meaning.specs.Walk.{Move, Moved, dim_of, move_by, move, move_closed, Walk, with_dim, moved, walk_by, walk, walk_closed, reach, offset_at, AreAdmitted}
-use Rattle.fm_path_meaning.proofs.Agreeing.{each_walk, Meets, StaysAbove, Agrees, agrees, refuses}
-use Rattle.fm_path_meaning.proofs.Fitting.{IsClosed, IsLead, leads, leads_closed}
-use Rattle.fm_path_meaning.proofs.Inside.{inside, place_aligned, place_fits_root}
-use Rattle.fm_path_meaning.proofs.Listed.{listed}
+use Rattle.fm_path_meaning.proofs.{Agreeing.{each_walk, Meets, StaysAbove, Agrees, agrees, refuses}, Fitting.{IsClosed, IsLead, leads, leads_closed}}
+use Rattle.fm_path_meaning.proofs.{Inside.{inside, place_aligned, place_fits_root}, Listed.{listed}}
 
 -- a walk behind an offset and dims
 abbrev pub onto : ℕ → List Dim → Result Walk Refusal → Result Walk Refusal

@@ -1,12 +1,9 @@
 -- Following a path, with an index for each step that is left open.
 use Rattle.std.specs.Prelude.{ℕ, ℤ, pos, negsuc, ◌+◌, ◌-◌, ◌*◌, ◌<◌, ◌≤◌, Bool, false, Option, Some, None, Result, Ok, Err, List, [], ◌∷◌, nat_lt, bytes_eq, if◌then◌else◌}
 use Rattle.std.proofs.Common.{zero, suc}
-use Rattle.fm_base.specs.declared.refusal.Refusal.{Refusal}
-use Rattle.fm_base.specs.declared.refusal.Refusal.TheVariants.{NotGroup, NoMember, NotSequence, IndexOut, StillOpen, BadStep}
-use Rattle.fm_path_text.specs.declared.step.PathStep.{PathStep}
-use Rattle.fm_path_text.specs.declared.step.PathStep.TheVariants.{Name, Group, At, Each, EachFrom}
-use Rattle.fm_layout.specs.Tree.{Tree, Trees, Sequence, Struct, Union, NoMore, More, name_of}
-use Rattle.fm_layout.specs.Parts.{member_of, count_of}
+use Rattle.fm_base.specs.declared.refusal.Refusal.{Refusal, TheVariants.{NotGroup, NoMember, NotSequence, IndexOut, StillOpen, BadStep}}
+use Rattle.fm_path_text.specs.declared.step.PathStep.{PathStep, TheVariants.{Name, Group, At, Each, EachFrom}}
+use Rattle.fm_layout.specs.{Tree.{Tree, Trees, Sequence, Struct, Union, NoMore, More, name_of}, Parts.{member_of, count_of}}
 use Rattle.fm_path_meaning.specs.Places.{Step, Element, Member}
 
 -- the members of a struct or union

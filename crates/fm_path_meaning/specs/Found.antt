@@ -1,17 +1,11 @@
 -- What following a path finds: the place, the bytes it touches, or why the path is refused.
 use Rattle.std.specs.Prelude.{◌≡◌, ℕ, ◌+◌, ◌-◌, ◌^◌, ◌<◌, ◌≤◌, ◌⊎◌, min, pos, Some, Result, Ok, Err, List, [], ◌∷◌}
-use Rattle.fm_base.specs.declared.refusal.Refusal.{Refusal}
-use Rattle.fm_base.specs.declared.refusal.Refusal.TheVariants.{IndexOut}
-use Rattle.fm_layout.specs.Tree.{Tree}
-use Rattle.fm_layout.specs.Size.{size_of}
-use Rattle.fm_path_text.specs.declared.step.PathStep.{PathStep}
-use Rattle.fm_path_text.specs.declared.step.PathStep.TheVariants.{Each, EachFrom}
-use Rattle.fm_path_meaning.specs.declared.dim.Dim.{Dim}
-use Rattle.fm_base_lists.specs.Among.{IsAmong}
-use Rattle.fm_path_meaning.specs.Places.{Step, places}
-use Rattle.fm_layout.specs.Parts.{IsValue}
-use Rattle.fm_path_meaning.specs.Walk.{stride_of, walk}
+use Rattle.fm_base.specs.declared.refusal.Refusal.{Refusal, TheVariants.{IndexOut}}
+use Rattle.fm_layout.specs.{Tree.{Tree}, Size.{size_of}, Parts.{IsValue}}
+use Rattle.fm_path_text.specs.declared.step.PathStep.{PathStep, TheVariants.{Each, EachFrom}}
+use Rattle.fm_path_meaning.specs.{declared.dim.Dim.{Dim}, Places.{Step, places}, Walk.{stride_of, walk}}
 use Rattle.fm_path_meaning.specs.Follow.{row_of, IsAdmitted, Lead, lead, lead_closed, end_at, ◌>>=◌, follow, follow_closed}
+use Rattle.fm_base_lists.specs.Among.{IsAmong}
 
 -- these steps lead to the place of this offset and layout
 abbrev pub IsPlace : List Step → ℕ → Tree → Tree → Type 0

@@ -1,9 +1,6 @@
 -- The places of a layout, and the relation that a place stands at steps.
-use Rattle.std.specs.Prelude.{◌≡◌, ℕ, ◌+◌, ◌*◌, ◌≤◌, ◌<◌, ◌⊎◌, ◌≢◌, Some, List, [], ◌∷◌, ◌++◌, map}
-use Rattle.std.proofs.Common.{zero, suc}
-use Rattle.fm_layout.specs.Tree.{Tree, Trees, Value, Padding, Sequence, Struct, Union, NoMore, More}
-use Rattle.fm_layout.specs.Parts.{member_of}
-use Rattle.fm_layout.specs.Size.{size_of, member_offset}
+use Rattle.std.{specs.Prelude.{◌≡◌, ℕ, ◌+◌, ◌*◌, ◌≤◌, ◌<◌, ◌⊎◌, ◌≢◌, Some, List, [], ◌∷◌, ◌++◌, map}, proofs.Common.{zero, suc}}
+use Rattle.fm_layout.specs.{Tree.{Tree, Trees, Value, Padding, Sequence, Struct, Union, NoMore, More}, Parts.{member_of}, Size.{size_of, member_offset}}
 
 -- one step into a layout
 pub data Step : Type 0 where

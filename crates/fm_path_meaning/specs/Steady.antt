@@ -1,11 +1,7 @@
 -- Offsets that stay within 64 bits, index by index.
-use Rattle.std.specs.Prelude.{◌≢◌, ℕ, ℤ, pos, negsuc, ◌*◌, ◌^◌, ◌<◌, ◌≤◌, List, [], ◌∷◌}
-use Rattle.std.proofs.Common.{suc}
-use Rattle.fm_layout.specs.Tree.{Tree}
-use Rattle.fm_layout.specs.Size.{size_of}
-use Rattle.fm_layout.specs.WellFormed.{IsWellFormed}
-use Rattle.fm_path_meaning.specs.declared.dim.Dim.{Dim}
-use Rattle.fm_path_meaning.specs.Walk.{reach}
+use Rattle.std.{specs.Prelude.{◌≢◌, ℕ, ℤ, pos, negsuc, ◌*◌, ◌^◌, ◌<◌, ◌≤◌, List, [], ◌∷◌}, proofs.Common.{suc}}
+use Rattle.fm_layout.specs.{Tree.{Tree}, Size.{size_of}, WellFormed.{IsWellFormed}}
+use Rattle.fm_path_meaning.specs.{declared.dim.Dim.{Dim}, Walk.{reach}}
 
 -- how far back an index leads
 abbrev pub dip : ℤ → ℕ → ℕ

@@ -2,13 +2,9 @@
 use Rattle.std.specs.Prelude.{ℕ, ℤ, pos, negsuc, ◌+◌, ◌-◌, ◌*◌, ◌/◌, ◌<◌, Option, Some, None, Result, Ok, List, [], ◌∷◌, nat_eq, if◌then◌else◌}
 use Rattle.std.proofs.Common.{zero, suc}
 use Rattle.fm_base.specs.declared.refusal.Refusal.{Refusal}
-use Rattle.fm_path_text.specs.declared.step.PathStep.{PathStep}
-use Rattle.fm_layout.specs.Tree.{Tree}
-use Rattle.fm_layout.specs.Size.{size_of, member_offset}
-use Rattle.fm_path_text.specs.declared.step.PathStep.TheVariants.{EachFrom}
-use Rattle.fm_path_meaning.specs.declared.dim.Dim.{Dim}
-use Rattle.fm_path_meaning.specs.Follow.{Lead, Part, Open, lead, lead_closed, end_at, ◌>>=◌}
-use Rattle.fm_path_meaning.specs.Places.{Element, Member}
+use Rattle.fm_path_text.specs.declared.step.PathStep.{PathStep, TheVariants.{EachFrom}}
+use Rattle.fm_layout.specs.{Tree.{Tree}, Size.{size_of, member_offset}}
+use Rattle.fm_path_meaning.specs.{declared.dim.Dim.{Dim}, Follow.{Lead, Part, Open, lead, lead_closed, end_at, ◌>>=◌}, Places.{Element, Member}}
 
 -- how many indices i from 0 have 0 ≤ F + i*S < count, where F is below the count and S isn't 0
 abbrev pub bound_of : ℕ → ℤ → ℕ → ℕ

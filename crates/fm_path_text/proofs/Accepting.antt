@@ -1,23 +1,16 @@
 -- The machine reads each text of a path.
 use Rattle.std.proofs.Common.{◌≡◌, refl, sym, ap, subst, ℕ, ◌+◌, ◌-◌, ◌*◌, ◌<◌, ◌≤◌, suc, Bool, true, false, ◌||◌, if◌then◌else◌, Some, List, [], ◌∷◌, ◌++◌, length, arith, ◌∙◌}
-use Rattle.std.specs.Prelude.{IsTrue, decimal, pos, negsuc}
-use Rattle.std.specs.List.{AllByRecursion}
-use Rattle.std.proofs.lemmas.Bool.{lt-ltb, ne_eqb}
-use Rattle.std.proofs.lemmas.Bool.Decides.{nat_tests}
+use Rattle.std.{specs.{Prelude.{IsTrue, decimal, pos, negsuc}, List.{AllByRecursion}}, proofs.lemmas.Bool.{lt-ltb, ne_eqb, Decides.{nat_tests}}}
 use Rattle.std.proofs.lemmas.List.{append_assoc, append-nil, length-append}
-use Rattle.fm_path_text.specs.declared.step.PathStep.{PathStep}
-use Rattle.fm_path_text.specs.declared.step.PathStep.TheVariants.{Name, Group, At, Each, EachFrom}
-use Rattle.fm_layout.specs.Name.{is_letter, is_digit, IsNameEnd}
+use Rattle.fm_path_text.specs.declared.step.PathStep.{PathStep, TheVariants.{Name, Group, At, Each, EachFrom}}
 use Rattle.fm_path_text.specs.Grammar.{piece_of, pieces_of, path_text, most_number, HasPiece, IsPath, Begins}
 use Rattle.fm_path_text.specs.Reader.{sign_of, longer_number, counts, spells, next, Spot, spot, moved, reads, onward, run, start, whole, whole_at}
-use Rattle.fm_path_text.specs.declared.part.Part.{Part}
-use Rattle.fm_path_text.specs.declared.part.Part.TheVariants.{Between, Dot, Word, Hash, Number, Open, Index, Colon, Minus, Up, Down}
-use Rattle.fm_path_text.specs.declared.sign.Sign.TheVariants as sign
-use Rattle.fm_path_text.specs.declared.part.Move.TheVariants.{Dead, Stay}
-use Rattle.fm_path_text.proofs.Language.{IsReader}
-use Rattle.fm_path_text.proofs.Moves.{digit_is}
+use Rattle.fm_path_text.specs.declared.part.Part.{Part, TheVariants.{Between, Dot, Word, Hash, Number, Open, Index, Colon, Minus, Up, Down}}
+use Rattle.fm_path_text.{specs.declared.part.Move.TheVariants.{Dead, Stay}, proofs.{Language.{IsReader}, Moves.{digit_is}}}
 use Rattle.fm_path_text.proofs.Machine.{run_append, run_positive, run_number, Accepts}
 use Rattle.fm_path_text.proofs.Reading.{there_read, can_end, is_whole, IsSettled, By_end, By_word, By_number, dot_next, open_next, digit_sign}
+use Rattle.fm_layout.specs.Name.{is_letter, is_digit, IsNameEnd}
+use Rattle.fm_path_text.specs.declared.sign.Sign.TheVariants as sign
 
 -- the sign of a letter is the letter
 letter_sign : (c : ℕ) → IsTrue (is_letter c) → sign_of c ≡ sign.Letter c

@@ -1,11 +1,8 @@
 -- A text leaves a language at one place, one of its texts nowhere; and where a machine that reads the language stops, the text leaves it.
 use Rattle.std.proofs.Common.{◌≡◌, ◌≢◌, refl, sym, ap, subst, ℕ, ◌+◌, ◌<◌, ◌≤◌, Option, Some, None, List, ◌++◌, length, take, drop, arith, ◌∙◌}
 use Rattle.std.proofs.lemmas.List.{append_assoc, take-append-drop, take_all, take-take}
-use Rattle.fm_base.specs.declared.refusal.Refusal.{Refusal}
-use Rattle.fm_base.specs.declared.refusal.Refusal.TheVariants.{BadQuery, Memory}
-use Rattle.fm_path_text.specs.Language.{Begins, BeginsUpTo, IsNoText}
-use Rattle.fm_path_text.specs.Machine.{run}
-use Rattle.fm_path_text.proofs.Machine.{run_append, run_none, Accepts}
+use Rattle.fm_base.specs.declared.refusal.Refusal.{Refusal, TheVariants.{BadQuery, Memory}}
+use Rattle.fm_path_text.{specs.{Language.{Begins, BeginsUpTo, IsNoText}, Machine.{run}}, proofs.Machine.{run_append, run_none, Accepts}}
 
 module _ {A : Type 0} (Is : A → Type 0) (write : A → List ℕ) where
   -- A text begins what a longer one begins.

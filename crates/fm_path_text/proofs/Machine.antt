@@ -1,9 +1,6 @@
 -- What a machine over bytes does with a text, and what that says of the texts which it reads to their ends.
 use Rattle.std.proofs.Common.{◌≡◌, refl, sym, ap, subst, ℕ, zero, suc, ◌+◌, ◌*◌, ◌/◌, ◌%◌, ◌^◌, ◌<◌, ◌≤◌, Option, Some, None, List, [], ◌∷◌, ◌++◌, length, take, get_or, arith, ◌∙◌}
-use Rattle.std.specs.Prelude.{decimal}
-use Rattle.std.specs.Option.{IfSome}
-use Rattle.std.proofs.lemmas.List.{append_assoc, append-nil, take_more}
-use Rattle.std.proofs.lemmas.Fmt.{decimal_by_steps, decimal_digit}
+use Rattle.std.{specs.{Prelude.{decimal}, Option.{IfSome}}, proofs.lemmas.{List.{append_assoc, append-nil, take_more}, Fmt.{decimal_by_steps, decimal_digit}}}
 use Rattle.fm_path_text.specs.Machine.{onward, run}
 
 -- Reading two texts is reading one and then the other.

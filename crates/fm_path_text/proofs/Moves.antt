@@ -1,23 +1,13 @@
 -- What the machine has read, and how it can go on.
 use Rattle.std.proofs.Common.{◌≡◌, refl, sym, ap, ℕ, ◌+◌, ◌-◌, ◌*◌, ◌/◌, ◌%◌, ◌^◌, ◌<◌, ◌≤◌, zero, suc, true, ◌||◌, if◌then◌else◌, nat_eq, nat_lt, nat_le, Some, None, List, [], ◌∷◌, ◌++◌, length, arith, ◌∙◌}
-use Rattle.std.specs.Prelude.{IsTrue, decimal, pos, neg_ℤ}
-use Rattle.std.specs.Fmt.{signed_decimal}
-use Rattle.std.proofs.lemmas.Bool.{cond_both, eqb-true, ltb-true, leb-true}
-use Rattle.std.proofs.lemmas.Bool.Decides.{nat_tests}
-use Rattle.std.proofs.lemmas.List.{append_assoc, append-nil}
-use Rattle.std.proofs.lemmas.Fmt.{decimal_step, decimal_digit}
-use Rattle.fm_path_text.specs.declared.step.PathStep.{PathStep}
-use Rattle.fm_path_text.specs.declared.step.PathStep.TheVariants.{Name, Group}
-use Rattle.fm_path_text.proofs.Names.{name_more}
+use Rattle.std.{specs.{Prelude.{IsTrue, decimal, pos, neg_ℤ}, Fmt.{signed_decimal}}, proofs.lemmas.Bool.{cond_both, eqb-true, ltb-true, leb-true}}
+use Rattle.std.proofs.lemmas.{Bool.Decides.{nat_tests}, List.{append_assoc, append-nil}, Fmt.{decimal_step, decimal_digit}}
+use Rattle.fm_path_text.{specs.declared.step.PathStep.{PathStep, TheVariants.{Name, Group}}, proofs.Names.{name_more}}
+use Rattle.fm_path_text.specs.{Grammar.{piece_of, most_number, HasPiece, magnitude}, Reader.{sign_of, longer_number, counts, closes, opens, spells, next}}
+use Rattle.fm_path_text.specs.declared.{part.Part.{Part, TheVariants.{Between, Dot, Word, Hash, Number, Open, Index, Colon, Minus, Up, Down}}, sign.Sign.{Sign}}
+use Rattle.fm_path_text.specs.declared.part.Move.{Move, TheVariants.{Dead, Stay, Finish}}
 use Rattle.fm_layout.specs.Name.{is_letter, is_digit, IsName}
-use Rattle.fm_path_text.specs.Grammar.{piece_of, most_number, HasPiece, magnitude}
-use Rattle.fm_path_text.specs.Reader.{sign_of, longer_number, counts, closes, opens, spells, next}
-use Rattle.fm_path_text.specs.declared.part.Part.{Part}
-use Rattle.fm_path_text.specs.declared.part.Part.TheVariants.{Between, Dot, Word, Hash, Number, Open, Index, Colon, Minus, Up, Down}
-use Rattle.fm_path_text.specs.declared.sign.Sign.{Sign}
 use Rattle.fm_path_text.specs.declared.sign.Sign.TheVariants as sign
-use Rattle.fm_path_text.specs.declared.part.Move.{Move}
-use Rattle.fm_path_text.specs.declared.part.Move.TheVariants.{Dead, Stay, Finish}
 
 -- the bytes of a part
 abbrev pub shown : Part → List ℕ

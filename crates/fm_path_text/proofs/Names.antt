@@ -1,7 +1,5 @@
 -- Names that grow at their end.
-use Rattle.std.proofs.Common.{◌≡◌, sym, subst, ℕ, ◌+◌, ◌<◌, ◌||◌, List, [], ◌∷◌, ◌++◌, length, take, arith}
-use Rattle.std.specs.Prelude.{IsTrue}
-use Rattle.std.proofs.Math.ListN.{set}
+use Rattle.std.{proofs.{Common.{◌≡◌, sym, subst, ℕ, ◌+◌, ◌<◌, ◌||◌, List, [], ◌∷◌, ◌++◌, length, take, arith}, Math.ListN.{set}}, specs.Prelude.{IsTrue}}
 use Rattle.std.proofs.lemmas.List.{length-append, length-take, take_more_set}
 use Rattle.fm_layout.specs.Name.{is_letter, is_digit, IsName, IsNameEnd}
 

@@ -1,18 +1,9 @@
 -- Steps of the loop over the bytes.
-use Rattle.std.proofs.Common.{◌≡◌, sym, ap, ℕ, ◌+◌, ◌<◌, ◌≤◌, Some, None, List, length, take, get_or, arith, ◌∙◌}
-use Rattle.std.proofs.lemmas.List.{take_all}
-use Rattle.fm_path_text.specs.declared.step.PathStep.{PathStep}
-use Rattle.fm_path_text.specs.Grammar.{IsPath, IsTextOf, path_text}
-use Rattle.fm_path_text.specs.Language.{BeginsUpTo}
-use Rattle.fm_path_text.specs.Reader.{sign_of, next, spot, moved, reads, onward, run, start, whole, IsBounded}
-use Rattle.fm_path_text.specs.declared.part.Part.{Part}
-use Rattle.fm_path_text.specs.declared.part.Part.TheVariants.{Between, Dot, Hash, Open, Up, Down}
-use Rattle.fm_path_text.specs.declared.sign.Sign.{Sign}
-use Rattle.fm_path_text.specs.declared.part.Move.{Move}
-use Rattle.fm_path_text.proofs.Machine.{run_more}
-use Rattle.fm_path_text.proofs.Moves.{IsLive}
-use Rattle.fm_path_text.proofs.Language.{only, leaves_at, leaves_behind}
-use Rattle.fm_path_text.proofs.Reading.{there_read}
+use Rattle.std.proofs.{Common.{◌≡◌, sym, ap, ℕ, ◌+◌, ◌<◌, ◌≤◌, Some, None, List, length, take, get_or, arith, ◌∙◌}, lemmas.List.{take_all}}
+use Rattle.fm_path_text.specs.{declared.step.PathStep.{PathStep}, Grammar.{IsPath, IsTextOf, path_text}, Language.{BeginsUpTo}}
+use Rattle.fm_path_text.specs.{Reader.{sign_of, next, spot, moved, reads, onward, run, start, whole, IsBounded}, declared.part.Part.{Part}}
+use Rattle.fm_path_text.specs.declared.{part.{Part.TheVariants.{Between, Dot, Hash, Open, Up, Down}, Move.{Move}}, sign.Sign.{Sign}}
+use Rattle.fm_path_text.proofs.{Machine.{run_more}, Moves.{IsLive}, Language.{only, leaves_at, leaves_behind}, Reading.{there_read}}
 use Rattle.fm_path_text.proofs.Accepting.{reader, begins, found}
 
 -- what the loop keeps

@@ -1,25 +1,15 @@
 -- What the machine has read begins a text, and it reads each text.
 use Rattle.std.proofs.Common.{◌≡◌, refl, sym, ap, subst, ℕ, ◌+◌, ◌<◌, zero, suc, true, if◌then◌else◌, Option, Some, List, [], ◌∷◌, ◌++◌, length, arith, ◌∙◌}
-use Rattle.std.specs.Prelude.{decimal, pos, negsuc}
-use Rattle.std.specs.List.{AllByRecursion}
-use Rattle.std.specs.Option.{IfSome}
-use Rattle.std.proofs.lemmas.Bool.{lt-ltb}
-use Rattle.std.proofs.lemmas.Bool.Decides.{nat_tests}
-use Rattle.std.proofs.lemmas.List.{append_assoc, append-nil, length-append}
-use Rattle.std.proofs.lemmas.Fmt.{decimal_digit}
+use Rattle.std.{specs.{Prelude.{decimal, pos, negsuc}, List.{AllByRecursion}, Option.{IfSome}}, proofs.lemmas.Bool.{lt-ltb, Decides.{nat_tests}}}
+use Rattle.std.proofs.lemmas.{List.{append_assoc, append-nil, length-append}, Fmt.{decimal_digit}}
 use Rattle.fm_base_lists.proofs.Each.{all_snoc}
-use Rattle.fm_path_text.specs.declared.step.PathStep.{PathStep}
-use Rattle.fm_path_text.specs.declared.step.PathStep.TheVariants.{Name, Group, At, Each, EachFrom}
-use Rattle.fm_layout.specs.Name.{is_digit}
+use Rattle.fm_path_text.specs.declared.step.PathStep.{PathStep, TheVariants.{Name, Group, At, Each, EachFrom}}
 use Rattle.fm_path_text.specs.Grammar.{piece_of, pieces_of, path_text, HasPiece, IsPath, Begins}
-use Rattle.fm_path_text.specs.Reader.{sign_of, closes, opens, next, Spot, spot, moved, reads, onward, run, start, whole}
-use Rattle.fm_path_text.specs.declared.part.Part.{Part}
-use Rattle.fm_path_text.specs.declared.part.Part.TheVariants.{Between, Dot, Word, Hash, Number, Open, Index, Colon, Minus, Up, Down}
+use Rattle.fm_path_text.specs.{Reader.{sign_of, closes, opens, next, Spot, spot, moved, reads, onward, run, start, whole}, declared.part.Part.{Part}}
+use Rattle.fm_path_text.specs.declared.part.{Part.TheVariants.{Between, Dot, Word, Hash, Number, Open, Index, Colon, Minus, Up, Down}, Move.{Move}}
+use Rattle.fm_path_text.{specs.declared.part.Move.TheVariants.{Dead, Stay, Finish}, proofs.{Machine.{run_keeps}, Moves.{shown, IsLive, Leaves, leaves, told}}}
+use Rattle.fm_layout.specs.Name.{is_digit}
 use Rattle.fm_path_text.specs.declared.sign.Sign.TheVariants as sign
-use Rattle.fm_path_text.specs.declared.part.Move.{Move}
-use Rattle.fm_path_text.specs.declared.part.Move.TheVariants.{Dead, Stay, Finish}
-use Rattle.fm_path_text.proofs.Machine.{run_keeps}
-use Rattle.fm_path_text.proofs.Moves.{shown, IsLive, Leaves, leaves, told}
 
 -- the text so far is that of the whole pieces and of the part
 pub record HasRead (text : List ℕ) (s : Spot) : Type 0 where

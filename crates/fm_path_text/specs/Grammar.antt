@@ -1,11 +1,8 @@
 -- The texts of paths, and what a text that is none begins.
-use Rattle.std.specs.Prelude.{◌≡◌, ℤ, pos, negsuc, ℕ, ◌^◌, ◌≤◌, List, [], ◌∷◌, ◌++◌, length, codes, decimal}
-use Rattle.std.specs.Fmt.{signed_decimal}
-use Rattle.std.proofs.Common.{suc}
+use Rattle.std.{specs.{Prelude.{◌≡◌, ℤ, pos, negsuc, ℕ, ◌^◌, ◌≤◌, List, [], ◌∷◌, ◌++◌, length, codes, decimal}, Fmt.{signed_decimal}}, proofs.Common.{suc}}
 use Rattle.std.specs.List.{AllByRecursion}
 use Rattle.fm_base.specs.declared.refusal.Refusal.{Refusal}
-use Rattle.fm_path_text.specs.declared.step.PathStep.{PathStep}
-use Rattle.fm_path_text.specs.declared.step.PathStep.TheVariants.{Name, Group, At, Each, EachFrom}
+use Rattle.fm_path_text.specs.declared.step.PathStep.{PathStep, TheVariants.{Name, Group, At, Each, EachFrom}}
 use Rattle.fm_layout.specs.Name.{IsName}
 use Rattle.fm_path_text.specs.Language as language
 

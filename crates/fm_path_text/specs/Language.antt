@@ -1,7 +1,6 @@
 -- A language: what is in it, each thing written by its text. Which texts begin one of its texts, and where a text leaves it.
 use Rattle.std.specs.Prelude.{◌≡◌, ℕ, ◌+◌, ◌<◌, ◌≤◌, List, ◌++◌, length, take}
-use Rattle.fm_base.specs.declared.refusal.Refusal.{Refusal}
-use Rattle.fm_base.specs.declared.refusal.Refusal.TheVariants.{BadQuery, Memory}
+use Rattle.fm_base.specs.declared.refusal.Refusal.{Refusal, TheVariants.{BadQuery, Memory}}
 
 -- the text of something in it begins so
 abbrev pub Begins : {A : Type 0} → (A → Type 0) → (A → List ℕ) → List ℕ → Type 0

@@ -1,15 +1,10 @@
 -- The reader of a path's text, byte by byte: which part of a piece it stands in, and what a byte does there.
 use Rattle.std.specs.Prelude.{pos, neg_ℤ, Vec, ◌≡◌, ℕ, ◌+◌, ◌-◌, ◌*◌, ◌<◌, ◌≤◌, Option, Some, None, List, [], ◌∷◌, ◌++◌, length, if◌then◌else◌, nat_eq, nat_lt, nat_le, IsTrue}
-use Rattle.fm_path_text.specs.declared.step.PathStep.{PathStep}
-use Rattle.fm_path_text.specs.declared.step.PathStep.TheVariants.{Name, Group, At, Each, EachFrom}
-use Rattle.fm_path_text.specs.declared.part.Part.{Part}
-use Rattle.fm_path_text.specs.declared.part.Part.TheVariants.{Between, Dot, Word, Hash, Number, Open, Index, Colon, Minus, Up, Down}
-use Rattle.fm_path_text.specs.declared.sign.Sign.{Sign}
+use Rattle.fm_path_text.specs.declared.{step.PathStep.{PathStep, TheVariants.{Name, Group, At, Each, EachFrom}}, part.Part.{Part}}
+use Rattle.fm_path_text.specs.declared.{part.Part.TheVariants.{Between, Dot, Word, Hash, Number, Open, Index, Colon, Minus, Up, Down}, sign.Sign.{Sign}}
+use Rattle.fm_path_text.specs.{declared.part.Move.{Move, TheVariants.{Dead, Stay, Finish}}, Grammar.{most_number, most_pieces}}
 use Rattle.fm_path_text.specs.declared.sign.Sign.TheVariants as sign
-use Rattle.fm_path_text.specs.declared.part.Move.{Move}
-use Rattle.fm_path_text.specs.declared.part.Move.TheVariants.{Dead, Stay, Finish}
 use Rattle.fm_layout.specs.Name.{is_letter, is_digit}
-use Rattle.fm_path_text.specs.Grammar.{most_number, most_pieces}
 use Rattle.fm_path_text.specs.Machine as machine
 
 -- what a byte is to a path: . # [ ] : - a digit, a letter, or another byte

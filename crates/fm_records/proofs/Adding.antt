@@ -1,28 +1,15 @@
 -- Numbers that are read and added, index by index of a path's first open step.
 use Rattle.std.proofs.Common.{◌≡◌, ℕ, ◌+◌, ◌-◌, ◌<◌, ◌≤◌, Result, Ok, Err, List, [], ◌∷◌, ◌++◌, length, map, refl, sym, ap, ◌∙◌, subst, arith}
-use Rattle.std.specs.Prelude.{ℤ, OnOk, OnErr, IfErr}
-use Rattle.std.specs.List.{flat_map, range_with_len}
-use Rattle.std.proofs.lemmas.List.{append-nil, length-map, length-append}
+use Rattle.std.{specs.{Prelude.{ℤ, OnOk, OnErr, IfErr}, List.{flat_map, range_with_len}}, proofs.lemmas.List.{append-nil, length-map, length-append}}
 use Rattle.std.proofs.lemmas.Grind.{flat_map-append}
 use Rattle.fm_base_lists.proofs.Mapped.{map-map, map-flat_map, flat_map-same}
-use Rattle.fm_base.specs.declared.refusal.Refusal.{Refusal}
-use Rattle.fm_base.specs.declared.refusal.Refusal.TheVariants.{Closed, Memory}
-use Rattle.fm_base.specs.View.{View}
+use Rattle.fm_base.specs.{declared.refusal.Refusal.{Refusal, TheVariants.{Closed, Memory}}, View.{View}}
 use Rattle.fm_segment.specs.Region.{Region}
-use Rattle.fm_path_meaning.specs.Walk.{offset_at, reach}
-use Rattle.fm_path_meaning.specs.declared.dim.Dim.{Dim}
+use Rattle.fm_path_meaning.specs.{Walk.{offset_at, reach}, declared.dim.Dim.{Dim}}
 use Rattle.fm_path.specs.declared.value_spec.ValueSpec.{ValueSpec}
-use Rattle.fm_records.specs.declared.found.Found.{Found}
-use Rattle.fm_records.specs.Values.{index_lists}
-use Rattle.fm_records.specs.Few.{HasRoom}
-use Rattle.fm_records.specs.Adds.{AddsNumbers, with_number}
-use Rattle.fm_records.specs.Paths.{AddsAll}
-use Rattle.fm_records.specs.Reads.{GetsNumber, Sees, TakesNumber, value_places}
-use Rattle.fm_records.specs.Words.{Seen, kept_last}
-use Rattle.fm_records.proofs.Behind.{range_append}
-use Rattle.fm_records.proofs.Few.{adds_room, room_less}
-use Rattle.fm_records.proofs.Seeing.{sees_err, sees_ok, sees_want}
-use Rattle.fm_records.proofs.Turns.{turn_cut, turn_none, turn_on, turn_one}
+use Rattle.fm_records.specs.{declared.found.Found.{Found}, Values.{index_lists}, Few.{HasRoom}, Adds.{AddsNumbers, with_number}, Paths.{AddsAll}}
+use Rattle.fm_records.{specs.{Reads.{GetsNumber, Sees, TakesNumber, value_places}, Words.{Seen, kept_last}}, proofs.Behind.{range_append}}
+use Rattle.fm_records.proofs.{Few.{adds_room, room_less}, Seeing.{sees_err, sees_ok, sees_want}, Turns.{turn_cut, turn_none, turn_on, turn_one}}
 
 -- ---- one value
 

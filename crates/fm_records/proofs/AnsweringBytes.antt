@@ -1,26 +1,14 @@
 -- What a query answers, where its Reads found the bytes of one list.
 use Rattle.std.proofs.Common.{◌≡◌, ℕ, ◌+◌, ◌-◌, ◌*◌, ◌/◌, ◌%◌, ◌<◌, ◌≤◌, Ok, List, [], length, drop, get_or, refl, sym, ap, ◌∙◌, arith}
-use Rattle.std.proofs.lemmas.Grind.{same_number_lists}
-use Rattle.std.proofs.lemmas.List.{length-drop, length-take-le, get_or-take, get_or-drop}
-use Rattle.std.proofs.lemmas.List.FromFn.{get_or-map-range_with_len, length-map-range_with_len}
-use Rattle.std.proofs.lemmas.Nat.{div-add-mod'}
-use Rattle.fm_base.specs.declared.caller.Caller.{Caller}
-use Rattle.fm_base.specs.Arenas.{State, arena_of}
-use Rattle.fm_base.specs.Calls.{Entry}
-use Rattle.fm_base_bytes.specs.Words.{bytes_in, byte_of, byte_at}
-use Rattle.fm_base_bytes.proofs.Words.{length-bytes_in, bytes_in-word}
+use Rattle.std.proofs.lemmas.{Grind.{same_number_lists}, List.{length-drop, length-take-le, get_or-take, get_or-drop}}
+use Rattle.std.proofs.lemmas.{List.FromFn.{get_or-map-range_with_len, length-map-range_with_len}, Nat.{div-add-mod'}}
+use Rattle.fm_base.specs.{declared.caller.Caller.{Caller}, Arenas.{State, arena_of}, Calls.{Entry}}
+use Rattle.fm_base_bytes.{specs.Words.{bytes_in, byte_of, byte_at}, proofs.{Words.{length-bytes_in, bytes_in-word}, Bytes.{get_or-bytes_of}}}
 use Rattle.fm_segment_access.specs.Alone.{bytes_of_arena}
-use Rattle.fm_segment.specs.Alone.{bytes_of_region}
-use Rattle.fm_segment.specs.Region.{Region}
+use Rattle.fm_segment.specs.{Alone.{bytes_of_region}, Region.{Region}}
 use Rattle.fm_records_query.specs.Plan.{Plan}
-use Rattle.fm_records.specs.declared.found.Found.{Found}
-use Rattle.fm_records.specs.Alone.{bytes_at_places}
-use Rattle.fm_records.specs.Answers.{found_over, answer}
-use Rattle.fm_records.specs.Bytes.{IsByteOf, IsAnswered}
-use Rattle.fm_records.specs.Reads.{LiesIn}
-use Rattle.fm_records.specs.Records.{pieces}
-use Rattle.fm_records.proofs.ReadingBytes.{records_of_bytes}
-use Rattle.fm_base_bytes.proofs.Bytes.{get_or-bytes_of}
+use Rattle.fm_records.specs.{declared.found.Found.{Found}, Alone.{bytes_at_places}, Answers.{found_over, answer}, Bytes.{IsByteOf, IsAnswered}, Reads.{LiesIn}}
+use Rattle.fm_records.{specs.Records.{pieces}, proofs.ReadingBytes.{records_of_bytes}}
 
 -- as many records as the size has are within it
 pub records_lie : (p : Plan) (s : Region) → LiesIn s s.first (s.size / p.size * p.size)

@@ -1,10 +1,8 @@
 -- What stands in two runs, one behind the other.
 use Rattle.std.proofs.Common.{◌≡◌, ℕ, zero, suc, ◌+◌, ◌-◌, ◌*◌, ◌<◌, ◌≤◌, Some, List, [], ◌∷◌, ◌++◌, length, refl, sym, ap, ◌∙◌, subst, inl, inr, arith}
-use Rattle.std.specs.Prelude.{◌⊎◌}
-use Rattle.std.specs.List.{range_with_len, slice_get}
+use Rattle.std.specs.{Prelude.{◌⊎◌}, List.{range_with_len, slice_get}}
 use Rattle.fm_base_lists.specs.Among.{IsAmong}
-use Rattle.fm_records.specs.Reads.{record_places}
-use Rattle.fm_records.specs.Records.{pieces}
+use Rattle.fm_records.specs.{Reads.{record_places}, Records.{pieces}}
 
 -- the element of this index stands in the second of two lists
 pub record StandsBehind {X : Type 0} (xs ys : List X) (i : ℕ) (x : X) : Type 0 where

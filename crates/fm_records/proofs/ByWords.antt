@@ -1,24 +1,14 @@
 -- Values by the words that were read.
 use Rattle.std.proofs.Common.{◌≡◌, ℕ, ◌+◌, ◌-◌, ◌*◌, ◌/◌, ◌%◌, ◌^◌, ◌<◌, ◌≤◌, ◌==◌, Bool, true, false, if◌then◌else◌, Some, None, List, [], ◌∷◌, ◌++◌, length, map, drop, get_or, refl, sym, ap, ◌∙◌, subst, arith}
-use Rattle.std.specs.List.{range_with_len}
-use Rattle.std.proofs.Math.Pow.{pow_mono}
-use Rattle.std.proofs.lemmas.Bool.Decides.{nat_tests}
-use Rattle.std.proofs.lemmas.Grind.{same_number_lists}
-use Rattle.std.proofs.lemmas.List.{get_or-drop, get_or-take, length-append, map-append}
-use Rattle.std.proofs.lemmas.List.Elements.{All-append}
-use Rattle.std.proofs.lemmas.List.FromFn.{get_or-map-range_with_len, length-map-range_with_len}
-use Rattle.std.proofs.lemmas.Nat.{shl_whole}
-use Rattle.fm_base_bytes.specs.Bytes.{bytes_of, lane, number_of as number_of_bytes}
-use Rattle.fm_base_bytes.specs.Words.{byte_of}
+use Rattle.std.{specs.List.{range_with_len}, proofs.{Math.Pow.{pow_mono}, lemmas.{Bool.Decides.{nat_tests}, Grind.{same_number_lists}}}}
+use Rattle.std.proofs.lemmas.List.{get_or-drop, get_or-take, length-append, map-append, Elements.{All-append}}
+use Rattle.std.proofs.lemmas.{List.FromFn.{get_or-map-range_with_len, length-map-range_with_len}, Nat.{shl_whole}}
+use Rattle.fm_base_bytes.specs.{Bytes.{bytes_of, lane, number_of as number_of_bytes}, Words.{byte_of}}
 use Rattle.fm_base_bytes.proofs.Bytes.{AreBytes-bytes_of, bytes_of-lane, bytes_of-number_of, get_or-bytes_of, lane-lt, length-bytes_of, number_of-append, number_of-bytes_of}
-use Rattle.fm_lanes.specs.Coding.{decoded, lowest_first, value_of}
-use Rattle.fm_lanes.specs.Kind.{width_of}
-use Rattle.fm_lanes.specs.Value.{number_of_value}
-use Rattle.fm_lanes.proofs.Meaning.{width_of-bounds}
+use Rattle.fm_lanes.{specs.{Coding.{decoded, lowest_first, value_of}, Kind.{width_of}, Value.{number_of_value}}, proofs.Meaning.{width_of-bounds}}
 use Rattle.fm_lanes.proofs.Turning.{turned_number}
 use Rattle.fm_path.specs.declared.value_spec.ValueSpec.{ValueSpec}
-use Rattle.fm_records.specs.Words.{Seen, across, byte_by, bytes_by, found_at, number_by, number_of, or_zero}
-use Rattle.fm_records.proofs.Behind.{range_append}
+use Rattle.fm_records.{specs.Words.{Seen, across, byte_by, bytes_by, found_at, number_by, number_of, or_zero}, proofs.Behind.{range_append}}
 use Rattle.fm_segment_access.proofs.Getting.{below_behind}
 
 -- ---- what was found at a word

@@ -1,33 +1,17 @@
 -- Values that are alone in their records, one record after the other.
-use Rattle.std.proofs.Common.{◌≡◌, ℕ, zero, suc, ◌+◌, ◌*◌, ◌/◌, ◌≤◌, true, Result, Ok, Err, List, [], ◌∷◌, refl, sym, ap, subst, arith}
-use Rattle.std.specs.Prelude.{ℤ}
+use Rattle.std.{proofs.Common.{◌≡◌, ℕ, zero, suc, ◌+◌, ◌*◌, ◌/◌, ◌≤◌, true, Result, Ok, Err, List, [], ◌∷◌, refl, sym, ap, subst, arith}, specs.Prelude.{ℤ}}
 use Rattle.std.specs.List.{AllByRecursion, AllZip}
-use Rattle.fm_base.specs.declared.refusal.Refusal.{Refusal}
-use Rattle.fm_base.specs.declared.refusal.Refusal.TheVariants.{Closed, Memory}
-use Rattle.fm_base.specs.View.{View}
-use Rattle.fm_path.specs.Resolution.{Resolution}
-use Rattle.fm_path.specs.declared.value_spec.ValueSpec.{ValueSpec}
+use Rattle.fm_base.specs.{declared.refusal.Refusal.{Refusal, TheVariants.{Closed, Memory}}, View.{View}}
+use Rattle.fm_path.specs.{Resolution.{Resolution}, declared.value_spec.ValueSpec.{ValueSpec}}
 use Rattle.fm_segment.specs.Region.{Region}
-use Rattle.fm_records_query.specs.Plan.{Plan}
-use Rattle.fm_records_query.specs.declared.condition.Condition.{Condition}
-use Rattle.fm_records_query.specs.declared.item.Asked.{Asked}
+use Rattle.fm_records_query.specs.{Plan.{Plan}, declared.{condition.Condition.{Condition}, item.{Asked.{Asked}, Item.{Item}}}}
 use Rattle.fm_records_query.specs.declared.item.Asked.TheVariants as asked
-use Rattle.fm_records_query.specs.declared.item.Item.{Item}
-use Rattle.fm_records.specs.declared.found.Found.{Found}
-use Rattle.fm_records.specs.declared.found.Found.TheVariants.{Count}
-use Rattle.fm_records.specs.Adds.{AddsItem, AddsItems, AddsNumbers, IsItemReadable}
-use Rattle.fm_records.specs.Column.{AddsSegment, AddsUnread, IsColumn, IsCounted}
-use Rattle.fm_records.specs.Joined.{both}
-use Rattle.fm_records.specs.Few.{AreFew, HaveRoom, IsFew, IsOpen}
-use Rattle.fm_records.specs.Paths.{AddsAll, CanAddAll}
-use Rattle.fm_records.specs.Reads.{CanRead, LiesIn, TakesNumber, TakesNumbers, TestsConditions, next_turn, no_turn, short_turn}
-use Rattle.fm_records.specs.Texts.{IsFoundOf}
-use Rattle.fm_records.specs.Words.{Seen, kept_after, kept_all, kept_none}
-use Rattle.fm_records.proofs.Few.{plan_items_open}
-use Rattle.fm_records.proofs.Items.{item_can, item_closed, item_counted, item_one}
-use Rattle.fm_records.proofs.Plans.{plan_items_readable}
-use Rattle.fm_records.proofs.Recording.{AreRecorded, Recorded, record_chosen, recorded_all, recorded_more, recorded_none}
-use Rattle.fm_records.proofs.Seeing.{sees_as, sees_none}
+use Rattle.fm_records.specs.{declared.found.Found.{Found, TheVariants.{Count}}, Adds.{AddsItem, AddsItems, AddsNumbers, IsItemReadable}}
+use Rattle.fm_records.specs.{Column.{AddsSegment, AddsUnread, IsColumn, IsCounted}, Joined.{both}, Few.{AreFew, HaveRoom, IsFew, IsOpen}}
+use Rattle.fm_records.specs.{Paths.{AddsAll, CanAddAll}, Reads.{CanRead, LiesIn, TakesNumber, TakesNumbers, TestsConditions, next_turn, no_turn, short_turn}}
+use Rattle.fm_records.{specs.{Texts.{IsFoundOf}, Words.{Seen, kept_after, kept_all, kept_none}}, proofs.Few.{plan_items_open}}
+use Rattle.fm_records.proofs.{Items.{item_can, item_closed, item_counted, item_one}, Plans.{plan_items_readable}}
+use Rattle.fm_records.proofs.{Recording.{AreRecorded, Recorded, record_chosen, recorded_all, recorded_more, recorded_none}, Seeing.{sees_as, sees_none}}
 
 -- ---- what is kept of a value that is alone changes nothing
 

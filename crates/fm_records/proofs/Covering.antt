@@ -1,46 +1,21 @@
 -- Each word of the values that a query asks for in a chosen record is read.
 use Rattle.std.proofs.Common.{◌≡◌, ℕ, zero, suc, ◌+◌, ◌-◌, ◌*◌, ◌/◌, ◌<◌, ◌≤◌, ◌==◌, Bool, true, false, if◌then◌else◌, Result, Ok, Some, List, [], ◌∷◌, ◌++◌, length, map, take, drop, refl, sym, ap, ◌∙◌, subst, inl, inr, arith}
-use Rattle.std.specs.Prelude.{ℤ, ◌⊎◌}
-use Rattle.std.specs.List.{flat_map, list_all, slice_get}
-use Rattle.std.proofs.Math.Nat.{mul-le-mul_right}
-use Rattle.std.proofs.lemmas.Bool.{cases_lt}
-use Rattle.std.proofs.lemmas.Bool.Decides.{nat_tests}
-use Rattle.std.proofs.lemmas.List.{drop-drop, map-append, take-append-drop}
-use Rattle.fm_base.specs.declared.caller.Caller.{Caller}
-use Rattle.fm_base.specs.declared.arena_id.ArenaId.{ArenaId}
-use Rattle.fm_base.specs.declared.refusal.Refusal.{Refusal}
+use Rattle.std.{specs.{Prelude.{ℤ, ◌⊎◌}, List.{flat_map, list_all, slice_get}}, proofs.{Math.Nat.{mul-le-mul_right}, lemmas.Bool.{cases_lt}}}
+use Rattle.std.proofs.lemmas.{Bool.Decides.{nat_tests}, List.{drop-drop, map-append, take-append-drop}}
+use Rattle.fm_base.specs.declared.{caller.Caller.{Caller}, arena_id.ArenaId.{ArenaId}, refusal.Refusal.{Refusal}}
 use Rattle.fm_base.specs.Calls.{Read, Found as Found_word, Entry, entry_of}
-use Rattle.fm_lanes.specs.Kind.{width_of}
-use Rattle.fm_lanes.proofs.Meaning.{width_of-bounds}
-use Rattle.fm_path.specs.Resolution.{Resolution}
-use Rattle.fm_path.specs.Wide.{wide_dims}
-use Rattle.fm_path.specs.declared.value_spec.ValueSpec.{ValueSpec}
-use Rattle.fm_path_meaning.specs.declared.dim.Dim.{Dim}
-use Rattle.fm_records_query.specs.declared.condition.Condition.{Condition}
-use Rattle.fm_base_lists.specs.Among.{IsAmong}
-use Rattle.fm_path_meaning.specs.Walk.{AreAdmitted, offset_at}
-use Rattle.fm_records_query.specs.Plan.{Plan, IsPlan}
-use Rattle.fm_records_query.specs.declared.fold.Fold.{Fold}
-use Rattle.fm_records_query.specs.declared.item.Asked.{Asked}
+use Rattle.fm_lanes.{specs.Kind.{width_of}, proofs.Meaning.{width_of-bounds}}
+use Rattle.fm_path.specs.{Resolution.{Resolution}, Wide.{wide_dims}, declared.value_spec.ValueSpec.{ValueSpec}}
+use Rattle.fm_path_meaning.specs.{declared.dim.Dim.{Dim}, Walk.{AreAdmitted, offset_at}}
+use Rattle.fm_records_query.specs.{declared.{condition.Condition.{Condition}, fold.Fold.{Fold}, item.{Asked.{Asked}, Item.{Item}}}, Plan.{Plan, IsPlan}}
+use Rattle.fm_base_lists.{specs.Among.{IsAmong}, proofs.{Among.{among_either, among_left, among_map, among_right}, Each.{all_split}}}
 use Rattle.fm_records_query.specs.declared.item.Asked.TheVariants as asked
-use Rattle.fm_records_query.specs.declared.item.Item.{Item}
 use Rattle.fm_segment.specs.Region.{Region}
-use Rattle.fm_records.specs.declared.found.Found.{Found}
-use Rattle.fm_records.specs.Answers.{holds as holds_for}
-use Rattle.fm_records.specs.Bytes.{FindAs, HasRead, IsAnswered}
-use Rattle.fm_records.specs.Laws.{IsAsked, value_in}
+use Rattle.fm_records.specs.{declared.found.Found.{Found}, Answers.{holds as holds_for}, Bytes.{FindAs, HasRead, IsAnswered}, Laws.{IsAsked, value_in}}
 use Rattle.fm_records.specs.Reads.{IsWordOf, LiesIn, value_places, ReadsNumber, InOrder, InTurn, no_turn, next_turn, short_turn, TakesNumbers, TakesPath, Tests, FindsAsked, FindsItems, FindsRecord, ReadsRecord, chosen, passed_over, untested, read_visit, record_places}
-use Rattle.fm_records.specs.Words.{Seen, found_at, kept_after, kept_all, kept_last, most_words, words_at}
-use Rattle.fm_records.specs.Records.{pieces}
-use Rattle.fm_records.specs.Values.{index_lists}
-use Rattle.fm_records.proofs.AnsweringBytes.{records_lie}
-use Rattle.fm_records.proofs.Indices.{admitted_listed}
-use Rattle.fm_records.proofs.Behind.{among_places}
-use Rattle.fm_records.proofs.Ordered.{in_order_part}
-use Rattle.fm_records.proofs.Getting.{IsFoundAmong, among_words, word_found}
-use Rattle.fm_records.proofs.ReadingBytes.{Agree, agree, tests_of_bytes}
-use Rattle.fm_base_lists.proofs.Among.{among_either, among_left, among_map, among_right}
-use Rattle.fm_base_lists.proofs.Each.{all_split}
+use Rattle.fm_records.specs.{Words.{Seen, found_at, kept_after, kept_all, kept_last, most_words, words_at}, Records.{pieces}, Values.{index_lists}}
+use Rattle.fm_records.proofs.{AnsweringBytes.{records_lie}, Indices.{admitted_listed}, Behind.{among_places}, Ordered.{in_order_part}}
+use Rattle.fm_records.proofs.{Getting.{IsFoundAmong, among_words, word_found}, ReadingBytes.{Agree, agree, tests_of_bytes}}
 
 -- ---- words
 

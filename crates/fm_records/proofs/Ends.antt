@@ -1,11 +1,8 @@
 -- The least and the greatest of numbers.
 use Rattle.std.proofs.Common.{◌≡◌, List, [], ◌∷◌, ◌++◌, Option, None, Some, refl, sym, ap, ◌∙◌, subst, inl, inr, arith}
-use Rattle.std.specs.Prelude.{ℤ, ◌≤ℤ◌, MatchOption, Bool, true, false, int_lt, if◌then◌else◌}
-use Rattle.std.specs.Int.{int_min, int_max}
-use Rattle.std.specs.List.{AllByRecursion}
+use Rattle.std.specs.{Prelude.{ℤ, ◌≤ℤ◌, MatchOption, Bool, true, false, int_lt, if◌then◌else◌}, Int.{int_min, int_max}, List.{AllByRecursion}}
 use Rattle.std.proofs.lemmas.Int.{ints, clamps}
-use Rattle.fm_base_lists.specs.Among.{IsAmong}
-use Rattle.fm_base_lists.proofs.Each.{all_weaker}
+use Rattle.fm_base_lists.{specs.Among.{IsAmong}, proofs.Each.{all_weaker}}
 use Rattle.fm_records.specs.Answers.{lesser, greater, least_of, greatest_of}
 
 -- which of three comes first makes no difference

@@ -1,45 +1,23 @@
 -- How far the counts and sums of an answer can come.
 use Rattle.std.proofs.Common.{◌≡◌, ℕ, suc, ◌+◌, ◌*◌, ◌/◌, ◌%◌, ◌^◌, ◌≤◌, ◌-◌, Bool, true, false, Result, Ok, List, [], ◌∷◌, ◌++◌, length, map, refl, sym, ap, ◌∙◌, subst, arith}
-use Rattle.std.specs.Prelude.{◌==◌, not, ℤ, pos, negsuc, ◌+ℤ◌, FitsSigned}
-use Rattle.std.specs.Int.{w128}
-use Rattle.std.specs.List.{AllByRecursion, AllZip}
-use Rattle.std.proofs.lemmas.Int.{ints}
-use Rattle.std.proofs.lemmas.List.{length-map}
-use Rattle.std.proofs.Math.Nat.{div-mul-le_self}
-use Rattle.fm_base.specs.declared.caller.Caller.{Caller}
-use Rattle.fm_base.specs.declared.arena_id.ArenaId.{ArenaId}
-use Rattle.fm_base.specs.declared.refusal.Refusal.{Refusal}
-use Rattle.fm_base.specs.Calls.{Entry}
-use Rattle.fm_base_bytes.specs.Signed.{FitsBytes}
-use Rattle.fm_base_bytes.proofs.Signed.{FitsBytes-signed_of}
-use Rattle.fm_lanes.specs.Coding.{decoded}
-use Rattle.fm_lanes.specs.Value.{number_of_value}
-use Rattle.fm_lanes.specs.declared.value.Value.TheVariants.{Boolean}
-use Rattle.fm_lanes.specs.declared.value_kind.ValueKind.{ValueKind}
+use Rattle.std.{specs.{Prelude.{◌==◌, not, ℤ, pos, negsuc, ◌+ℤ◌, FitsSigned}, Int.{w128}, List.{AllByRecursion, AllZip}}, proofs.lemmas.Int.{ints}}
+use Rattle.std.proofs.{lemmas.List.{length-map}, Math.Nat.{div-mul-le_self}}
+use Rattle.fm_base.specs.{declared.{caller.Caller.{Caller}, arena_id.ArenaId.{ArenaId}, refusal.Refusal.{Refusal}}, Calls.{Entry}}
+use Rattle.fm_base_bytes.{specs.Signed.{FitsBytes}, proofs.Signed.{FitsBytes-signed_of}}
+use Rattle.fm_lanes.specs.{Coding.{decoded}, Value.{number_of_value}, declared.{value.Value.TheVariants.{Boolean}, value_kind.ValueKind.{ValueKind}}}
 use Rattle.fm_lanes.specs.declared.value_kind.ValueKind.TheVariants as kind
-use Rattle.fm_path.specs.Wide.{wide_dims}
-use Rattle.fm_path.specs.declared.value_spec.ValueSpec.{ValueSpec}
-use Rattle.fm_path_meaning.specs.declared.dim.Dim.{Dim}
-use Rattle.fm_path_meaning.specs.Walk.{offset_at}
-use Rattle.fm_records_query.specs.Plan.{Plan, IsPlan}
-use Rattle.fm_records_query.specs.declared.fold.Fold.{Fold}
+use Rattle.fm_path.specs.{Wide.{wide_dims}, declared.value_spec.ValueSpec.{ValueSpec}}
+use Rattle.fm_path_meaning.specs.{declared.dim.Dim.{Dim}, Walk.{offset_at}}
+use Rattle.fm_records_query.specs.{Plan.{Plan, IsPlan}, declared.{fold.Fold.{Fold}, item.{Asked.{Asked}, Item.{Item}}}}
 use Rattle.fm_records_query.specs.declared.fold.Fold.TheVariants as fold
-use Rattle.fm_records_query.specs.declared.item.Asked.{Asked}
 use Rattle.fm_records_query.specs.declared.item.Asked.TheVariants as asked
-use Rattle.fm_records_query.specs.declared.item.Item.{Item}
-use Rattle.fm_records.specs.declared.found.Found.{Found}
-use Rattle.fm_records.specs.declared.found.Found.TheVariants.{Count, Sum, Least, Greatest, Listed}
+use Rattle.fm_records.specs.declared.found.Found.{Found, TheVariants.{Count, Sum, Least, Greatest, Listed}}
 use Rattle.fm_records.specs.Answers.{sum_of, folded, found_in, item_found, found_over}
 use Rattle.fm_records.specs.Few.{IsSumBy, IsFoundBy, IsFew, AreFew, AnswersAreFew, FewCanJoin, HasRoom, HaveRoom, IsOpen, how_many}
-use Rattle.fm_records.specs.Joined.{CanJoinFound, CanJoin, both, joined}
-use Rattle.fm_records.specs.Adds.{AddsNumbers, all_added, with_number}
+use Rattle.fm_records.specs.{Joined.{CanJoinFound, CanJoin, both, joined}, Adds.{AddsNumbers, all_added, with_number}}
 use Rattle.fm_records.specs.Reads.{value_places, InOrder, all_done, one_more, comes_short, no_turn, next_turn, short_turn, TakesNumbers, TakesPath, FindsAsked, FindsItems, FindsRecord, ReadsRecord, chosen, passed_over, untested, record_places}
-use Rattle.fm_records.specs.Words.{Seen, kept_all, kept_last, number_by}
-use Rattle.fm_records.specs.Texts.{IsFolded, IsFoundOf, IsItemFound}
-use Rattle.fm_records.specs.Values.{index_lists}
-use Rattle.fm_records.proofs.Behind.{length-record_places}
-use Rattle.fm_records.proofs.Ordered.{all_added-append}
-use Rattle.fm_records.proofs.Plans.{IsItemFew, plan_items_few}
+use Rattle.fm_records.specs.{Words.{Seen, kept_all, kept_last, number_by}, Texts.{IsFolded, IsFoundOf, IsItemFound}, Values.{index_lists}}
+use Rattle.fm_records.proofs.{Behind.{length-record_places}, Ordered.{all_added-append}, Plans.{IsItemFew, plan_items_few}}
 
 -- ---- sums
 

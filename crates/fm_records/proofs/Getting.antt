@@ -1,22 +1,15 @@
 -- A value that is got of words that are kept and words that are read.
 use Rattle.std.proofs.Common.{◌≡◌, ℕ, ◌+◌, ◌/◌, ◌%◌, ◌<◌, ◌≤◌, ◌==◌, Bool, true, false, if◌then◌else◌, Option, Some, None, Ok, Err, Result, List, [], ◌∷◌, ◌++◌, map, refl, sym, ap, ◌∙◌, subst, inl, inr, arith}
-use Rattle.std.specs.Prelude.{ℤ, nat_le}
-use Rattle.std.proofs.lemmas.Bool.{cases_lt}
-use Rattle.std.proofs.lemmas.Bool.Decides.{nat_tests}
-use Rattle.std.proofs.lemmas.List.{append-nil, map-append}
-use Rattle.fm_base.specs.declared.refusal.Refusal.{Refusal}
-use Rattle.fm_base.specs.declared.refusal.Refusal.TheVariants.{Closed}
-use Rattle.fm_base.specs.View.{View}
+use Rattle.std.{specs.Prelude.{ℤ, nat_le}, proofs.lemmas.{Bool.{cases_lt, Decides.{nat_tests}}, List.{append-nil, map-append}}}
+use Rattle.fm_base.specs.{declared.refusal.Refusal.{Refusal, TheVariants.{Closed}}, View.{View}}
 use Rattle.fm_base_bytes.specs.Bytes.{lane}
-use Rattle.fm_lanes.specs.Kind.{width_of}
-use Rattle.fm_lanes.proofs.Meaning.{width_of-bounds}
+use Rattle.fm_lanes.{specs.Kind.{width_of}, proofs.Meaning.{width_of-bounds}}
 use Rattle.fm_base_lists.specs.Among.{IsAmong}
 use Rattle.fm_path.specs.declared.value_spec.ValueSpec.{ValueSpec}
 use Rattle.fm_segment.specs.Region.{Region}
 use Rattle.fm_records.specs.Reads.{Fetches, GetsNumber, ReadsNumber, Sees}
 use Rattle.fm_records.specs.Words.{Seen, IsKnownAs, across, found_at, if_new, kept_after, number_of, or_zero, unkept, unless_found, words_at}
-use Rattle.fm_records.proofs.ByWords.{between_by, found_behind, found_first, found_one, found_other, inside_by}
-use Rattle.fm_records.proofs.Seeing.{sees_err, sees_ok, sees_on}
+use Rattle.fm_records.proofs.{ByWords.{between_by, found_behind, found_first, found_one, found_other, inside_by}, Seeing.{sees_err, sees_ok, sees_on}}
 
 -- ---- the words of a value
 

@@ -1,11 +1,8 @@
 -- The index lists of a path are those that are admitted.
-use Rattle.std.proofs.Common.{◌≡◌, ℕ, zero, suc, ◌+◌, ◌<◌, ◌≤◌, List, [], ◌∷◌, map, refl, subst, inl, inr, arith, ◌⊎◌}
-use Rattle.std.proofs.lemmas.Bool.{cases_lt}
+use Rattle.std.proofs.{Common.{◌≡◌, ℕ, zero, suc, ◌+◌, ◌<◌, ◌≤◌, List, [], ◌∷◌, map, refl, subst, inl, inr, arith, ◌⊎◌}, lemmas.Bool.{cases_lt}}
 use Rattle.std.specs.List.{flat_map, range_with_len}
-use Rattle.fm_base_lists.specs.Among.{IsAmong}
-use Rattle.fm_base_lists.proofs.Among.{among_either, among_left, among_map, among_right}
-use Rattle.fm_path_meaning.specs.Walk.{AreAdmitted}
-use Rattle.fm_path_meaning.specs.declared.dim.Dim.{Dim}
+use Rattle.fm_base_lists.{specs.Among.{IsAmong}, proofs.Among.{among_either, among_left, among_map, among_right}}
+use Rattle.fm_path_meaning.specs.{Walk.{AreAdmitted}, declared.dim.Dim.{Dim}}
 use Rattle.fm_records.specs.Values.{index_lists}
 
 -- lists of indices with one put before each

@@ -1,38 +1,21 @@
 -- What items find in a record, added to what they found before, one item after the other.
 use Rattle.std.proofs.Common.{◌≡◌, ℕ, zero, suc, ◌+◌, Result, Ok, Err, List, [], ◌∷◌, ◌++◌, Option, None, Some, length, map, refl, sym, ap, ◌∙◌, subst, append_assoc, arith, ◌<◌, ◌≤◌, take, drop, get_or, slice_set}
-use Rattle.std.specs.Prelude.{ℤ, ◌≢◌}
-use Rattle.std.specs.List.{AllZip}
-use Rattle.std.proofs.lemmas.List.{append-nil, take-append-drop, take_more, take_all, length-take-le, length-append}
+use Rattle.std.{specs.{Prelude.{ℤ, ◌≢◌}, List.{AllZip}}, proofs.lemmas.List.{append-nil, take-append-drop, take_more, take_all, length-take-le, length-append}}
 use Rattle.std.proofs.lemmas.Slice.Zip.{AllZip-long}
-use Rattle.fm_base.specs.declared.refusal.Refusal.{Refusal}
-use Rattle.fm_base.specs.View.{View}
+use Rattle.fm_base.specs.{declared.refusal.Refusal.{Refusal}, View.{View}}
 use Rattle.fm_segment.specs.Region.{Region}
-use Rattle.fm_path.specs.Resolution.{Resolution}
-use Rattle.fm_path.specs.Wide.{wide_dims}
-use Rattle.fm_path.specs.declared.value_spec.ValueSpec.{ValueSpec}
-use Rattle.fm_path_meaning.specs.declared.dim.Dim.{Dim}
-use Rattle.fm_path_meaning.specs.Walk.{offset_at}
-use Rattle.fm_records_query.specs.declared.fold.Fold.{Fold}
+use Rattle.fm_path.specs.{Resolution.{Resolution}, Wide.{wide_dims}, declared.value_spec.ValueSpec.{ValueSpec}}
+use Rattle.fm_path_meaning.specs.{declared.dim.Dim.{Dim}, Walk.{offset_at}}
+use Rattle.fm_records_query.specs.declared.{fold.Fold.{Fold}, item.{Asked.{Asked}, Item.{Item}}}
 use Rattle.fm_records_query.specs.declared.fold.Fold.TheVariants as fold
-use Rattle.fm_records_query.specs.declared.item.Asked.{Asked}
 use Rattle.fm_records_query.specs.declared.item.Asked.TheVariants as asked
-use Rattle.fm_records_query.specs.declared.item.Item.{Item}
-use Rattle.fm_records.specs.declared.found.Found.{Found}
-use Rattle.fm_records.specs.declared.found.Found.TheVariants.{Count, Sum, Least, Greatest, Listed}
-use Rattle.fm_records.specs.Answers.{folded, lesser, greater, least_of, greatest_of}
-use Rattle.fm_records.specs.Joined.{both, joined}
-use Rattle.fm_records.specs.Adds.{AddsItem, AddsItems, AddsNumbers, all_added, IsReadable, ReachesInside, with_number}
-use Rattle.fm_records.specs.Few.{HasRoom, how_many, IsOpen}
-use Rattle.fm_records.specs.Paths.{AddsAll, CanAddAll, HasIndices}
-use Rattle.fm_records.specs.Values.{index_lists}
+use Rattle.fm_records.specs.declared.found.Found.{Found, TheVariants.{Count, Sum, Least, Greatest, Listed}}
+use Rattle.fm_records.specs.{Answers.{folded, lesser, greater, least_of, greatest_of}, Joined.{both, joined}}
+use Rattle.fm_records.specs.{Adds.{AddsItem, AddsItems, AddsNumbers, all_added, IsReadable, ReachesInside, with_number}, Few.{HasRoom, how_many, IsOpen}}
+use Rattle.fm_records.specs.{Paths.{AddsAll, CanAddAll, HasIndices}, Values.{index_lists}}
 use Rattle.fm_records.specs.Reads.{no_turn, CanRead, short_turn, FindsAsked, FindsItems, next_turn, Sees, TakesNumber, TakesNumbers, TakesPath, value_places}
-use Rattle.fm_records.specs.Words.{Seen, kept_all, kept_last}
-use Rattle.fm_records.specs.Texts.{IsFolded, IsFoundOf}
-use Rattle.fm_records.proofs.Ends.{lesser-lesser, greater-greater}
-use Rattle.fm_records.proofs.Few.{sums}
-use Rattle.fm_records.proofs.Reaching.{wide_inside, wide_many, wide_places}
-use Rattle.fm_records.proofs.Steps.{zip_at}
-use Rattle.fm_records.proofs.Seeing.{sees_as, sees_none, sees_on}
+use Rattle.fm_records.{specs.{Words.{Seen, kept_all, kept_last}, Texts.{IsFolded, IsFoundOf}}, proofs.{Ends.{lesser-lesser, greater-greater}, Few.{sums}}}
+use Rattle.fm_records.proofs.{Reaching.{wide_inside, wide_many, wide_places}, Steps.{zip_at}, Seeing.{sees_as, sees_none, sees_on}}
 use Rattle.fm_records.proofs.Turns.{in_turn_on, in_turn_cut, in_turn_one, turn_none}
 
 -- ---- one item

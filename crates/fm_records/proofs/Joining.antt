@@ -1,27 +1,13 @@
 -- The answers over two runs of records, joined, are the answer over both.
 use Rattle.std.proofs.Common.{◌≡◌, ℕ, zero, suc, ◌+◌, ◌*◌, ◌/◌, ◌%◌, ◌<◌, ◌≤◌, List, [], ◌∷◌, ◌++◌, length, take, drop, map, refl, sym, ap, ◌∙◌, arith, length-append, length-drop}
-use Rattle.std.specs.Prelude.{ℤ, ◌+ℤ◌}
-use Rattle.std.specs.List.{flat_map, list_all, AllZip}
-use Rattle.std.proofs.Math.IntN.{+ℤ_assoc}
-use Rattle.std.proofs.Math.Nat.{mul-add-div_right}
-use Rattle.std.proofs.lemmas.Nat.{div-add-mod'}
-use Rattle.std.proofs.lemmas.Int.{ints}
-use Rattle.std.proofs.lemmas.List.{take-append-le, drop-append-le}
-use Rattle.std.proofs.lemmas.List.Elements.{filter-append}
-use Rattle.std.proofs.lemmas.Grind.{flat_map-append}
-use Rattle.fm_records_query.specs.Plan.{Plan}
-use Rattle.fm_records_query.specs.declared.fold.Fold.{Fold}
+use Rattle.std.{specs.{Prelude.{ℤ, ◌+ℤ◌}, List.{flat_map, list_all, AllZip}}, proofs.Math.{IntN.{+ℤ_assoc}, Nat.{mul-add-div_right}}}
+use Rattle.std.proofs.lemmas.{Nat.{div-add-mod'}, Int.{ints}, List.{take-append-le, drop-append-le, Elements.{filter-append}}, Grind.{flat_map-append}}
+use Rattle.fm_records_query.specs.{Plan.{Plan}, declared.{fold.Fold.{Fold}, item.{Asked.{Asked}, Item.{Item}}}}
 use Rattle.fm_records_query.specs.declared.fold.Fold.TheVariants as fold
-use Rattle.fm_records_query.specs.declared.item.Asked.{Asked}
 use Rattle.fm_records_query.specs.declared.item.Asked.TheVariants as asked
-use Rattle.fm_records_query.specs.declared.item.Item.{Item}
-use Rattle.fm_records.specs.declared.found.Found.TheVariants.{Count, Sum, Least, Greatest}
-use Rattle.fm_records.specs.Records.{pieces, records}
-use Rattle.fm_records.specs.Values.{numbers_in}
-use Rattle.fm_records.specs.Answers.{holds, chosen, sum_of, folded, found_in, item_found, found_over, answer}
-use Rattle.fm_records.specs.Joined.{both, joined}
-use Rattle.fm_records.specs.Texts.{IsFolded, IsFoundOf, IsItemFound, IsAnswerOf}
-use Rattle.fm_records.proofs.Ends.{least_of-append, greatest_of-append}
+use Rattle.fm_records.specs.{declared.found.Found.TheVariants.{Count, Sum, Least, Greatest}, Records.{pieces, records}, Values.{numbers_in}}
+use Rattle.fm_records.specs.{Answers.{holds, chosen, sum_of, folded, found_in, item_found, found_over, answer}, Joined.{both, joined}}
+use Rattle.fm_records.{specs.Texts.{IsFolded, IsFoundOf, IsItemFound, IsAnswerOf}, proofs.Ends.{least_of-append, greatest_of-append}}
 
 -- the pieces of two runs, the first of which is cut without a rest
 pub pieces-append : (j k size : ℕ) (a b : List ℕ) → length a ≡ j * size → pieces (j + k) size (a ++ b) ≡ pieces j size a ++ pieces k size b

@@ -1,8 +1,7 @@
 -- Words that are kept of a record, in the list that they stand in.
 use Rattle.std.proofs.Common.{◌≡◌, ℕ, ◌+◌, ◌<◌, ◌≤◌, Some, None, List, [], ◌∷◌, ◌++◌, length, take, drop, get_or, slice_set, sym, ap, ◌∙◌, arith}
 use Rattle.std.proofs.lemmas.List.{length-append, length-take-le, take-append-drop, take-append-le, take-take, take_all, take_more, take_more_set}
-use Rattle.fm_records.specs.Words.{Seen, found_at, kept_all, most_words}
-use Rattle.fm_records.proofs.ByWords.{found_behind, found_first, found_one, found_other}
+use Rattle.fm_records.{specs.Words.{Seen, found_at, kept_all, most_words}, proofs.ByWords.{found_behind, found_first, found_one, found_other}}
 
 -- one more stands behind those before it
 pub kept_more : {kept : List Seen} (words : List Seen) (len : ℕ) (x : Seen) → take len words ≡ kept → length words ≡ 64 → len < 64

@@ -1,38 +1,17 @@
 -- What a caller learns of a query, from what it did; and what the only caller sees.
-use Rattle.std.proofs.Common.{◌≡◌, ℕ, Ok, Err, List, [], ◌∷◌, get_or, refl, sym, ap, ◌∙◌, subst, None, Result, IfOk}
-use Rattle.std.specs.List.{flat_map}
-use Rattle.fm_base.specs.declared.caller.Caller.{Caller}
-use Rattle.fm_base.specs.declared.refusal.Refusal.{Refusal}
-use Rattle.fm_base.specs.declared.refusal.Refusal.TheVariants.{Ragged, WrongThread, Closed, Memory}
-use Rattle.fm_base.specs.Arenas.{State, Arena, arena_of, changed, word_in}
-use Rattle.fm_base.specs.Calls.{Enter, Read, Leave, Found as Found_word, Entry}
-use Rattle.fm_base.specs.Histories.{IsLegal, state_after}
+use Rattle.std.{proofs.Common.{◌≡◌, ℕ, Ok, Err, List, [], ◌∷◌, get_or, refl, sym, ap, ◌∙◌, subst, None, Result, IfOk}, specs.{List.{flat_map}, Prelude.{IfErr}}}
+use Rattle.fm_base.specs.declared.{caller.Caller.{Caller}, refusal.Refusal.{Refusal, TheVariants.{Ragged, WrongThread, Closed, Memory}}}
+use Rattle.fm_base.specs.{Arenas.{State, Arena, arena_of, changed, word_in}, Calls.{Enter, Read, Leave, Found as Found_word, Entry}}
+use Rattle.fm_base.specs.{Histories.{IsLegal, state_after}, Machine.{entered}, View.{View, Makes, Did, IsByItself, inside_after}, Visits.{refused_visit}}
+use Rattle.fm_base.proofs.{Faith.{Makes-alone}, Lookup.{lookup_changed}, Making.{IsLegal-split, state_after-append}, Outcomes.{Did-lasts}}
 use Rattle.fm_base_bytes.specs.Words.{byte_of}
-use Rattle.fm_base.specs.Machine.{entered}
-use Rattle.fm_base.specs.View.{View, Makes, Did, IsByItself, inside_after}
-use Rattle.fm_base.specs.Visits.{refused_visit}
-use Rattle.fm_base.proofs.Faith.{Makes-alone}
-use Rattle.fm_base.proofs.Lookup.{lookup_changed}
-use Rattle.fm_base.proofs.Making.{IsLegal-split, state_after-append}
 use Rattle.fm_segment_access.proofs.Visits.{visit_stays, visit_refused}
-use Rattle.fm_segment.specs.Access.{IsKnown}
-use Rattle.fm_segment.specs.Region.{Region}
+use Rattle.fm_segment.{specs.{Access.{IsKnown}, Region.{Region}}, proofs.Access.{known_still}}
 use Rattle.fm_records_query.specs.Plan.{Plan, IsPlan}
-use Rattle.fm_records.specs.declared.found.Found.{Found}
-use Rattle.fm_records.specs.Alone.{bytes_at_places, FindsAnswer, FindsNone}
-use Rattle.fm_records.specs.Bytes.{FindAs}
-use Rattle.fm_records.specs.Query.{DoesQuery, QueryCause}
-use Rattle.fm_records.specs.Reads.{AreReads, read_visit}
-use Rattle.fm_records.proofs.AnsweringBytes.{answer_of_bytes, length-places, word_at_places}
+use Rattle.fm_records.specs.{declared.found.Found.{Found}, Alone.{bytes_at_places, FindsAnswer, FindsNone}, Bytes.{FindAs}, Query.{DoesQuery, QueryCause}}
+use Rattle.fm_records.{specs.{Reads.{AreReads, read_visit}, Few.{AreFew}}, proofs.AnsweringBytes.{answer_of_bytes, length-places, word_at_places}}
+use Rattle.fm_records.{specs.{Learnt.{CanQuery, Queried}, Texts.{IsAnswerOf}}, proofs.{Few.{answers_few, few_answer}, Visiting.{reads_outside, stops_outside}}}
 use Rattle.fm_base_lists.proofs.Each.{all_both}
-use Rattle.std.specs.Prelude.{IfErr}
-use Rattle.fm_base.proofs.Outcomes.{Did-lasts}
-use Rattle.fm_segment.proofs.Access.{known_still}
-use Rattle.fm_records.specs.Few.{AreFew}
-use Rattle.fm_records.specs.Learnt.{CanQuery, Queried}
-use Rattle.fm_records.specs.Texts.{IsAnswerOf}
-use Rattle.fm_records.proofs.Few.{answers_few, few_answer}
-use Rattle.fm_records.proofs.Visiting.{reads_outside, stops_outside}
 
 -- ---- reads find what stands there, and leave all as it was
 

@@ -1,30 +1,17 @@
 -- No word of a record is read twice, where no path of a query has an open step.
 use Rattle.std.proofs.Common.{◌≡◌, ℕ, suc, ◌+◌, ◌*◌, ◌%◌, ◌≤◌, Bool, true, false, Option, None, Some, Result, Ok, Err, List, [], ◌∷◌, ◌++◌, length, map, take, refl, sym, ap, ◌∙◌, subst, append_assoc, inl, inr, arith}
-use Rattle.std.specs.Prelude.{ℤ}
-use Rattle.std.specs.List.{AllByRecursion}
-use Rattle.std.proofs.lemmas.Bool.{cases_lt}
-use Rattle.std.proofs.lemmas.List.{append-nil, length-append, length-map, map-append, take_all}
-use Rattle.fm_base.specs.declared.refusal.Refusal.{Refusal}
-use Rattle.fm_base.specs.declared.refusal.Refusal.TheVariants.{Closed, Memory}
-use Rattle.fm_base_lists.specs.Among.{AreApart, IsAmong}
-use Rattle.fm_base_lists.proofs.Among.{among_either, among_left}
+use Rattle.std.{specs.{Prelude.{ℤ}, List.{AllByRecursion}}, proofs.lemmas.{Bool.{cases_lt}, List.{append-nil, length-append, length-map, map-append, take_all}}}
+use Rattle.fm_base.specs.declared.refusal.Refusal.{Refusal, TheVariants.{Closed, Memory}}
+use Rattle.fm_base_lists.{specs.Among.{AreApart, IsAmong}, proofs.Among.{among_either, among_left}}
 use Rattle.fm_lanes.specs.Kind.{width_of}
-use Rattle.fm_path.specs.Wide.{wide_dims}
-use Rattle.fm_path.specs.declared.value_spec.ValueSpec.{ValueSpec}
-use Rattle.fm_path_meaning.specs.Walk.{offset_at}
-use Rattle.fm_path_meaning.specs.declared.dim.Dim.{Dim}
-use Rattle.fm_records_query.specs.Plan.{IsPlan, Plan}
-use Rattle.fm_records_query.specs.declared.condition.Condition.{Condition}
-use Rattle.fm_records_query.specs.declared.item.Asked.{Asked}
+use Rattle.fm_path.specs.{Wide.{wide_dims}, declared.value_spec.ValueSpec.{ValueSpec}}
+use Rattle.fm_path_meaning.specs.{Walk.{offset_at}, declared.dim.Dim.{Dim}}
+use Rattle.fm_records_query.specs.{Plan.{IsPlan, Plan}, declared.{condition.Condition.{Condition}, item.{Asked.{Asked}, Item.{Item}}}}
 use Rattle.fm_records_query.specs.declared.item.Asked.TheVariants as asked
-use Rattle.fm_records_query.specs.declared.item.Item.{Item}
-use Rattle.fm_records.specs.declared.found.Found.{Found}
-use Rattle.fm_records.specs.Laws.{IsFixed, ReadsWordsOnce}
+use Rattle.fm_records.specs.{declared.found.Found.{Found}, Laws.{IsFixed, ReadsWordsOnce}}
 use Rattle.fm_records.specs.Reads.{FindsAsked, FindsClosed, FindsRecord, InTurn, ReadsNumber, TakesNumber, TakesPath, Tests, TestsConditions, chosen, next_turn, no_turn, passed_over, short_turn, untested, value_places}
-use Rattle.fm_records.specs.Values.{index_lists}
-use Rattle.fm_records.specs.Words.{Seen, found_at, kept_after, kept_all, most_words, unkept, unless_found, words_at}
-use Rattle.fm_records.proofs.Getting.{found_mapped, words_across, words_inside}
-use Rattle.fm_records.proofs.Reaching.{wide_many}
+use Rattle.fm_records.specs.{Values.{index_lists}, Words.{Seen, found_at, kept_after, kept_all, most_words, unkept, unless_found, words_at}}
+use Rattle.fm_records.proofs.{Getting.{found_mapped, words_across, words_inside}, Reaching.{wide_many}}
 
 -- ---- lists in which nothing stands twice
 

@@ -1,16 +1,10 @@
 -- Elements that are gone through in order: some, and those behind them.
-use Rattle.std.proofs.Common.{◌≡◌, Result, Ok, Err, List, [], ◌∷◌, ◌++◌, refl, sym, ap, ◌∙◌, subst, append_assoc, inl, inr}
-use Rattle.std.specs.Prelude.{◌≢◌}
+use Rattle.std.{proofs.Common.{◌≡◌, Result, Ok, Err, List, [], ◌∷◌, ◌++◌, refl, sym, ap, ◌∙◌, subst, append_assoc, inl, inr}, specs.Prelude.{◌≢◌}}
 use Rattle.std.proofs.lemmas.List.{append-nil}
-use Rattle.fm_base.specs.declared.caller.Caller.{Caller}
-use Rattle.fm_base.specs.declared.refusal.Refusal.{Refusal}
-use Rattle.fm_base.specs.Calls.{Entry}
-use Rattle.fm_base.specs.View.{View}
+use Rattle.fm_base.specs.{declared.{caller.Caller.{Caller}, refusal.Refusal.{Refusal}}, Calls.{Entry}, View.{View}}
 use Rattle.fm_base_lists.specs.Among.{IsAmong}
 use Rattle.fm_segment.specs.Region.{Region}
-use Rattle.fm_records.specs.Adds.{Adds, all_added}
-use Rattle.fm_records.specs.Reads.{InOrder, all_done, one_more, comes_short, Reads}
-use Rattle.fm_records.proofs.Visiting.{reads_none, reads_on}
+use Rattle.fm_records.{specs.{Adds.{Adds, all_added}, Reads.{InOrder, all_done, one_more, comes_short, Reads}}, proofs.Visiting.{reads_none, reads_on}}
 
 module _ {A B R : Type 0} {goes : R} {T : A → R → List Entry → List B → Type 0} where
   -- all of some, and then others

@@ -1,19 +1,12 @@
 -- What the parts of a query have, that adding an item and testing a condition ask for.
 use Rattle.std.proofs.Common.{◌≡◌, ℕ, zero, suc, ◌+◌, ◌*◌, ◌<◌, ◌≤◌, List, [], ◌∷◌, length, map, refl, sym, ap, subst, arith}
-use Rattle.std.proofs.lemmas.List.{length-append, length-map}
-use Rattle.std.specs.List.{AllByRecursion, flat_map, range_with_len}
+use Rattle.std.{proofs.lemmas.List.{length-append, length-map}, specs.List.{AllByRecursion, flat_map, range_with_len}}
 use Rattle.fm_base_lists.proofs.Each.{all_weaker}
 use Rattle.fm_path_meaning.specs.declared.dim.Dim.{Dim}
 use Rattle.fm_segment.specs.Region.{Region}
-use Rattle.fm_records_query.specs.Plan.{Plan, value_count, AsksOf, IsPlan}
-use Rattle.fm_records_query.specs.declared.condition.Condition.{Condition}
-use Rattle.fm_records_query.specs.declared.item.Asked.{Asked}
+use Rattle.fm_records_query.specs.{Plan.{Plan, value_count, AsksOf, IsPlan}, declared.{condition.Condition.{Condition}, item.{Asked.{Asked}, Item.{Item}}}}
 use Rattle.fm_records_query.specs.declared.item.Asked.TheVariants as asked
-use Rattle.fm_records_query.specs.declared.item.Item.{Item}
-use Rattle.fm_records.specs.Few.{how_many}
-use Rattle.fm_records.specs.Adds.{IsItemReadable, IsReadable, IsTestable}
-use Rattle.fm_records.specs.Reads.{LiesIn}
-use Rattle.fm_records.specs.Values.{index_lists}
+use Rattle.fm_records.specs.{Few.{how_many}, Adds.{IsItemReadable, IsReadable, IsTestable}, Reads.{LiesIn}, Values.{index_lists}}
 
 -- ---- how many lists of indices there are
 

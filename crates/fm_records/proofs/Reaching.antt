@@ -1,27 +1,16 @@
 -- Values of a path reached index by index.
 use Rattle.std.proofs.Common.{◌≡◌, ℕ, suc, ◌+◌, ◌-◌, ◌*◌, ◌<◌, ◌≤◌, Bool, true, false, cond, Ok, Err, List, [], ◌∷◌, ◌++◌, length, map, take, drop, slice_index_or, refl, sym, ap, ◌∙◌, subst, arith}
-use Rattle.std.specs.Prelude.{ℤ, pos, negsuc, ◌≢◌}
-use Rattle.std.specs.List.{flat_map, range_with_len}
-use Rattle.std.proofs.lemmas.Bool.Decides.{nat_tests}
+use Rattle.std.{specs.{Prelude.{ℤ, pos, negsuc, ◌≢◌}, List.{flat_map, range_with_len}}, proofs.lemmas.Bool.Decides.{nat_tests}}
 use Rattle.std.proofs.lemmas.List.{append-nil, length-map, take_all}
-use Rattle.fm_base.specs.declared.refusal.Refusal.{Refusal}
-use Rattle.fm_base.specs.View.{View}
+use Rattle.fm_base.specs.{declared.refusal.Refusal.{Refusal}, View.{View}}
 use Rattle.fm_lanes.specs.Kind.{width_of}
-use Rattle.fm_path.specs.Wide.{is_wide, wide_dims}
-use Rattle.fm_path.specs.declared.value_spec.ValueSpec.{ValueSpec}
-use Rattle.fm_path_meaning.specs.declared.dim.Dim.{Dim}
-use Rattle.fm_path_meaning.specs.Steady.{IsInside, IsSteady}
-use Rattle.fm_path_meaning.specs.Walk.{AreAdmitted, offset_at, reach}
+use Rattle.fm_path.specs.{Wide.{is_wide, wide_dims}, declared.value_spec.ValueSpec.{ValueSpec}}
+use Rattle.fm_path_meaning.specs.{declared.dim.Dim.{Dim}, Steady.{IsInside, IsSteady}, Walk.{AreAdmitted, offset_at, reach}}
 use Rattle.fm_segment.specs.Region.{Region}
-use Rattle.fm_records.specs.declared.found.Found.{Found}
-use Rattle.fm_records.specs.Adds.{ReachesInside}
-use Rattle.fm_records.specs.Paths.{AddsAll, CanAddAll, HasIndices}
-use Rattle.fm_records.specs.Reads.{LiesIn, value_places}
-use Rattle.fm_records.specs.Values.{index_lists}
-use Rattle.fm_base_lists.proofs.Mapped.{flat_map-same}
-use Rattle.fm_records.proofs.Adding.{AreAdded, added_more, added_room, added_stops, places_by_first}
-use Rattle.fm_records.specs.Words.{Seen, kept_last}
+use Rattle.fm_records.specs.{declared.found.Found.{Found}, Adds.{ReachesInside}, Paths.{AddsAll, CanAddAll, HasIndices}, Reads.{LiesIn, value_places}}
+use Rattle.fm_records.{specs.{Values.{index_lists}, Words.{Seen, kept_last}}, proofs.Adding.{AreAdded, added_more, added_room, added_stops, places_by_first}}
 use Rattle.fm_records.proofs.Seeing.{sees_still}
+use Rattle.fm_base_lists.proofs.Mapped.{flat_map-same}
 
 -- indices behind a path's first open step
 pub some_behind : (d : Dim) (ds : List Dim) → HasIndices (d ∷ ds) → HasIndices ds

@@ -1,48 +1,25 @@
 -- What visits read, where each found the region's bytes as a list has them.
 use Rattle.std.proofs.Common.{◌≡◌, ℕ, zero, suc, ◌+◌, ◌-◌, ◌*◌, ◌/◌, ◌%◌, ◌<◌, ◌≤◌, Bool, true, false, if◌then◌else◌, ◌==◌, slice_index, Result, Ok, Some, List, [], ◌∷◌, ◌++◌, length, map, take, drop, get_or, refl, sym, ap, ◌∙◌, subst, append_assoc, inl, inr, arith}
-use Rattle.std.specs.Prelude.{ℤ, ◌&&◌, cond}
-use Rattle.std.specs.List.{AllByRecursion, flat_map, list_all}
-use Rattle.std.proofs.lemmas.Grind.{same_number_lists}
-use Rattle.std.proofs.lemmas.Bool.Decides.{nat_tests}
+use Rattle.std.{specs.{Prelude.{ℤ, ◌&&◌, cond}, List.{AllByRecursion, flat_map, list_all}}, proofs.lemmas.{Grind.{same_number_lists}, Bool.Decides.{nat_tests}}}
 use Rattle.std.proofs.lemmas.List.{append-nil, drop-drop, length-drop, length-take-le, get_or-take, get_or-drop, take-append-drop}
-use Rattle.std.proofs.lemmas.List.FromFn.{get_or-map-range_with_len, length-map-range_with_len}
-use Rattle.std.proofs.lemmas.List.Elements.{filter-append}
-use Rattle.fm_base.specs.declared.caller.Caller.{Caller}
-use Rattle.fm_base.specs.declared.refusal.Refusal.{Refusal}
-use Rattle.fm_base.specs.Calls.{Entry}
-use Rattle.fm_base_lists.proofs.Among.{each_mapped, map_among}
-use Rattle.fm_base_lists.proofs.Each.{all_both, all_snoc, all_split}
+use Rattle.std.proofs.lemmas.List.{FromFn.{get_or-map-range_with_len, length-map-range_with_len}, Elements.{filter-append}}
+use Rattle.fm_base.specs.{declared.{caller.Caller.{Caller}, refusal.Refusal.{Refusal}}, Calls.{Entry}}
+use Rattle.fm_base_lists.{proofs.{Among.{each_mapped, map_among}, Each.{all_both, all_snoc, all_split}}, specs.Among.{IsAmong}}
 use Rattle.fm_base_bytes.specs.Words.{byte_of}
-use Rattle.fm_lanes.specs.Coding.{value_of}
-use Rattle.fm_lanes.specs.Kind.{width_of}
-use Rattle.fm_lanes.specs.Value.{number_of_value}
-use Rattle.fm_path.specs.Resolution.{Resolution}
-use Rattle.fm_path.specs.Wide.{wide_dims}
-use Rattle.fm_path.specs.declared.value_spec.ValueSpec.{ValueSpec}
-use Rattle.fm_base_lists.specs.Among.{IsAmong}
-use Rattle.fm_path_meaning.specs.Walk.{AreAdmitted, offset_at}
-use Rattle.fm_path_meaning.specs.declared.dim.Dim.{Dim}
-use Rattle.fm_records_query.specs.Plan.{Plan, IsPlan, IsThrough, AsksOf, IsItemIn, IsConditionIn}
-use Rattle.fm_records_query.specs.declared.condition.Condition.{Condition}
-use Rattle.fm_records_query.specs.declared.item.Asked.{Asked}
+use Rattle.fm_lanes.specs.{Coding.{value_of}, Kind.{width_of}, Value.{number_of_value}}
+use Rattle.fm_path.specs.{Resolution.{Resolution}, Wide.{wide_dims}, declared.value_spec.ValueSpec.{ValueSpec}}
+use Rattle.fm_path_meaning.specs.{Walk.{AreAdmitted, offset_at}, declared.dim.Dim.{Dim}}
+use Rattle.fm_records_query.specs.{Plan.{Plan, IsPlan, IsThrough, AsksOf, IsItemIn, IsConditionIn}, declared.condition.Condition.{Condition}}
+use Rattle.fm_records_query.specs.declared.item.{Asked.{Asked}, Item.{Item}}
 use Rattle.fm_records_query.specs.declared.item.Asked.TheVariants as asked
-use Rattle.fm_records_query.specs.declared.item.Item.{Item}
-use Rattle.fm_segment.proofs.Alone.{take-part}
-use Rattle.fm_segment.specs.Region.{Region}
+use Rattle.fm_segment.{proofs.Alone.{take-part}, specs.Region.{Region}}
 use Rattle.fm_records.specs.declared.found.Found.{Found}
-use Rattle.fm_records.specs.Answers.{compares, folded, found_in, item_found, found_over}
-use Rattle.fm_records.specs.Answers.{holds as holds_for, chosen as chosen_of}
-use Rattle.fm_records.specs.Bytes.{FindAs, IsByteOf}
-use Rattle.fm_records.specs.Joined.{joined}
-use Rattle.fm_records.specs.Adds.{all_added}
+use Rattle.fm_records.specs.{Answers.{compares, folded, found_in, item_found, found_over, holds as holds_for, chosen as chosen_of}, Bytes.{FindAs, IsByteOf}}
+use Rattle.fm_records.specs.{Joined.{joined}, Adds.{all_added}}
 use Rattle.fm_records.specs.Reads.{LiesIn, value_places, ReadsNumber, InOrder, InTurn, all_done, one_more, comes_short, no_turn, next_turn, short_turn, TakesNumbers, TakesPath, Tests, TestsConditions, FindsAsked, FindsItems, FindsRecord, ReadsRecord, chosen, passed_over, untested, read_visit, record_places}
-use Rattle.fm_records.specs.Words.{Seen, byte_by, bytes_by, found_at, kept_after, kept_all, kept_last, most_words, or_zero}
-use Rattle.fm_records.specs.Records.{pieces}
-use Rattle.fm_records.specs.Values.{index_lists, number_there, number_at, numbers_in}
-use Rattle.fm_records.proofs.Indices.{listed_admitted}
-use Rattle.fm_records.proofs.Joining.{found_over-append}
-use Rattle.fm_records.proofs.Ordered.{all_added-append}
-use Rattle.fm_records.proofs.Getting.{IsFoundAmong, words_found}
+use Rattle.fm_records.specs.{Words.{Seen, byte_by, bytes_by, found_at, kept_after, kept_all, kept_last, most_words, or_zero}, Records.{pieces}}
+use Rattle.fm_records.{specs.Values.{index_lists, number_there, number_at, numbers_in}, proofs.{Indices.{listed_admitted}, Joining.{found_over-append}}}
+use Rattle.fm_records.proofs.{Ordered.{all_added-append}, Getting.{IsFoundAmong, words_found}}
 
 -- ---- runs of bytes of a region
 

@@ -1,31 +1,15 @@
 -- Records that are read in order, and the whole call.
 use Rattle.std.proofs.Common.{◌≡◌, ℕ, suc, ◌+◌, ◌-◌, ◌*◌, ◌/◌, ◌%◌, ◌<◌, ◌≤◌, Bool, true, false, Result, Ok, Err, List, [], ◌∷◌, ◌++◌, inl, inr, refl, sym, ap, ◌∙◌, subst, arith}
 use Rattle.std.proofs.Math.Nat.{div-mul-le_self, mul-le-mul_right, zero-div}
-use Rattle.fm_base.specs.declared.caller.Caller.{Caller}
-use Rattle.fm_base.specs.declared.arena_id.ArenaId.{ArenaId}
-use Rattle.fm_base.specs.declared.refusal.Refusal.{Refusal}
-use Rattle.fm_base.specs.declared.refusal.Refusal.TheVariants.{Closed, Memory}
-use Rattle.fm_base.specs.Arenas.{MayUse}
-use Rattle.fm_base.specs.View.{View, Did}
-use Rattle.fm_base.proofs.Making.{Makes-none}
+use Rattle.fm_base.specs.declared.{caller.Caller.{Caller}, arena_id.ArenaId.{ArenaId}, refusal.Refusal.{Refusal, TheVariants.{Closed, Memory}}}
+use Rattle.fm_base.{specs.{Arenas.{MayUse}, View.{View, Did}}, proofs.Making.{Makes-none}}
 use Rattle.fm_segment.specs.Region.{EndsByLimit, Region}
-use Rattle.fm_records_query.specs.Plan.{Plan, IsPlan}
-use Rattle.fm_records_query.specs.declared.condition.Condition.{Condition}
-use Rattle.fm_records_query.specs.declared.item.Item.{Item}
-use Rattle.fm_records.specs.declared.found.Found.{Found}
-use Rattle.fm_records.specs.Answers.{answer, found_over}
-use Rattle.fm_records.specs.Few.{AreFew, HaveRoom}
-use Rattle.fm_records.specs.Adds.{AddsItems, AddsRecords, all_added}
-use Rattle.fm_records.specs.Joined.{joined}
-use Rattle.fm_records.specs.Query.{DoesQuery, ReadsSegment}
+use Rattle.fm_records_query.specs.{Plan.{Plan, IsPlan}, declared.{condition.Condition.{Condition}, item.Item.{Item}}}
+use Rattle.fm_records.specs.{declared.found.Found.{Found}, Answers.{answer, found_over}, Few.{AreFew, HaveRoom}, Adds.{AddsItems, AddsRecords, all_added}}
+use Rattle.fm_records.specs.{Joined.{joined}, Query.{DoesQuery, ReadsSegment}}
 use Rattle.fm_records.specs.Reads.{AreReadsUpTo, FindsItems, FindsRecord, LiesIn, Reads, ReadsRecord, Sees, chosen, passed_over, untested, record_places, TestsConditions}
-use Rattle.fm_records.specs.Words.{Seen}
-use Rattle.fm_records.specs.Records.{pieces}
-use Rattle.fm_records.proofs.Behind.{length-record_places, places_split}
-use Rattle.fm_records.proofs.Few.{records_few}
-use Rattle.fm_records.proofs.Ordered.{adds_one, added_cut, added_none, added_on}
-use Rattle.fm_records.proofs.Seeing.{seen_reads, sees_err, sees_ok, sees_on}
-use Rattle.fm_records.proofs.Visiting.{AreReads-none}
+use Rattle.fm_records.{specs.{Words.{Seen}, Records.{pieces}}, proofs.{Behind.{length-record_places, places_split}, Few.{records_few}}}
+use Rattle.fm_records.proofs.{Ordered.{adds_one, added_cut, added_none, added_on}, Seeing.{seen_reads, sees_err, sees_ok, sees_on}, Visiting.{AreReads-none}}
 
 -- ---- one record
 

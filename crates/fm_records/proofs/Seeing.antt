@@ -1,23 +1,13 @@
 -- Visits that read words of a record, one call's behind another's.
 use Rattle.std.proofs.Common.{◌≡◌, ℕ, ◌+◌, ◌*◌, ◌/◌, ◌%◌, ◌<◌, ◌≤◌, None, Result, Ok, Err, List, [], ◌∷◌, ◌++◌, refl, sym, ap, ◌∙◌, subst, append_assoc, arith}
-use Rattle.std.specs.List.{flat_map}
-use Rattle.std.proofs.lemmas.List.{append-nil}
-use Rattle.std.proofs.lemmas.Grind.{flat_map-append}
+use Rattle.std.{specs.List.{flat_map}, proofs.lemmas.{List.{append-nil}, Grind.{flat_map-append}}}
 use Rattle.fm_base_lists.proofs.Each.{all_both}
-use Rattle.fm_base.specs.declared.caller.Caller.{Caller}
-use Rattle.fm_base.specs.declared.arena_id.ArenaId.{ArenaId}
-use Rattle.fm_base.specs.declared.refusal.Refusal.{Refusal}
-use Rattle.fm_base.specs.declared.refusal.Refusal.TheVariants.{Closed, Memory, WrongThread}
-use Rattle.fm_base.specs.Arenas.{MayUse}
-use Rattle.fm_base.specs.Calls.{Read, Leave, Fine, Found as Found_word, Entry}
-use Rattle.fm_base.specs.Does.{CanReach, DoesAct, DoesEnter}
-use Rattle.fm_base.specs.View.{View, Did, given_in}
-use Rattle.fm_base.specs.Visits.{refused_visit, visit}
-use Rattle.fm_base.proofs.Making.{Makes-none, Makes-then}
+use Rattle.fm_base.specs.declared.{caller.Caller.{Caller}, arena_id.ArenaId.{ArenaId}, refusal.Refusal.{Refusal, TheVariants.{Closed, Memory, WrongThread}}}
+use Rattle.fm_base.specs.{Arenas.{MayUse}, Calls.{Read, Leave, Fine, Found as Found_word, Entry}, Does.{CanReach, DoesAct, DoesEnter}}
+use Rattle.fm_base.{specs.{View.{View, Did, given_in}, Visits.{refused_visit, visit}}, proofs.Making.{Makes-none, Makes-then}}
 use Rattle.fm_base.proofs.Visiting.{can_reach, entered_makes, visit_of_one}
 use Rattle.fm_segment.specs.Region.{Region}
-use Rattle.fm_records.specs.Reads.{AreReadsTo, CanRead, Fetches, IsReadTo, IsWordOf, LiesIn, Sees, SeesWords, read_visit, visits_to}
-use Rattle.fm_records.specs.Words.{Seen}
+use Rattle.fm_records.specs.{Reads.{AreReadsTo, CanRead, Fetches, IsReadTo, IsWordOf, LiesIn, Sees, SeesWords, read_visit, visits_to}, Words.{Seen}}
 use Rattle.fm_records.proofs.Visiting.{can_still}
 
 -- ---- their entries

@@ -1,12 +1,8 @@
 -- What is left of an answer's lines, and of a line's numbers, while they are sent.
-use Rattle.std.proofs.Common.{◌≡◌, ℕ, ◌+◌, ◌<◌, ◌≤◌, List, [], ◌∷◌, ◌++◌, length, drop, get_or, inl, inr, refl, ap, sym, ◌∙◌, arith}
-use Rattle.std.specs.Prelude.{ℤ, min}
-use Rattle.std.specs.List.{flat_map}
-use Rattle.std.proofs.lemmas.Bool.{cases_lt}
-use Rattle.std.proofs.lemmas.List.{drop_more, drop_all}
+use Rattle.std.{proofs.Common.{◌≡◌, ℕ, ◌+◌, ◌<◌, ◌≤◌, List, [], ◌∷◌, ◌++◌, length, drop, get_or, inl, inr, refl, ap, sym, ◌∙◌, arith}, specs.Prelude.{ℤ, min}}
+use Rattle.std.{specs.List.{flat_map}, proofs.lemmas.{Bool.{cases_lt}, List.{drop_more, drop_all}}}
 use Rattle.fm_records_query.specs.declared.item.Item.{Item}
-use Rattle.fm_records.specs.declared.found.Found.{Found}
-use Rattle.fm_records.specs.Texts.{line_text, lines_text, number_text}
+use Rattle.fm_records.specs.{declared.found.Found.{Found}, Texts.{line_text, lines_text, number_text}}
 
 -- a line, and then those behind it
 pub next_line : (k : ℕ) (items : List Item) (found : List Found) (item : Item) (f : Found) → k < length items → k < length found

@@ -1,6 +1,5 @@
 -- A path's dims by how many there are.
-use Rattle.std.proofs.Common.{◌≡◌, ◌+◌, ◌<◌, ◌≤◌, ℕ, [], ◌∷◌, List, length, get_or, take, drop, pos, refl, ap, sym, arith}
-use Rattle.std.proofs.lemmas.List.{take_all}
+use Rattle.std.proofs.{Common.{◌≡◌, ◌+◌, ◌<◌, ◌≤◌, ℕ, [], ◌∷◌, List, length, get_or, take, drop, pos, refl, ap, sym, arith}, lemmas.List.{take_all}}
 use Rattle.fm_path_meaning.specs.declared.dim.Dim.{Dim}
 
 abbrev nothing : Dim

@@ -1,37 +1,20 @@
 -- Shares of a segment, each answered by Reads of one caller, which may have several.
 use Rattle.std.proofs.Common.{◌≡◌, ℕ, ◌+◌, ◌-◌, ◌*◌, ◌/◌, ◌%◌, ◌<◌, ◌≤◌, Bool, Some, List, [], ◌∷◌, ◌++◌, length, get_or, map, refl, sym, ap, ◌∙◌, subst, inl, inr, arith}
-use Rattle.std.specs.Prelude.{filter}
-use Rattle.fm_base_lists.proofs.Among.{among_kept}
-use Rattle.fm_base_lists.proofs.Each.{all_among, all_of_among, all_split}
-use Rattle.std.specs.List.{AllByRecursion, range_with_len, slice_get}
-use Rattle.std.proofs.Math.Nat.{zero-div}
-use Rattle.std.proofs.lemmas.List.{map-append}
+use Rattle.std.{specs.{Prelude.{filter}, List.{AllByRecursion, range_with_len, slice_get}}, proofs.{Math.Nat.{zero-div}, lemmas.List.{map-append}}}
 use Rattle.std.proofs.lemmas.Nat.{div-add-mod'}
-use Rattle.fm_base.specs.Arenas.{State, arena_of}
-use Rattle.fm_base.specs.declared.arena_id.ArenaId.{ArenaId}
-use Rattle.fm_base.specs.declared.caller.Caller.{Caller}
-use Rattle.fm_base.specs.Calls.{Read, Entry}
-use Rattle.fm_base.specs.Histories.{made_by}
+use Rattle.fm_base_lists.proofs.{Among.{among_kept}, Each.{all_among, all_of_among, all_split}}
+use Rattle.fm_base.specs.{Arenas.{State, arena_of}, declared.{arena_id.ArenaId.{ArenaId}, caller.Caller.{Caller}}, Calls.{Read, Entry}, Histories.{made_by}}
+use Rattle.fm_base.{specs.Untouched.{FindsByte}, proofs.Untouched.{spared_found as byte_found}}
 use Rattle.fm_base_bytes.specs.Words.{byte_at, byte_of}
 use Rattle.fm_path.specs.Resolution.{Resolution}
 use Rattle.fm_records_query.specs.Plan.{Plan, IsPlan}
 use Rattle.fm_segment.specs.Region.{Region, part_of}
-use Rattle.fm_base.specs.Untouched.{FindsByte}
-use Rattle.fm_base.proofs.Untouched.{spared_found as byte_found}
-use Rattle.fm_records.specs.Alone.{bytes_at_places}
-use Rattle.fm_records.specs.Answers.{answer, found_over}
-use Rattle.fm_records.specs.Bytes.{HasRead, FindsAs, FindAs, IsAnswered}
-use Rattle.fm_records.specs.Few.{AreFew}
-use Rattle.fm_records.specs.Joined.{joined}
-use Rattle.fm_records.specs.Laws.{IsAsked}
-use Rattle.fm_records.specs.Records.{records, pieces}
+use Rattle.fm_records.specs.{Alone.{bytes_at_places}, Answers.{answer, found_over}, Bytes.{HasRead, FindsAs, FindAs, IsAnswered}, Few.{AreFew}, Joined.{joined}}
+use Rattle.fm_records.specs.{Laws.{IsAsked}, Records.{records, pieces}}
 use Rattle.fm_records.specs.Shares.{IsSpared, IsRunOf, SparedAreFound, Share, IsDone, behind, IsFirst, all_joined, SharesJoin, SharesAnswer, SharesRead}
-use Rattle.fm_records.proofs.Behind.{get_split, length-pieces, less_times, range_append}
-use Rattle.fm_records.proofs.AnsweringBytes.{answer_of_bytes, length-places, word_at_places}
-use Rattle.fm_records.proofs.Covering.{asked_is_read, read_left, read_right}
-use Rattle.fm_records.proofs.Few.{answers_few, few_join, nothing_few}
-use Rattle.fm_records.proofs.Joining.{records-append, answer-append}
-use Rattle.fm_records.proofs.Recording.{answer-none}
+use Rattle.fm_records.proofs.{Behind.{get_split, length-pieces, less_times, range_append}, AnsweringBytes.{answer_of_bytes, length-places, word_at_places}}
+use Rattle.fm_records.proofs.{Covering.{asked_is_read, read_left, read_right}, Few.{answers_few, few_join, nothing_few}}
+use Rattle.fm_records.proofs.{Joining.{records-append, answer-append}, Recording.{answer-none}}
 
 -- ---- Reads of bytes that all spare
 

@@ -2,11 +2,9 @@
 use Rattle.std.proofs.Common.{ℕ, List, ap, ◌∙◌}
 use Rattle.fm_layout.specs.Tree.{Tree, Value, Padding, Sequence, Struct, Union}
 use Rattle.fm_path_meaning.specs.Walk.{AreAdmitted, offset_at}
-use Rattle.fm_path.specs.Resolution.{Resolution, IsResolved, IsSpecOf}
-use Rattle.fm_path.specs.declared.value_spec.ValueSpec.{ValueSpec}
+use Rattle.fm_path.specs.{Resolution.{Resolution, IsResolved, IsSpecOf}, declared.value_spec.ValueSpec.{ValueSpec}}
 use Rattle.fm_path_text.specs.declared.step.PathStep.{PathStep}
-use Rattle.fm_records.specs.Laws.{IsNumberOf, StandsAt}
-use Rattle.fm_records.specs.Values.{number_there, number_at}
+use Rattle.fm_records.specs.{Laws.{IsNumberOf, StandsAt}, Values.{number_there, number_at}}
 
 number_of_spec : (t : Tree) (v : ValueSpec) (at : ℕ) (bytes : List ℕ) → IsSpecOf t v → IsNumberOf t at bytes (number_there v.kind v.order at bytes)
 number_of_spec (Value k o l) v at bytes is =

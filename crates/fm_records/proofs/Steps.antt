@@ -1,11 +1,8 @@
 -- Joining item by item: listed numbers on the way in, the rest on the way out.
 use Rattle.std.proofs.Common.{◌≡◌, ℕ, zero, suc, ◌+◌, ◌-◌, ◌<◌, ◌≤◌, List, Vec, [], ◌∷◌, ◌++◌, length, vec_len, take, drop, get_or, set, refl, sym, ap, ◌∙◌, subst, append_assoc, length-append, length-drop, arith}
 use Rattle.std.proofs.lemmas.List.{take_more_set, drop-set-lt, drop_more, set_at, get_or_at, take_at, set-set, set-get_or, get_or-set_same, get_or_default, length-take-le, nil_from_length, take-append-drop}
-use Rattle.std.specs.declared.alloc.Global.{Global}
-use Rattle.std.specs.List.{AllZip}
-use Rattle.std.proofs.lemmas.Slice.Zip.{AllZip-long}
-use Rattle.fm_records.specs.declared.found.Found.{Found}
-use Rattle.fm_records.specs.declared.found.Found.TheVariants.{Count, Sum, Least, Greatest, Listed}
+use Rattle.std.{specs.{declared.alloc.Global.{Global}, List.{AllZip}}, proofs.lemmas.Slice.Zip.{AllZip-long}}
+use Rattle.fm_records.specs.declared.found.Found.{Found, TheVariants.{Count, Sum, Least, Greatest, Listed}}
 use Rattle.fm_records.specs.Joined.{CanJoinFound, CanJoin, both, joined, lengthened, shortened, summed}
 
 -- what joining in two steps needs of what an item found in both runs

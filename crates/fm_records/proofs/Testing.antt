@@ -1,20 +1,14 @@
 -- Conditions that are tested in order, up to the first that fails.
 use Rattle.std.proofs.Common.{◌≡◌, ℕ, ◌+◌, ◌<◌, ◌≤◌, Bool, true, false, Result, Ok, Err, List, [], ◌∷◌, ◌++◌, length, take, drop, get_or, refl, sym, ap, ◌∙◌, subst, arith}
-use Rattle.std.specs.Prelude.{ℤ, ◌≢◌}
-use Rattle.std.proofs.lemmas.List.{take_more, take_all, take-append-drop}
-use Rattle.fm_base.specs.declared.refusal.Refusal.{Refusal}
-use Rattle.fm_base.specs.View.{View}
+use Rattle.std.{specs.Prelude.{ℤ, ◌≢◌}, proofs.lemmas.List.{take_more, take_all, take-append-drop}}
+use Rattle.fm_base.specs.{declared.refusal.Refusal.{Refusal}, View.{View}}
 use Rattle.fm_lanes.specs.Kind.{width_of}
 use Rattle.fm_path.specs.declared.value_spec.ValueSpec.{ValueSpec}
-use Rattle.fm_path_meaning.specs.Walk.{AreAdmitted, offset_at}
-use Rattle.fm_path_meaning.specs.declared.dim.Dim.{Dim}
+use Rattle.fm_path_meaning.specs.{Walk.{AreAdmitted, offset_at}, declared.dim.Dim.{Dim}}
 use Rattle.fm_segment.specs.Region.{Region}
 use Rattle.fm_records_query.specs.declared.condition.Condition.{Condition}
-use Rattle.fm_records.specs.Answers.{compares}
-use Rattle.fm_records.specs.Adds.{IsTestable}
-use Rattle.fm_records.specs.Reads.{no_turn, short_turn, GetsNumber, LiesIn, Sees, Tests, TestsConditions}
-use Rattle.fm_records.specs.Words.{Seen, kept_all}
-use Rattle.fm_records.proofs.Seeing.{sees_as, sees_err, sees_none, sees_ok, sees_on}
+use Rattle.fm_records.specs.{Answers.{compares}, Adds.{IsTestable}, Reads.{no_turn, short_turn, GetsNumber, LiesIn, Sees, Tests, TestsConditions}}
+use Rattle.fm_records.{specs.Words.{Seen, kept_all}, proofs.Seeing.{sees_as, sees_err, sees_none, sees_ok, sees_on}}
 use Rattle.fm_records.proofs.Turns.{in_turn_on, in_turn_cut, in_turn_one}
 
 -- a condition's value stands in the segment

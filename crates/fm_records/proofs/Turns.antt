@@ -1,15 +1,10 @@
 -- Elements that read words in turn: some, and those behind them.
-use Rattle.std.proofs.Common.{◌≡◌, Result, Ok, Err, List, [], ◌∷◌, ◌++◌, refl, sym, ap, ◌∙◌, subst, append_assoc}
-use Rattle.std.specs.Prelude.{◌≢◌}
+use Rattle.std.{proofs.Common.{◌≡◌, Result, Ok, Err, List, [], ◌∷◌, ◌++◌, refl, sym, ap, ◌∙◌, subst, append_assoc}, specs.Prelude.{◌≢◌}}
 use Rattle.std.proofs.lemmas.List.{append-nil}
-use Rattle.fm_base.specs.declared.refusal.Refusal.{Refusal}
-use Rattle.fm_base.specs.View.{View}
+use Rattle.fm_base.specs.{declared.refusal.Refusal.{Refusal}, View.{View}}
 use Rattle.fm_segment.specs.Region.{Region}
-use Rattle.fm_records.specs.Adds.{AddsTurn, all_added}
-use Rattle.fm_records.specs.Reads.{InTurn, no_turn, next_turn, short_turn, Sees}
-use Rattle.fm_records.specs.Words.{Seen}
-use Rattle.fm_records.proofs.Ordered.{all_added-append}
-use Rattle.fm_records.proofs.Seeing.{sees_as, sees_none, sees_on}
+use Rattle.fm_records.specs.{Adds.{AddsTurn, all_added}, Reads.{InTurn, no_turn, next_turn, short_turn, Sees}, Words.{Seen}}
+use Rattle.fm_records.proofs.{Ordered.{all_added-append}, Seeing.{sees_as, sees_none, sees_on}}
 
 module _ {A B R : Type 0} {goes : R} {T : List Seen → A → R → List Seen → List B → List Seen → Type 0} where
   -- all of some, and then others

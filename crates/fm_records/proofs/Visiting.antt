@@ -1,21 +1,11 @@
 -- Visits that read words of a segment, one call's behind another's.
-use Rattle.std.proofs.Common.{◌≡◌, ℕ, None, Result, Ok, Err, List, [], ◌∷◌, ◌++◌, refl, sym, ap, ◌∙◌, subst, append_assoc}
-use Rattle.std.specs.List.{flat_map}
-use Rattle.std.proofs.lemmas.List.{append-nil}
-use Rattle.std.proofs.lemmas.Grind.{flat_map-append}
+use Rattle.std.{proofs.Common.{◌≡◌, ℕ, None, Result, Ok, Err, List, [], ◌∷◌, ◌++◌, refl, sym, ap, ◌∙◌, subst, append_assoc}, specs.List.{flat_map}}
+use Rattle.std.proofs.lemmas.{List.{append-nil}, Grind.{flat_map-append}}
 use Rattle.fm_base_lists.proofs.Each.{all_both}
-use Rattle.fm_base.specs.declared.caller.Caller.{Caller}
-use Rattle.fm_base.specs.declared.arena_id.ArenaId.{ArenaId}
-use Rattle.fm_base.specs.declared.refusal.Refusal.{Refusal}
-use Rattle.fm_base.specs.declared.refusal.Refusal.TheVariants.{Closed, Memory}
-use Rattle.fm_base.specs.Arenas.{MayUse}
-use Rattle.fm_base.specs.Calls.{Entry}
-use Rattle.fm_base.specs.View.{View, Did, inside_after}
-use Rattle.fm_base.specs.Visits.{refused_visit}
-use Rattle.fm_base.proofs.Making.{Makes-none, Makes-then}
+use Rattle.fm_base.specs.declared.{caller.Caller.{Caller}, arena_id.ArenaId.{ArenaId}, refusal.Refusal.{Refusal, TheVariants.{Closed, Memory}}}
+use Rattle.fm_base.{specs.{Arenas.{MayUse}, Calls.{Entry}, View.{View, Did, inside_after}, Visits.{refused_visit}}, proofs.Making.{Makes-none, Makes-then}}
 use Rattle.fm_base.proofs.Outcomes.{Makes-lasts}
-use Rattle.fm_segment.specs.Region.{Region}
-use Rattle.fm_segment.proofs.Access.{known_still}
+use Rattle.fm_segment.{specs.Region.{Region}, proofs.Access.{known_still}}
 use Rattle.fm_records.specs.Reads.{CanRead, IsWordOf, read_visit, AreReads, StopsReading, AreReadsTo, Reads}
 
 pub AreReads-none : (c : Caller) (s : Region) → AreReads c s []

@@ -1,27 +1,14 @@
 -- What reading asks of paths, and what is added to what was found before.
 use Rattle.std.specs.Prelude.{◌≡◌, ℕ, ◌+◌, List, [], ◌∷◌, ◌++◌, ℤ, ◌+ℤ◌, Some, Result, Ok}
-use Rattle.fm_base.specs.declared.caller.Caller.{Caller}
-use Rattle.fm_base.specs.declared.arena_id.ArenaId.{ArenaId}
-use Rattle.fm_base.specs.declared.refusal.Refusal.{Refusal}
-use Rattle.fm_base.specs.Calls.{Entry}
+use Rattle.fm_base.specs.{declared.{caller.Caller.{Caller}, arena_id.ArenaId.{ArenaId}, refusal.Refusal.{Refusal}}, Calls.{Entry}}
 use Rattle.fm_lanes.specs.Kind.{width_of}
-use Rattle.fm_path.specs.Resolution.{StaysInside}
-use Rattle.fm_path.specs.declared.value_spec.ValueSpec.{ValueSpec}
-use Rattle.fm_path_meaning.specs.declared.dim.Dim.{Dim}
-use Rattle.fm_path_meaning.specs.Steady.{IsSteady}
-use Rattle.fm_path_meaning.specs.Walk.{AreAdmitted, offset_at}
+use Rattle.fm_path.specs.{Resolution.{StaysInside}, declared.value_spec.ValueSpec.{ValueSpec}}
+use Rattle.fm_path_meaning.specs.{declared.dim.Dim.{Dim}, Steady.{IsSteady}, Walk.{AreAdmitted, offset_at}}
 use Rattle.fm_segment.specs.Region.{Region}
-use Rattle.fm_records_query.specs.Plan.{Plan}
-use Rattle.fm_records_query.specs.declared.condition.Condition.{Condition}
-use Rattle.fm_records_query.specs.declared.item.Asked.{Asked}
+use Rattle.fm_records_query.specs.{Plan.{Plan}, declared.{condition.Condition.{Condition}, item.{Asked.{Asked}, Item.{Item}}}}
 use Rattle.fm_records_query.specs.declared.item.Asked.TheVariants as asked
-use Rattle.fm_records_query.specs.declared.item.Item.{Item}
-use Rattle.fm_records.specs.declared.found.Found.{Found}
-use Rattle.fm_records.specs.declared.found.Found.TheVariants.{Count, Sum, Least, Greatest, Listed}
-use Rattle.fm_records.specs.Answers.{lesser, greater}
-use Rattle.fm_records.specs.Joined.{both, joined}
-use Rattle.fm_records.specs.Reads.{FindsAsked, FindsItems, InOrder, InTurn, LiesIn, ReadsRecord, TakesNumber}
-use Rattle.fm_records.specs.Words.{Seen}
+use Rattle.fm_records.specs.{declared.found.Found.{Found, TheVariants.{Count, Sum, Least, Greatest, Listed}}, Answers.{lesser, greater}, Joined.{both, joined}}
+use Rattle.fm_records.specs.{Reads.{FindsAsked, FindsItems, InOrder, InTurn, LiesIn, ReadsRecord, TakesNumber}, Words.{Seen}}
 
 -- the condition's one value stands in the segment, where its record begins at the place
 pub record IsTestable (s : Region) (place : ℕ) (x : Condition) : Type 0 where

@@ -1,15 +1,10 @@
 -- What the only caller of a memory sees of a query.
-use Rattle.std.specs.Prelude.{◌≡◌, ◌≢◌, ℕ, List, map}
-use Rattle.std.specs.List.{range_with_len}
-use Rattle.fm_base.specs.declared.refusal.Refusal.{Refusal}
-use Rattle.fm_base.specs.declared.refusal.Refusal.TheVariants.{Closed}
-use Rattle.fm_base.specs.Arenas.{Alive, State, arena_of}
+use Rattle.std.specs.{Prelude.{◌≡◌, ◌≢◌, ℕ, List, map}, List.{range_with_len}}
+use Rattle.fm_base.specs.{declared.refusal.Refusal.{Refusal, TheVariants.{Closed}}, Arenas.{Alive, State, arena_of}, View.{View}}
 use Rattle.fm_base_bytes.specs.Words.{byte_at}
-use Rattle.fm_base.specs.View.{View}
 use Rattle.fm_segment.specs.Region.{Region}
 use Rattle.fm_records_query.specs.Plan.{Plan}
-use Rattle.fm_records.specs.declared.found.Found.{Found}
-use Rattle.fm_records.specs.Answers.{answer}
+use Rattle.fm_records.specs.{declared.found.Found.{Found}, Answers.{answer}}
 
 -- the bytes at the region's places, the first one first
 abbrev pub bytes_at_places : State → Region → List ℕ

@@ -1,21 +1,11 @@
 -- What a query answers over records.
-use Rattle.std.specs.Prelude.{ℕ, List, [], ◌∷◌, length, map, filter, Bool, not, ℤ, pos, ◌+ℤ◌, int_lt, int_le, Option, Some, None}
-use Rattle.std.specs.Int.{int_min, int_max}
-use Rattle.std.specs.List.{flat_map, list_all}
-use Rattle.std.specs.Ordering.{int_eq}
-use Rattle.fm_records_query.specs.Plan.{Plan}
-use Rattle.fm_records_query.specs.declared.condition.Condition.{Condition}
-use Rattle.fm_records_query.specs.declared.fold.Fold.{Fold}
+use Rattle.std.specs.{Prelude.{ℕ, List, [], ◌∷◌, length, map, filter, Bool, not, ℤ, pos, ◌+ℤ◌, int_lt, int_le, Option, Some, None}, Int.{int_min, int_max}}
+use Rattle.std.specs.{List.{flat_map, list_all}, Ordering.{int_eq}}
+use Rattle.fm_records_query.specs.{Plan.{Plan}, declared.{condition.Condition.{Condition}, fold.Fold.{Fold}, item.{Asked.{Asked}, Item.{Item}}}}
+use Rattle.fm_records_query.specs.declared.operator.Operator.{Operator, TheVariants.{Equal, NotEqual, Below, AtMost, Above, AtLeast}}
 use Rattle.fm_records_query.specs.declared.fold.Fold.TheVariants as fold
-use Rattle.fm_records_query.specs.declared.item.Asked.{Asked}
 use Rattle.fm_records_query.specs.declared.item.Asked.TheVariants as asked
-use Rattle.fm_records_query.specs.declared.item.Item.{Item}
-use Rattle.fm_records_query.specs.declared.operator.Operator.{Operator}
-use Rattle.fm_records_query.specs.declared.operator.Operator.TheVariants.{Equal, NotEqual, Below, AtMost, Above, AtLeast}
-use Rattle.fm_records.specs.declared.found.Found.{Found}
-use Rattle.fm_records.specs.declared.found.Found.TheVariants.{Count, Sum, Least, Greatest, Listed}
-use Rattle.fm_records.specs.Records.{records}
-use Rattle.fm_records.specs.Values.{number_at, numbers_in}
+use Rattle.fm_records.specs.{declared.found.Found.{Found, TheVariants.{Count, Sum, Least, Greatest, Listed}}, Records.{records}, Values.{number_at, numbers_in}}
 
 -- ---- which records are chosen
 

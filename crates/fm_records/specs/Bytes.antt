@@ -1,15 +1,11 @@
 -- Reads that find the bytes of a region as a list has them.
-use Rattle.std.specs.Prelude.{◌≡◌, ℕ, ◌+◌, ◌-◌, ◌*◌, ◌<◌, ◌≤◌, List, length, slice_index, Ok}
-use Rattle.std.specs.List.{AllByRecursion}
-use Rattle.fm_base.specs.declared.caller.Caller.{Caller}
-use Rattle.fm_base.specs.declared.arena_id.ArenaId.{ArenaId}
-use Rattle.fm_base.specs.Calls.{Read, Found as Found_word, Entry, entry_of}
+use Rattle.std.specs.{Prelude.{◌≡◌, ℕ, ◌+◌, ◌-◌, ◌*◌, ◌<◌, ◌≤◌, List, length, slice_index, Ok}, List.{AllByRecursion}}
+use Rattle.fm_base.specs.{declared.{caller.Caller.{Caller}, arena_id.ArenaId.{ArenaId}}, Calls.{Read, Found as Found_word, Entry, entry_of}}
 use Rattle.fm_base_bytes.specs.Words.{byte_of}
 use Rattle.fm_base_lists.specs.Among.{IsAmong}
 use Rattle.fm_records_query.specs.Plan.{Plan, IsPlan}
 use Rattle.fm_segment.specs.Region.{Region}
-use Rattle.fm_records.specs.declared.found.Found.{Found}
-use Rattle.fm_records.specs.Query.{DoesQuery}
+use Rattle.fm_records.specs.{declared.found.Found.{Found}, Query.{DoesQuery}}
 
 -- byte `at` of the word, the lowest first, is one of the region
 pub record IsByteOf (s : Region) (word at : ℕ) : Type 0 where

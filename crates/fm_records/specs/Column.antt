@@ -1,18 +1,11 @@
 -- Queries of one item and no condition: the values of one path are a column, and records are counted without a look at them.
 use Rattle.std.specs.Prelude.{◌≡◌, ◌/◌, List, [], ◌∷◌, Result, Ok}
-use Rattle.fm_base.specs.declared.refusal.Refusal.{Refusal}
-use Rattle.fm_base.specs.View.{View}
-use Rattle.fm_path.specs.Resolution.{Resolution}
-use Rattle.fm_path.specs.Wide.{wide_dims}
+use Rattle.fm_base.specs.{declared.refusal.Refusal.{Refusal}, View.{View}}
+use Rattle.fm_path.specs.{Resolution.{Resolution}, Wide.{wide_dims}}
 use Rattle.fm_segment.specs.Region.{Region}
-use Rattle.fm_records_query.specs.Plan.{Plan, IsPlan}
-use Rattle.fm_records_query.specs.declared.fold.Fold.{Fold}
-use Rattle.fm_records_query.specs.declared.item.Asked.{Asked}
+use Rattle.fm_records_query.specs.{Plan.{Plan, IsPlan}, declared.{fold.Fold.{Fold}, item.{Asked.{Asked}, Item.{Item}}}}
 use Rattle.fm_records_query.specs.declared.item.Asked.TheVariants as asked
-use Rattle.fm_records_query.specs.declared.item.Item.{Item}
-use Rattle.fm_records.specs.declared.found.Found.{Found}
-use Rattle.fm_records.specs.Adds.{AddsRecords}
-use Rattle.fm_records.specs.Reads.{Reads, record_places}
+use Rattle.fm_records.specs.{declared.found.Found.{Found}, Adds.{AddsRecords}, Reads.{Reads, record_places}}
 
 -- the path's value is asked for, of which a record has one
 pub record AsksOne (a : Asked) (r : Resolution) : Type 0 where

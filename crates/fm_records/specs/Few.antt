@@ -1,19 +1,11 @@
 -- How far what a query finds can come.
-use Rattle.std.specs.Prelude.{ℕ, ◌+◌, ◌*◌, ◌^◌, ◌≤◌, List, length, ℤ, pos, ◌+ℤ◌, ◌≤ℤ◌, Ok, ⊤}
-use Rattle.std.specs.List.{AllZip}
-use Rattle.fm_base.specs.declared.caller.Caller.{Caller}
-use Rattle.fm_base.specs.Calls.{Entry}
-use Rattle.fm_records_query.specs.Plan.{Plan, IsPlan}
-use Rattle.fm_records_query.specs.declared.item.Asked.{Asked}
+use Rattle.std.specs.{Prelude.{ℕ, ◌+◌, ◌*◌, ◌^◌, ◌≤◌, List, length, ℤ, pos, ◌+ℤ◌, ◌≤ℤ◌, Ok, ⊤}, List.{AllZip}}
+use Rattle.fm_base.specs.{declared.caller.Caller.{Caller}, Calls.{Entry}}
+use Rattle.fm_records_query.specs.{Plan.{Plan, IsPlan}, declared.item.{Asked.{Asked}, Item.{Item}}}
 use Rattle.fm_records_query.specs.declared.item.Asked.TheVariants as asked
-use Rattle.fm_records_query.specs.declared.item.Item.{Item}
 use Rattle.fm_segment.specs.Region.{Region}
-use Rattle.fm_records.specs.declared.found.Found.{Found}
-use Rattle.fm_records.specs.declared.found.Found.TheVariants.{Count, Sum, Least, Greatest, Listed}
-use Rattle.fm_records.specs.Joined.{CanJoin, joined}
-use Rattle.fm_records.specs.Query.{DoesQuery}
-use Rattle.fm_records.specs.Texts.{IsItemFound, IsAnswerOf}
-use Rattle.fm_records.specs.Values.{index_lists}
+use Rattle.fm_records.specs.{declared.found.Found.{Found, TheVariants.{Count, Sum, Least, Greatest, Listed}}, Joined.{CanJoin, joined}, Query.{DoesQuery}}
+use Rattle.fm_records.specs.{Texts.{IsItemFound, IsAnswerOf}, Values.{index_lists}}
 
 -- a sum of at most n numbers of 64 bits
 pub record IsSumBy (n : ℕ) (x : ℤ) : Type 0 where

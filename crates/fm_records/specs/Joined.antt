@@ -1,10 +1,6 @@
 -- The answer over two runs of records, from the answers over each.
-use Rattle.std.specs.Prelude.{◌+◌, ◌^◌, ◌<◌, List, [], ◌∷◌, ◌++◌, length, take, ◌-◌, ◌+ℤ◌, FitsSigned, ⊤}
-use Rattle.std.specs.Int.{w128}
-use Rattle.std.specs.List.{AllZip}
-use Rattle.fm_records.specs.declared.found.Found.{Found}
-use Rattle.fm_records.specs.declared.found.Found.TheVariants.{Count, Sum, Least, Greatest, Listed}
-use Rattle.fm_records.specs.Answers.{lesser, greater}
+use Rattle.std.specs.{Prelude.{◌+◌, ◌^◌, ◌<◌, List, [], ◌∷◌, ◌++◌, length, take, ◌-◌, ◌+ℤ◌, FitsSigned, ⊤}, Int.{w128}, List.{AllZip}}
+use Rattle.fm_records.specs.{declared.found.Found.{Found, TheVariants.{Count, Sum, Least, Greatest, Listed}}, Answers.{lesser, greater}}
 
 -- both of one item, and their counts or sums together within 64 or 128 bits
 abbrev pub CanJoinFound : Found → Found → Type 0

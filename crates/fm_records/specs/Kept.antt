@@ -1,7 +1,6 @@
 -- Changes that memory may be wanting for.
 use Rattle.std.specs.Prelude.{◌≡◌, Result, OnOk, OnErr, IfErr}
-use Rattle.fm_base.specs.declared.refusal.Refusal.{Refusal}
-use Rattle.fm_base.specs.declared.refusal.Refusal.TheVariants.{Memory}
+use Rattle.fm_base.specs.declared.refusal.Refusal.{Refusal, TheVariants.{Memory}}
 
 -- it has become the next; or `Memory` refuses it, and it is as it was
 pub record Becomes {X : Type 0} (old new next : X) (result : Result (Unit {0}) Refusal) : Type 0 where

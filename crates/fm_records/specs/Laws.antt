@@ -1,36 +1,19 @@
 -- What holds of every answer.
 use Rattle.std.specs.Prelude.{◌≡◌, ℕ, ◌+◌, ◌*◌, ◌%◌, ◌<◌, ◌≤◌, ◌↔◌, true, List, [], ◌++◌, length, ℤ, ◌≤ℤ◌, Some, MatchOption, Result, map}
 use Rattle.std.specs.List.{AllByRecursion, list_all, slice_get}
-use Rattle.fm_base.specs.declared.arena_id.ArenaId.{ArenaId}
-use Rattle.fm_base.specs.declared.caller.Caller.{Caller}
-use Rattle.fm_base.specs.declared.refusal.Refusal.{Refusal}
-use Rattle.fm_base.specs.Arenas.{State}
-use Rattle.fm_base.specs.Calls.{Entry}
+use Rattle.fm_base.specs.{declared.{arena_id.ArenaId.{ArenaId}, caller.Caller.{Caller}, refusal.Refusal.{Refusal}}, Arenas.{State}, Calls.{Entry}}
 use Rattle.fm_lanes.specs.Kind.{width_of}
 use Rattle.fm_layout.specs.Tree.{Tree, Value}
-use Rattle.fm_path_meaning.specs.Found.{Finds}
+use Rattle.fm_path_meaning.specs.{Found.{Finds}, Walk.{AreAdmitted, offset_at}, declared.dim.Dim.{Dim}}
 use Rattle.fm_base_lists.specs.Among.{AreApart, IsAmong}
-use Rattle.fm_path_meaning.specs.Walk.{AreAdmitted, offset_at}
-use Rattle.fm_path_meaning.specs.declared.dim.Dim.{Dim}
-use Rattle.fm_path.specs.Resolution.{Resolution, IsResolved}
-use Rattle.fm_path.specs.Wide.{wide_dims}
+use Rattle.fm_path.specs.{Resolution.{Resolution, IsResolved}, Wide.{wide_dims}}
 use Rattle.fm_path_text.specs.declared.step.PathStep.{PathStep}
 use Rattle.fm_segment_access.specs.Alone.{bytes_of_arena}
-use Rattle.fm_segment.specs.Alone.{bytes_of_region}
-use Rattle.fm_segment.specs.Region.{Region, part_of}
-use Rattle.fm_records_query.specs.Plan.{IsPlan, Plan}
-use Rattle.fm_records_query.specs.declared.fold.Fold.{Fold}
-use Rattle.fm_records_query.specs.declared.item.Asked.{Asked}
+use Rattle.fm_segment.specs.{Alone.{bytes_of_region}, Region.{Region, part_of}}
+use Rattle.fm_records_query.specs.{Plan.{IsPlan, Plan}, declared.{fold.Fold.{Fold}, item.{Asked.{Asked}, Item.{Item}}}}
 use Rattle.fm_records_query.specs.declared.item.Asked.TheVariants as asked
-use Rattle.fm_records_query.specs.declared.item.Item.{Item}
-use Rattle.fm_records.specs.declared.found.Found.{Found}
-use Rattle.fm_records.specs.Alone.{bytes_at_places}
-use Rattle.fm_records.specs.Answers.{answer, holds, least_of, greatest_of}
-use Rattle.fm_records.specs.Bytes.{HasRead, IsAnswered}
-use Rattle.fm_records.specs.Joined.{joined}
-use Rattle.fm_records.specs.Reads.{IsWordOf, ReadsRecord}
-use Rattle.fm_records.specs.Records.{records}
-use Rattle.fm_records.specs.Texts.{IsAnswerOf}
+use Rattle.fm_records.specs.{declared.found.Found.{Found}, Alone.{bytes_at_places}, Answers.{answer, holds, least_of, greatest_of}, Bytes.{HasRead, IsAnswered}}
+use Rattle.fm_records.specs.{Joined.{joined}, Reads.{IsWordOf, ReadsRecord}, Records.{records}, Texts.{IsAnswerOf}}
 use Rattle.fm_records.specs.Values.{index_lists, number_there, number_at}
 
 -- the number of a place that is a value layout

@@ -1,16 +1,9 @@
 -- What a query over a segment asks for, and what its caller learns: one record each.
 use Rattle.std.specs.Prelude.{◌≡◌, ◌%◌, List, None, Result, IfOk, IfErr}
-use Rattle.fm_base.specs.declared.refusal.Refusal.{Refusal}
-use Rattle.fm_base.specs.Outcomes.{Lasts}
-use Rattle.fm_base.specs.View.{View, Did, IsByItself}
+use Rattle.fm_base.specs.{declared.refusal.Refusal.{Refusal}, Outcomes.{Lasts}, View.{View, Did, IsByItself}}
 use Rattle.fm_records_query.specs.Plan.{Plan}
-use Rattle.fm_segment.specs.Access.{IsKnown}
-use Rattle.fm_segment.specs.Region.{Region}
-use Rattle.fm_records.specs.declared.found.Found.{Found}
-use Rattle.fm_records.specs.Alone.{FindsAnswer, FindsNone}
-use Rattle.fm_records.specs.Few.{AreFew}
-use Rattle.fm_records.specs.Query.{DoesQuery, QueryCause}
-use Rattle.fm_records.specs.Texts.{IsAnswerOf}
+use Rattle.fm_segment.specs.{Access.{IsKnown}, Region.{Region}}
+use Rattle.fm_records.specs.{declared.found.Found.{Found}, Alone.{FindsAnswer, FindsNone}, Few.{AreFew}, Query.{DoesQuery, QueryCause}, Texts.{IsAnswerOf}}
 
 -- in no arena; the memory knows the segment, and its first record is aligned
 pub record CanQuery (v : View) (p : Plan) (s : Region) : Type 0 where

@@ -1,17 +1,11 @@
 -- All values of a path in the record at a place: what adding them asks for, and what was added.
 use Rattle.std.specs.Prelude.{ℕ, List, length, Result}
-use Rattle.fm_base.specs.declared.refusal.Refusal.{Refusal}
-use Rattle.fm_base.specs.View.{View}
+use Rattle.fm_base.specs.{declared.refusal.Refusal.{Refusal}, View.{View}}
 use Rattle.fm_path.specs.declared.value_spec.ValueSpec.{ValueSpec}
-use Rattle.fm_path_meaning.specs.declared.dim.Dim.{Dim}
-use Rattle.fm_path_meaning.specs.Walk.{AreAdmitted}
+use Rattle.fm_path_meaning.specs.{declared.dim.Dim.{Dim}, Walk.{AreAdmitted}}
 use Rattle.fm_segment.specs.Region.{Region}
-use Rattle.fm_records.specs.declared.found.Found.{Found}
-use Rattle.fm_records.specs.Adds.{AddsNumbers, ReachesInside}
-use Rattle.fm_records.specs.Few.{HasRoom}
-use Rattle.fm_records.specs.Reads.{CanRead, Sees, value_places}
-use Rattle.fm_records.specs.Values.{index_lists}
-use Rattle.fm_records.specs.Words.{Seen}
+use Rattle.fm_records.specs.{declared.found.Found.{Found}, Adds.{AddsNumbers, ReachesInside}, Few.{HasRoom}, Reads.{CanRead, Sees, value_places}}
+use Rattle.fm_records.specs.{Values.{index_lists}, Words.{Seen}}
 
 -- some indices are admitted
 abbrev pub HasIndices : List Dim → Type 0

@@ -1,16 +1,10 @@
 -- What a query over a segment does.
 use Rattle.std.specs.Prelude.{◌≡◌, ◌/◌, ◌%◌, ◌<◌, ◌⊎◌, List, [], Result, Ok, Err}
-use Rattle.fm_base.specs.declared.caller.Caller.{Caller}
-use Rattle.fm_base.specs.declared.refusal.Refusal.{Refusal}
-use Rattle.fm_base.specs.declared.refusal.Refusal.TheVariants.{Ragged, WrongThread, Closed, Memory}
-use Rattle.fm_base.specs.Arenas.{MayUse}
+use Rattle.fm_base.specs.{declared.{caller.Caller.{Caller}, refusal.Refusal.{Refusal, TheVariants.{Ragged, WrongThread, Closed, Memory}}}, Arenas.{MayUse}}
 use Rattle.fm_base.specs.Calls.{Entry}
 use Rattle.fm_segment.specs.Region.{Region}
 use Rattle.fm_records_query.specs.Plan.{Plan}
-use Rattle.fm_records.specs.declared.found.Found.{Found}
-use Rattle.fm_records.specs.Answers.{found_over}
-use Rattle.fm_records.specs.Adds.{AddsRecords}
-use Rattle.fm_records.specs.Reads.{AreReads, StopsReading, record_places}
+use Rattle.fm_records.specs.{declared.found.Found.{Found}, Answers.{found_over}, Adds.{AddsRecords}, Reads.{AreReads, StopsReading, record_places}}
 
 -- the segment's records were read in order, as far as reading came, and their finds joined
 abbrev pub ReadsSegment : Caller → Plan → Region → List Found → Result (Unit {0}) Refusal → List Entry → Type 0

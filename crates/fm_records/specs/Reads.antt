@@ -1,31 +1,15 @@
 -- What the visits of a query read of a segment, record by record, up to its end or to a value where reading stops.
 use Rattle.std.specs.Prelude.{◌≡◌, ◌≢◌, ℕ, ◌+◌, ◌*◌, ◌<◌, ◌≤◌, List, [], ◌∷◌, ◌++◌, map, Bool, true, false, ℤ, Option, None, Some, Result, Ok, Err}
-use Rattle.std.proofs.Common.{zero, suc}
-use Rattle.std.specs.List.{AllByRecursion, flat_map}
-use Rattle.fm_base.specs.declared.caller.Caller.{Caller}
-use Rattle.fm_base.specs.declared.arena_id.ArenaId.{ArenaId}
-use Rattle.fm_base.specs.declared.refusal.Refusal.{Refusal}
-use Rattle.fm_base.specs.declared.refusal.Refusal.TheVariants.{Closed, Memory}
-use Rattle.fm_base.specs.Arenas.{MayUse}
-use Rattle.fm_base.specs.Calls.{Read, Found as Found_word, Entry}
-use Rattle.fm_base.specs.View.{View, Did}
-use Rattle.fm_base.specs.Visits.{visit, refused_visit}
+use Rattle.std.{proofs.Common.{zero, suc}, specs.List.{AllByRecursion, flat_map}}
+use Rattle.fm_base.specs.declared.{caller.Caller.{Caller}, arena_id.ArenaId.{ArenaId}, refusal.Refusal.{Refusal, TheVariants.{Closed, Memory}}}
+use Rattle.fm_base.specs.{Arenas.{MayUse}, Calls.{Read, Found as Found_word, Entry}, View.{View, Did}, Visits.{visit, refused_visit}}
 use Rattle.fm_lanes.specs.Kind.{width_of}
-use Rattle.fm_path.specs.Wide.{wide_dims}
-use Rattle.fm_path.specs.declared.value_spec.ValueSpec.{ValueSpec}
-use Rattle.fm_path_meaning.specs.declared.dim.Dim.{Dim}
-use Rattle.fm_path_meaning.specs.Walk.{offset_at}
-use Rattle.fm_segment.specs.Access.{IsKnown}
-use Rattle.fm_segment.specs.Region.{EndsByLimit, Region}
-use Rattle.fm_records_query.specs.Plan.{Plan}
-use Rattle.fm_records_query.specs.declared.condition.Condition.{Condition}
-use Rattle.fm_records_query.specs.declared.item.Asked.{Asked}
+use Rattle.fm_path.specs.{Wide.{wide_dims}, declared.value_spec.ValueSpec.{ValueSpec}}
+use Rattle.fm_path_meaning.specs.{declared.dim.Dim.{Dim}, Walk.{offset_at}}
+use Rattle.fm_segment.specs.{Access.{IsKnown}, Region.{EndsByLimit, Region}}
+use Rattle.fm_records_query.specs.{Plan.{Plan}, declared.{condition.Condition.{Condition}, item.{Asked.{Asked}, Item.{Item}}}}
 use Rattle.fm_records_query.specs.declared.item.Asked.TheVariants as asked
-use Rattle.fm_records_query.specs.declared.item.Item.{Item}
-use Rattle.fm_records.specs.declared.found.Found.{Found}
-use Rattle.fm_records.specs.declared.found.Found.TheVariants.{Count}
-use Rattle.fm_records.specs.Answers.{compares, folded}
-use Rattle.fm_records.specs.Values.{index_lists}
+use Rattle.fm_records.specs.{declared.found.Found.{Found, TheVariants.{Count}}, Answers.{compares, folded}, Values.{index_lists}}
 use Rattle.fm_records.specs.Words.{IsKnownAs, Seen, if_new, kept_after, kept_all, kept_last, number_by, unkept, words_at}
 
 -- ---- visits that read

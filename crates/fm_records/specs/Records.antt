@@ -1,6 +1,5 @@
 -- The records of a run of bytes.
-use Rattle.std.specs.Prelude.{ℕ, ◌/◌, List, [], ◌∷◌, length, take, drop}
-use Rattle.std.proofs.Common.{zero, suc}
+use Rattle.std.{specs.Prelude.{ℕ, ◌/◌, List, [], ◌∷◌, length, take, drop}, proofs.Common.{zero, suc}}
 
 -- the first `count` consecutive pieces of `size` bytes
 abbrev pub pieces : ℕ → ℕ → List ℕ → List (List ℕ)

@@ -1,8 +1,7 @@
 -- What is kept of a row of values.
 use Rattle.std.specs.Prelude.{List, [], ◌∷◌}
-use Rattle.fm_records.specs.declared.words.Last.{Last}
+use Rattle.fm_records.specs.{declared.words.Last.{Last}, Words.{Seen}}
 use Rattle.fm_records.specs.declared.words.Last.TheVariants as last
-use Rattle.fm_records.specs.Words.{Seen}
 
 -- the last word first
 abbrev pub words_of : Last → List Seen

@@ -1,24 +1,12 @@
 -- Shares of a segment, each answered by Reads of one caller, which may have several.
-use Rattle.std.specs.Prelude.{◌≡◌, ℕ, ◌+◌, ◌-◌, ◌%◌, ◌^◌, ◌<◌, ◌≤◌, List, [], ◌∷◌, ◌++◌, Ok, ⊤}
-use Rattle.std.specs.List.{AllByRecursion}
-use Rattle.fm_base.specs.declared.caller.Caller.{Caller}
-use Rattle.fm_base.specs.Arenas.{State}
-use Rattle.fm_base.specs.Calls.{Entry}
-use Rattle.fm_base.specs.Histories.{IsLegal, made_by}
+use Rattle.std.specs.{Prelude.{◌≡◌, ℕ, ◌+◌, ◌-◌, ◌%◌, ◌^◌, ◌<◌, ◌≤◌, List, [], ◌∷◌, ◌++◌, Ok, ⊤}, List.{AllByRecursion}}
+use Rattle.fm_base.specs.{declared.caller.Caller.{Caller}, Arenas.{State}, Calls.{Entry}, Histories.{IsLegal, made_by}, Untouched.{AllSpare}}
 use Rattle.fm_base_lists.specs.Among.{IsAmong}
 use Rattle.fm_path.specs.Resolution.{Resolution}
 use Rattle.fm_records_query.specs.Plan.{Plan, IsPlan}
 use Rattle.fm_segment.specs.Region.{Region, part_of}
-use Rattle.fm_base.specs.Untouched.{AllSpare}
-use Rattle.fm_records.specs.declared.found.Found.{Found}
-use Rattle.fm_records.specs.Alone.{bytes_at_places}
-use Rattle.fm_records.specs.Answers.{answer}
-use Rattle.fm_records.specs.Bytes.{HasRead, FindAs}
-use Rattle.fm_records.specs.Few.{AreFew}
-use Rattle.fm_records.specs.Joined.{CanJoin, joined}
-use Rattle.fm_records.specs.Laws.{IsAsked, value_in}
-use Rattle.fm_records.specs.Query.{DoesQuery}
-use Rattle.fm_records.specs.Reads.{IsWordOf}
+use Rattle.fm_records.specs.{declared.found.Found.{Found}, Alone.{bytes_at_places}, Answers.{answer}, Bytes.{HasRead, FindAs}, Few.{AreFew}}
+use Rattle.fm_records.specs.{Joined.{CanJoin, joined}, Laws.{IsAsked, value_in}, Query.{DoesQuery}, Reads.{IsWordOf}}
 
 -- all entries spare the region's bytes
 abbrev pub AreSpared : Region → List Entry → Type 0

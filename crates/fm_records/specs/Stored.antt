@@ -1,11 +1,8 @@
 -- The numbers that stand in a width.
 use Rattle.std.specs.Prelude.{◌≡◌, ℕ, Bool, List, [], ◌∷◌, ◌++◌, ℤ, Result, Ok, true, false, ◌↔◌, IfOk, OnErr}
 use Rattle.fm_base_bytes.specs.Signed.{FitsBytes}
-use Rattle.fm_lanes.specs.declared.value_kind.ValueKind.{ValueKind}
-use Rattle.fm_lanes.specs.declared.value_kind.ValueKind.TheVariants.{Char}
-use Rattle.fm_lanes.specs.Kind.{width_of}
-use Rattle.fm_records.specs.declared.stored.Stored.{Stored}
-use Rattle.fm_records.specs.declared.stored.Stored.TheVariants.{Bytes, Shorts, Ints, Longs}
+use Rattle.fm_lanes.specs.{declared.value_kind.ValueKind.{ValueKind, TheVariants.{Char}}, Kind.{width_of}}
+use Rattle.fm_records.specs.declared.stored.Stored.{Stored, TheVariants.{Bytes, Shorts, Ints, Longs}}
 
 abbrev pub numbers_of : Stored → List ℤ
 numbers_of (Bytes v) = v.items

@@ -1,15 +1,9 @@
 -- The text of an answer: a line for each item.
-use Rattle.std.specs.Prelude.{ℕ, List, [], ◌∷◌, ◌++◌, codes, ℤ, Option, Some, None, ⊤}
-use Rattle.std.specs.Fmt.{decimal, signed_decimal}
-use Rattle.std.specs.List.{AllZip, flat_map}
-use Rattle.fm_records_query.specs.Plan.{Plan}
-use Rattle.fm_records_query.specs.declared.fold.Fold.{Fold}
+use Rattle.std.specs.{Prelude.{ℕ, List, [], ◌∷◌, ◌++◌, codes, ℤ, Option, Some, None, ⊤}, Fmt.{decimal, signed_decimal}, List.{AllZip, flat_map}}
+use Rattle.fm_records_query.specs.{Plan.{Plan}, declared.{fold.Fold.{Fold}, item.{Asked.{Asked}, Item.{Item}}}}
 use Rattle.fm_records_query.specs.declared.fold.Fold.TheVariants as fold
-use Rattle.fm_records_query.specs.declared.item.Asked.{Asked}
 use Rattle.fm_records_query.specs.declared.item.Asked.TheVariants as asked
-use Rattle.fm_records_query.specs.declared.item.Item.{Item}
-use Rattle.fm_records.specs.declared.found.Found.{Found}
-use Rattle.fm_records.specs.declared.found.Found.TheVariants.{Count, Sum, Least, Greatest, Listed}
+use Rattle.fm_records.specs.declared.found.Found.{Found, TheVariants.{Count, Sum, Least, Greatest, Listed}}
 
 -- a space and a number
 abbrev pub number_text : ℤ → List ℕ

@@ -1,13 +1,7 @@
 -- The values of a path in a record, as numbers.
-use Rattle.std.specs.Prelude.{ℕ, List, [], ◌∷◌, take, drop, map, ℤ}
-use Rattle.std.specs.List.{flat_map, range_with_len}
-use Rattle.fm_lanes.specs.Coding.{value_of}
-use Rattle.fm_lanes.specs.Kind.{width_of}
-use Rattle.fm_lanes.specs.Value.{number_of_value}
-use Rattle.fm_lanes.specs.declared.order.Order.{Order}
-use Rattle.fm_lanes.specs.declared.value_kind.ValueKind.{ValueKind}
-use Rattle.fm_path_meaning.specs.Walk.{offset_at}
-use Rattle.fm_path_meaning.specs.declared.dim.Dim.{Dim}
+use Rattle.std.specs.{Prelude.{ℕ, List, [], ◌∷◌, take, drop, map, ℤ}, List.{flat_map, range_with_len}}
+use Rattle.fm_lanes.specs.{Coding.{value_of}, Kind.{width_of}, Value.{number_of_value}, declared.{order.Order.{Order}, value_kind.ValueKind.{ValueKind}}}
+use Rattle.fm_path_meaning.specs.{Walk.{offset_at}, declared.dim.Dim.{Dim}}
 use Rattle.fm_path.specs.Resolution.{Resolution}
 
 -- The lists of indices below the bounds, in their order: the last index changes fastest. A bound of 0 leaves none

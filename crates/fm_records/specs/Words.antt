@@ -1,11 +1,8 @@
 -- Words that were read, what is kept of them, and values by what was found there.
 use Rattle.std.specs.Prelude.{◌≡◌, ℕ, ◌+◌, ◌-◌, ◌*◌, ◌^◌, ◌/◌, ◌%◌, ◌==◌, nat_le, if◌then◌else◌, List, [], ◌∷◌, ◌++◌, map, take, ℤ, Option, Some, None, ⊤}
 use Rattle.std.specs.List.{range_with_len}
-use Rattle.fm_base_bytes.specs.Bytes.{lane}
-use Rattle.fm_base_bytes.specs.Words.{byte_of}
-use Rattle.fm_lanes.specs.Coding.{decoded, turned, value_of}
-use Rattle.fm_lanes.specs.Kind.{width_of}
-use Rattle.fm_lanes.specs.Value.{number_of_value}
+use Rattle.fm_base_bytes.specs.{Bytes.{lane}, Words.{byte_of}}
+use Rattle.fm_lanes.specs.{Coding.{decoded, turned, value_of}, Kind.{width_of}, Value.{number_of_value}}
 use Rattle.fm_path.specs.declared.value_spec.ValueSpec.{ValueSpec}
 
 -- a word, and what was found there

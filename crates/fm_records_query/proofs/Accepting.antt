@@ -1,35 +1,20 @@
 -- The text of each query is read to its end, to that query.
 use Rattle.std.proofs.Common.{◌≡◌, refl, sym, ap, ℕ, ◌+◌, ◌<◌, ◌≤◌, Bool, true, false, if◌then◌else◌, nat_lt, Option, Some, None, List, [], ◌∷◌, ◌++◌, length, arith, ◌∙◌}
-use Rattle.std.specs.Prelude.{codes}
-use Rattle.std.specs.Fmt.{signed_decimal}
-use Rattle.std.specs.List.{AllByRecursion, join_by, flat_map}
-use Rattle.std.proofs.lemmas.List.{append_assoc, length-append}
-use Rattle.std.proofs.lemmas.Bool.Decides.{nat_tests}
-use Rattle.fm_path_text.specs.declared.step.PathStep.{PathStep}
-use Rattle.fm_path_text.specs.declared.part.Part.{Part}
+use Rattle.std.{specs.{Prelude.{codes}, Fmt.{signed_decimal}, List.{AllByRecursion, join_by, flat_map}}, proofs.lemmas.List.{append_assoc, length-append}}
+use Rattle.std.proofs.lemmas.Bool.{lt-ltb, Decides.{nat_tests}}
+use Rattle.fm_path_text.{specs.{declared.{step.PathStep.{PathStep}, part.Part.{Part}}, Grammar.{path_text}}, proofs.Machine.{run_append, run_none, Accepts}}
 use Rattle.fm_path_text.specs.declared.part.Part.TheVariants as part
 use Rattle.fm_path_text.specs.declared.part.Move.TheVariants as move
 use Rattle.fm_path_text.specs.declared.sign.Sign.TheVariants as sign
-use Rattle.fm_path_text.specs.Grammar.{path_text}
 use Rattle.fm_path_text.specs.Reader as path
-use Rattle.fm_path_text.proofs.Machine.{run_append, run_none, Accepts}
 use Rattle.fm_path_text.proofs.Accepting as path_accepting
-use Rattle.fm_records_query.specs.declared.fold.Fold.{Fold}
-use Rattle.fm_records_query.specs.declared.fold.Fold.TheVariants.{Sum}
-use Rattle.fm_records_query.specs.declared.operator.Operator.{Operator}
-use Rattle.fm_records_query.specs.declared.operator.Operator.TheVariants.{Equal}
-use Rattle.fm_records_query.specs.declared.syntax.ItemSyntax.{ItemSyntax}
-use Rattle.fm_records_query.specs.declared.syntax.ItemSyntax.TheVariants.{Count, Of}
-use Rattle.fm_records_query.specs.declared.syntax.ConditionSyntax.{ConditionSyntax}
-use Rattle.fm_records_query.specs.declared.word.Word.TheVariants.{Folding}
-use Rattle.fm_records_query.specs.declared.stage.Role.{Role}
-use Rattle.fm_records_query.specs.declared.stage.Role.TheVariants.{OfItem, OfCondition}
-use Rattle.fm_records_query.specs.declared.stage.Stage.TheVariants.{Start, InPath, Behind, Compare, Literal}
-use Rattle.fm_records_query.specs.declared.stage.Turn.TheVariants.{Dead, NextItem}
+use Rattle.fm_records_query.specs.declared.{fold.Fold.{Fold, TheVariants.{Sum}}, operator.Operator.{Operator, TheVariants.{Equal}}}
+use Rattle.fm_records_query.specs.declared.syntax.{ItemSyntax.{ItemSyntax, TheVariants.{Count, Of}}, ConditionSyntax.{ConditionSyntax}}
+use Rattle.fm_records_query.specs.declared.{word.Word.TheVariants.{Folding}, stage.Role.{Role, TheVariants.{OfItem, OfCondition}}}
+use Rattle.fm_records_query.specs.declared.stage.{Stage.TheVariants.{Start, InPath, Behind, Compare, Literal}, Turn.TheVariants.{Dead, NextItem}}
 use Rattle.fm_records_query.specs.Grammar.{syntax, fold_text, item_text, condition_text, operator_text, where_text, query_text, IsItem, IsCondition, IsQuery}
 use Rattle.fm_records_query.specs.Reader.{word_text, and_word, is_mark, marks, goes, condition, Spot, spot, moved, reads, run, start, whole}
 use Rattle.fm_records_query.proofs.AcceptingNumbers.{number_of, value_number, reads_literal}
-use Rattle.std.proofs.lemmas.Bool.{lt-ltb}
 
 -- a path that was refused isn't read
 path_none : (bs : List ℕ) (s : path.Spot) → path.run bs None ≡ Some s → ⊥

@@ -1,19 +1,10 @@
 -- The number of a condition is read to its end, to that number.
-use Rattle.std.proofs.Common.{◌≡◌, refl, ap, ℕ, ◌+◌, ◌-◌, ◌*◌, ◌^◌, ◌<◌, ◌≤◌, suc, Some, List, arith}
-use Rattle.std.specs.Prelude.{ℤ, pos, negsuc}
-use Rattle.std.specs.Fmt.{signed_decimal}
-use Rattle.fm_path_text.specs.declared.step.PathStep.{PathStep}
-use Rattle.fm_path_text.proofs.Machine.{run_number, run_positive}
-use Rattle.fm_path_text.proofs.Reading.{yes_digit}
-use Rattle.fm_records_query.specs.declared.operator.Operator.{Operator}
-use Rattle.fm_records_query.specs.declared.syntax.ItemSyntax.{ItemSyntax}
-use Rattle.fm_records_query.specs.declared.syntax.ConditionSyntax.{ConditionSyntax}
-use Rattle.fm_records_query.specs.declared.number.Number.{Number}
-use Rattle.fm_records_query.specs.declared.number.Number.TheVariants.{Up, Down}
-use Rattle.fm_records_query.specs.declared.stage.Stage.TheVariants.{Compare, Minus, Literal}
-use Rattle.fm_records_query.specs.Grammar.{IsLiteral}
-use Rattle.fm_records_query.specs.Reader.{value_of, spot, reads, run}
+use Rattle.std.{proofs.Common.{◌≡◌, refl, ap, ℕ, ◌+◌, ◌-◌, ◌*◌, ◌^◌, ◌<◌, ◌≤◌, suc, Some, List, arith}, specs.{Prelude.{ℤ, pos, negsuc}, Fmt.{signed_decimal}}}
 use Rattle.std.proofs.lemmas.Bool.{ne_eqb, le-leb, lt-ltb}
+use Rattle.fm_path_text.{specs.declared.step.PathStep.{PathStep}, proofs.{Machine.{run_number, run_positive}, Reading.{yes_digit}}}
+use Rattle.fm_records_query.specs.declared.{operator.Operator.{Operator}, syntax.{ItemSyntax.{ItemSyntax}, ConditionSyntax.{ConditionSyntax}}}
+use Rattle.fm_records_query.specs.declared.{number.Number.{Number, TheVariants.{Up, Down}}, stage.Stage.TheVariants.{Compare, Minus, Literal}}
+use Rattle.fm_records_query.specs.{Grammar.{IsLiteral}, Reader.{value_of, spot, reads, run}}
 
 value_back : (d : ℕ) → 48 + d - 48 ≡ d
 value_back d = omega arith

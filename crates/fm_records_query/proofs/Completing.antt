@@ -1,20 +1,14 @@
 -- What has been read begins some query's text.
 use Rattle.std.proofs.Common.{◌≡◌, refl, sym, ap, ℕ, zero, suc, List, [], ◌∷◌, ◌++◌, length, take, drop, arith, ◌∙◌}
-use Rattle.std.specs.Prelude.{codes, decimal, pos, negsuc}
-use Rattle.std.specs.List.{AllByRecursion}
-use Rattle.std.proofs.lemmas.List.{append_assoc, append-nil, length-append, take-append-drop}
-use Rattle.std.proofs.lemmas.Fmt.{decimal_digit}
+use Rattle.std.specs.{Prelude.{codes, decimal, pos, negsuc}, List.{AllByRecursion}}
+use Rattle.std.proofs.lemmas.{List.{append_assoc, append-nil, length-append, take-append-drop}, Fmt.{decimal_digit}}
 use Rattle.fm_base_lists.proofs.Each.{all_snoc}
 use Rattle.fm_path_text.specs.Grammar as path
 use Rattle.fm_path_text.proofs.Accepting as path_accepting
 use Rattle.fm_path_text.proofs.Language.{shorter}
-use Rattle.fm_records_query.specs.declared.operator.Operator.TheVariants.{Equal, NotEqual}
-use Rattle.fm_records_query.specs.declared.syntax.ItemSyntax.{ItemSyntax}
-use Rattle.fm_records_query.specs.declared.syntax.ItemSyntax.TheVariants.{Count, Of}
-use Rattle.fm_records_query.specs.declared.syntax.ConditionSyntax.{ConditionSyntax}
-use Rattle.fm_records_query.specs.declared.word.Word.TheVariants.{Counting, Folding}
-use Rattle.fm_records_query.specs.declared.stage.Role.TheVariants.{OfItem, OfCondition}
-use Rattle.fm_records_query.specs.declared.stage.Stage.{Stage}
+use Rattle.fm_records_query.specs.declared.{operator.Operator.TheVariants.{Equal, NotEqual}, syntax.ItemSyntax.{ItemSyntax, TheVariants.{Count, Of}}}
+use Rattle.fm_records_query.specs.declared.{syntax.ConditionSyntax.{ConditionSyntax}, word.Word.TheVariants.{Counting, Folding}}
+use Rattle.fm_records_query.specs.declared.stage.{Role.TheVariants.{OfItem, OfCondition}, Stage.{Stage}}
 use Rattle.fm_records_query.specs.declared.stage.Stage.TheVariants.{Start, Spelling, InPath, Behind, Bang, Compare, Minus, Literal}
 use Rattle.fm_records_query.specs.Grammar.{syntax, fold_text, item_text, condition_text, operator_text, where_text, query_text, IsItem, IsCondition, IsQuery, Begins}
 use Rattle.fm_records_query.specs.Reader.{word_text, where_word, and_word, condition}

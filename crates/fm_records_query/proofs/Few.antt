@@ -1,23 +1,12 @@
 -- A path has no more values in a record than the record has bytes.
 use Rattle.std.proofs.Common.{◌≡◌, ℕ, pos, negsuc, zero, suc, ◌-◌, ◌*◌, ◌≤◌, Option, Some, None, List, refl, ap, arith}
-use Rattle.std.proofs.Math.Nat.{div-le_self, mul-le-mul_left, mul-le-mul_right, mul_assoc}
-use Rattle.std.proofs.lemmas.Result.{IfOk-at_ok}
-use Rattle.fm_lanes.specs.Kind.{width_of}
-use Rattle.fm_lanes.specs.declared.value_kind.ValueKind.{ValueKind}
-use Rattle.fm_lanes.specs.declared.value_kind.ValueKind.TheVariants.{Byte}
-use Rattle.fm_layout.specs.Size.{size_of}
-use Rattle.fm_layout.specs.Tree.{Tree, Value, Sequence}
-use Rattle.fm_path_text.specs.declared.step.PathStep.{PathStep}
-use Rattle.fm_path_text.specs.declared.step.PathStep.TheVariants.{Each, EachFrom}
-use Rattle.fm_path_meaning.specs.Follow.{row_of, Lead, Part, Open, lead, end_at}
-use Rattle.fm_path_meaning.proofs.Agreeing.{each_walk}
-use Rattle.fm_path_meaning.proofs.Fitting.{Begins, IsLead, leads}
-use Rattle.fm_path_meaning.proofs.Inside.{part_inside}
-use Rattle.fm_path_meaning.specs.Found.{LeadsTo}
-use Rattle.fm_path_meaning.specs.Walk.{by_of, dim_from, dim_of, with_dim}
-use Rattle.fm_path_meaning.specs.declared.dim.Dim.{Dim}
-use Rattle.fm_path.specs.Resolution.{Resolution, IsResolved, IsSpecOf}
-use Rattle.fm_path.specs.declared.value_spec.ValueSpec.{ValueSpec}
+use Rattle.std.proofs.{Math.Nat.{div-le_self, mul-le-mul_left, mul-le-mul_right, mul_assoc}, lemmas.Result.{IfOk-at_ok}}
+use Rattle.fm_lanes.specs.{Kind.{width_of}, declared.value_kind.ValueKind.{ValueKind, TheVariants.{Byte}}}
+use Rattle.fm_layout.specs.{Size.{size_of}, Tree.{Tree, Value, Sequence}}
+use Rattle.fm_path_text.specs.declared.step.PathStep.{PathStep, TheVariants.{Each, EachFrom}}
+use Rattle.fm_path_meaning.{specs.Follow.{row_of, Lead, Part, Open, lead, end_at}, proofs.{Agreeing.{each_walk}, Fitting.{Begins, IsLead, leads}}}
+use Rattle.fm_path_meaning.{proofs.Inside.{part_inside}, specs.{Found.{LeadsTo}, Walk.{by_of, dim_from, dim_of, with_dim}, declared.dim.Dim.{Dim}}}
+use Rattle.fm_path.specs.{Resolution.{Resolution, IsResolved, IsSpecOf}, declared.value_spec.ValueSpec.{ValueSpec}}
 use Rattle.fm_records_query.specs.Plan.{value_count}
 
 -- how many indices a step has

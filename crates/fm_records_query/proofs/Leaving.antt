@@ -1,26 +1,16 @@
 -- One byte leaves what the next stage shows.
 use Rattle.std.proofs.Common.{◌≡◌, refl, sym, ap, ℕ, true, nat_eq, Option, Some, None, List, [], ◌∷◌, ◌++◌, length, arith, ◌∙◌}
-use Rattle.std.proofs.lemmas.List.{append_assoc, append-nil}
-use Rattle.fm_path_text.specs.declared.step.PathStep.{PathStep}
-use Rattle.fm_path_text.specs.declared.part.Part.{Part}
-use Rattle.fm_path_text.specs.Grammar.{path_text}
+use Rattle.std.proofs.lemmas.{List.{append_assoc, append-nil}, Bool.{eqb-true, cond_both}}
+use Rattle.fm_path_text.{specs.{declared.{step.PathStep.{PathStep}, part.Part.{Part}}, Grammar.{path_text}}, proofs.Machine.{run_append}}
 use Rattle.fm_path_text.specs.Reader as path
-use Rattle.fm_path_text.proofs.Machine.{run_append}
 use Rattle.fm_path_text.proofs.Reading as path_reading
 use Rattle.fm_path_text.proofs.Accepting as path_accepting
-use Rattle.fm_records_query.specs.declared.syntax.ItemSyntax.{ItemSyntax}
-use Rattle.fm_records_query.specs.declared.syntax.ConditionSyntax.{ConditionSyntax}
-use Rattle.fm_records_query.specs.declared.word.Word.TheVariants.{Folding}
-use Rattle.fm_records_query.specs.declared.stage.Role.{Role}
-use Rattle.fm_records_query.specs.declared.stage.Role.TheVariants.{OfItem, OfCondition}
-use Rattle.fm_records_query.specs.declared.stage.Stage.{Stage}
-use Rattle.fm_records_query.specs.declared.stage.Stage.TheVariants.{Start, Spelling, InPath, Behind, Bang, Compare, Minus, Literal}
-use Rattle.fm_records_query.specs.declared.stage.Turn.TheVariants.{Stay}
-use Rattle.fm_records_query.specs.Reader.{word_text, is_mark, marks, goes, next}
-use Rattle.fm_records_query.proofs.Shown.{so_far, IsCounted, IsLive, Leaves}
+use Rattle.fm_records_query.specs.declared.{syntax.{ItemSyntax.{ItemSyntax}, ConditionSyntax.{ConditionSyntax}}, word.Word.TheVariants.{Folding}}
+use Rattle.fm_records_query.specs.declared.stage.{Role.{Role, TheVariants.{OfItem, OfCondition}}, Stage.{Stage}}
+use Rattle.fm_records_query.specs.declared.stage.{Stage.TheVariants.{Start, Spelling, InPath, Behind, Bang, Compare, Minus, Literal}, Turn.TheVariants.{Stay}}
+use Rattle.fm_records_query.{specs.Reader.{word_text, is_mark, marks, goes, next}, proofs.Shown.{so_far, IsCounted, IsLive, Leaves}}
 use Rattle.fm_records_query.proofs.LeavingItems.{starts_leaves, spells_leaves, behind_leaves}
 use Rattle.fm_records_query.proofs.LeavingConditions.{bang_leaves, compares_leaves, negates_leaves, literal_leaves}
-use Rattle.std.proofs.lemmas.Bool.{eqb-true, cond_both}
 
 -- a path that goes on
 goes_leaves : (is : List ItemSyntax) (cs : List ConditionSyntax) (r : Role) (d : List PathStep) (p : Part) (b : ℕ) (o : Option path.Spot)

@@ -1,26 +1,15 @@
 -- One byte of a condition behind its path leaves what the next stage shows.
 use Rattle.std.proofs.Common.{◌≡◌, refl, sym, ap, subst, ℕ, ◌+◌, ◌-◌, ◌*◌, ◌^◌, ◌<◌, zero, suc, true, false, ◌&&◌, not, if◌then◌else◌, nat_eq, nat_lt, nat_le, None, List, [], ◌∷◌, ◌++◌, length, get_or, arith, ◌∙◌}
-use Rattle.std.specs.Prelude.{codes, decimal, pos, neg_ℤ}
-use Rattle.std.specs.Fmt.{signed_decimal}
-use Rattle.std.proofs.lemmas.Bool.Decides.{nat_tests}
-use Rattle.std.proofs.lemmas.List.{append_assoc, append-nil, length-append}
-use Rattle.std.proofs.lemmas.Fmt.{decimal_digit}
+use Rattle.std.{specs.{Prelude.{codes, decimal, pos, neg_ℤ}, Fmt.{signed_decimal}}, proofs.lemmas.Bool.Decides.{nat_tests}}
+use Rattle.std.proofs.lemmas.{List.{append_assoc, append-nil, length-append}, Fmt.{decimal_digit}, Bool.{eqb-true, ltb-true, leb-true, and_parts, cond_both}}
 use Rattle.fm_layout.specs.Name.{is_digit}
-use Rattle.fm_path_text.specs.declared.step.PathStep.{PathStep}
-use Rattle.fm_path_text.specs.Grammar.{path_text, IsPath}
-use Rattle.fm_path_text.proofs.Moves.{digit_is, decimal_more, minus_text}
-use Rattle.fm_records_query.specs.declared.operator.Operator.{Operator}
-use Rattle.fm_records_query.specs.declared.operator.Operator.TheVariants.{NotEqual, Below, Above}
-use Rattle.fm_records_query.specs.declared.syntax.ItemSyntax.{ItemSyntax}
-use Rattle.fm_records_query.specs.declared.syntax.ConditionSyntax.{ConditionSyntax}
-use Rattle.fm_records_query.specs.declared.number.Number.{Number}
-use Rattle.fm_records_query.specs.declared.number.Number.TheVariants.{Up, Down}
-use Rattle.fm_records_query.specs.declared.stage.Stage.TheVariants.{Bang, Compare, Minus, Literal}
-use Rattle.fm_records_query.specs.declared.stage.Turn.TheVariants.{Dead, Stay}
+use Rattle.fm_path_text.{specs.{declared.step.PathStep.{PathStep}, Grammar.{path_text, IsPath}}, proofs.Moves.{digit_is, decimal_more, minus_text}}
+use Rattle.fm_records_query.specs.declared.{operator.Operator.{Operator, TheVariants.{NotEqual, Below, Above}}, syntax.ItemSyntax.{ItemSyntax}}
+use Rattle.fm_records_query.specs.declared.{syntax.ConditionSyntax.{ConditionSyntax}, number.Number.{Number, TheVariants.{Up, Down}}}
+use Rattle.fm_records_query.specs.declared.stage.{Stage.TheVariants.{Bang, Compare, Minus, Literal}, Turn.TheVariants.{Dead, Stay}}
 use Rattle.fm_records_query.specs.Grammar.{condition_text, operator_text, IsLiteral}
 use Rattle.fm_records_query.specs.Reader.{and_word, or_equal, compares, negates, value_of, longer, counts, condition, in_literal, IsNumber}
 use Rattle.fm_records_query.proofs.Shown.{led_snoc, IsAtCondition, Leaves, longer_take, whole_take, below}
-use Rattle.std.proofs.lemmas.Bool.{eqb-true, ltb-true, leb-true, and_parts, cond_both}
 
 -- = behind !
 pub bang_leaves : (is : List ItemSyntax) (cs : List ConditionSyntax) (p : List PathStep) (b : ℕ) → IsAtCondition is cs 1 → IsPath p

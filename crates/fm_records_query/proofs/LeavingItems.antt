@@ -1,21 +1,12 @@
 -- One byte of an item, or behind it, leaves what the next stage shows.
 use Rattle.std.proofs.Common.{◌≡◌, refl, sym, ap, ℕ, ◌+◌, ◌<◌, true, ◌&&◌, nat_eq, nat_lt, List, [], ◌∷◌, ◌++◌, length, take, get_or, arith, ◌∙◌}
-use Rattle.std.specs.Prelude.{codes}
-use Rattle.std.proofs.lemmas.List.{append_assoc, append-nil, length-append}
+use Rattle.std.{specs.Prelude.{codes}, proofs.lemmas.{List.{append_assoc, append-nil, length-append}, Bool.{eqb-true, ltb-true, and_parts, cond_both}}}
 use Rattle.fm_path_text.specs.declared.part.Part.TheVariants.{Between}
-use Rattle.fm_records_query.specs.declared.fold.Fold.TheVariants.{Least}
-use Rattle.fm_records_query.specs.declared.syntax.ItemSyntax.{ItemSyntax}
-use Rattle.fm_records_query.specs.declared.syntax.ItemSyntax.TheVariants.{Count}
-use Rattle.fm_records_query.specs.declared.syntax.ConditionSyntax.{ConditionSyntax}
-use Rattle.fm_records_query.specs.declared.word.Word.{Word}
-use Rattle.fm_records_query.specs.declared.word.Word.TheVariants.{Counting, Folding}
-use Rattle.fm_records_query.specs.declared.stage.Role.TheVariants.{OfItem}
-use Rattle.fm_records_query.specs.declared.stage.Stage.TheVariants.{Start, Spelling, InPath, Behind}
-use Rattle.fm_records_query.specs.declared.stage.Turn.TheVariants.{Stay}
-use Rattle.fm_records_query.specs.Grammar.{item_text, IsItem}
-use Rattle.fm_records_query.specs.Reader.{word_text, where_word, starts, spelled, turns, spells, behind}
+use Rattle.fm_records_query.specs.declared.{fold.Fold.TheVariants.{Least}, syntax.ItemSyntax.{ItemSyntax, TheVariants.{Count}}}
+use Rattle.fm_records_query.specs.declared.{syntax.ConditionSyntax.{ConditionSyntax}, word.Word.{Word, TheVariants.{Counting, Folding}}}
+use Rattle.fm_records_query.specs.declared.stage.{Role.TheVariants.{OfItem}, Stage.TheVariants.{Start, Spelling, InPath, Behind}, Turn.TheVariants.{Stay}}
+use Rattle.fm_records_query.specs.{Grammar.{item_text, IsItem}, Reader.{word_text, where_word, starts, spelled, turns, spells, behind}}
 use Rattle.fm_records_query.proofs.Shown.{led_snoc, join_led, IsAtItem, Leaves, longer_take, whole_take, below}
-use Rattle.std.proofs.lemmas.Bool.{eqb-true, ltb-true, and_parts, cond_both}
 
 -- the first byte of an item
 pub starts_leaves : (is : List ItemSyntax) (cs : List ConditionSyntax) (b : ℕ) → IsAtItem is cs → Leaves is cs Start b (starts b)

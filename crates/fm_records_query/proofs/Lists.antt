@@ -1,22 +1,12 @@
 -- A path's text lists one path's values, or is refused for one reason.
-use Rattle.std.proofs.Common.{◌≡◌, ◌≢◌, ℕ, List, [], ◌∷◌, subst, sym, inl, inr, arith}
-use Rattle.std.specs.List.{AllZip}
-use Rattle.fm_base.specs.declared.refusal.Refusal.{Refusal}
-use Rattle.fm_base.specs.declared.refusal.Refusal.TheVariants.{Memory}
+use Rattle.std.{proofs.Common.{◌≡◌, ◌≢◌, ℕ, List, [], ◌∷◌, subst, sym, inl, inr, arith}, specs.List.{AllZip}}
+use Rattle.fm_base.specs.declared.refusal.Refusal.{Refusal, TheVariants.{Memory}}
 use Rattle.fm_layout.specs.Tree.{Tree}
 use Rattle.fm_path.specs.Resolution.{IsRefusal}
-use Rattle.fm_path_text.proofs.Language.{one_no_text, not_no_text}
-use Rattle.fm_path_text.specs.Grammar.{path_text, IsPath, IsTextOf, IsNoPath}
-use Rattle.fm_path_text.specs.declared.step.PathStep.{PathStep}
-use Rattle.fm_records_query.specs.Grammar.{IsQuery}
-use Rattle.fm_records_query.specs.Lists.{list_of, IsList, IsNoList, no_path, refused}
-use Rattle.fm_records_query.specs.Parsed.{AreItemsRefused, IsItemAdmitted, IsItemOf, IsPlanOf, OrMemory}
-use Rattle.fm_records_query.specs.Plan.{Plan}
-use Rattle.fm_records_query.specs.declared.fold.Fold.TheVariants.{All}
-use Rattle.fm_records_query.specs.declared.item.Item.{Item}
-use Rattle.fm_records_query.specs.declared.syntax.ItemSyntax.{ItemSyntax}
-use Rattle.fm_records_query.specs.declared.syntax.ItemSyntax.TheVariants.{Of}
-use Rattle.fm_records_query.proofs.OnePlan.{one_plan_of, item_clash}
+use Rattle.fm_path_text.{proofs.Language.{one_no_text, not_no_text}, specs.{Grammar.{path_text, IsPath, IsTextOf, IsNoPath}, declared.step.PathStep.{PathStep}}}
+use Rattle.fm_records_query.specs.{Grammar.{IsQuery}, Lists.{list_of, IsList, IsNoList, no_path, refused}}
+use Rattle.fm_records_query.specs.{Parsed.{AreItemsRefused, IsItemAdmitted, IsItemOf, IsPlanOf, OrMemory}, Plan.{Plan}, declared.fold.Fold.TheVariants.{All}}
+use Rattle.fm_records_query.{specs.declared.{item.Item.{Item}, syntax.ItemSyntax.{ItemSyntax, TheVariants.{Of}}}, proofs.OnePlan.{one_plan_of, item_clash}}
 use Rattle.fm_records_query.proofs.OneRefusal.{one_path}
 
 -- one item is few

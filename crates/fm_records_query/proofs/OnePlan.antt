@@ -1,33 +1,22 @@
 -- A text has one plan over a layout, and one that has a plan isn't refused.
-use Rattle.std.proofs.Common.{◌≡◌, ◌≢◌, ℕ, ℤ, ◌+◌, ◌-◌, ◌^◌, List, [], ◌∷◌, Result, Ok, Err, refl, sym, ap, subst, ◌∙◌, inl, inr}
-use Rattle.std.specs.Prelude.{min}
+use Rattle.std.{proofs.Common.{◌≡◌, ◌≢◌, ℕ, ℤ, ◌+◌, ◌-◌, ◌^◌, List, [], ◌∷◌, Result, Ok, Err, refl, sym, ap, subst, ◌∙◌, inl, inr}, specs.Prelude.{min}}
 use Rattle.std.specs.List.{AllByRecursion, AllZip}
-use Rattle.fm_base.specs.declared.refusal.Refusal.{Refusal}
-use Rattle.fm_base.specs.declared.refusal.Refusal.TheVariants.{Memory}
-use Rattle.fm_layout.specs.Tree.{Tree, Value}
-use Rattle.fm_layout.specs.Parts.{IsValue}
+use Rattle.fm_base.specs.declared.refusal.Refusal.{Refusal, TheVariants.{Memory}}
+use Rattle.fm_layout.specs.{Tree.{Tree, Value}, Parts.{IsValue}}
 use Rattle.fm_path_text.specs.declared.step.PathStep.{PathStep}
 use Rattle.fm_path_text.proofs.Language as language
-use Rattle.fm_path_meaning.specs.Follow.{Lead, Part, Open, lead, step_at, end_at, after, before, ◌>>=◌, follow_by}
-use Rattle.fm_path_meaning.specs.Places.{Step}
-use Rattle.fm_path_meaning.specs.Walk.{Walk}
-use Rattle.fm_lanes.specs.declared.order.Order.{Order}
-use Rattle.fm_lanes.specs.declared.value_kind.ValueKind.{ValueKind}
+use Rattle.fm_path_meaning.specs.{Follow.{Lead, Part, Open, lead, step_at, end_at, after, before, ◌>>=◌, follow_by}, Places.{Step}, Walk.{Walk}}
 use Rattle.fm_path_meaning.specs.Found.{end_from}
+use Rattle.fm_lanes.specs.declared.{order.Order.{Order}, value_kind.ValueKind.{ValueKind}}
 use Rattle.fm_path.specs.declared.value_spec.ValueSpec.{ValueSpec}
 use Rattle.fm_path.specs.Resolution.{Resolution, resolution, IsSpecOf, IsResolved, IsRefusal, at_step, no_value, no_memory}
-use Rattle.fm_records_query.specs.declared.operator.Operator.{Operator}
-use Rattle.fm_records_query.specs.declared.syntax.ItemSyntax.{ItemSyntax}
-use Rattle.fm_records_query.specs.declared.syntax.ItemSyntax.TheVariants as syntax
-use Rattle.fm_records_query.specs.declared.syntax.ConditionSyntax.{ConditionSyntax}
-use Rattle.fm_records_query.specs.declared.item.Asked.{Asked}
-use Rattle.fm_records_query.specs.declared.item.Asked.TheVariants as asked
-use Rattle.fm_records_query.specs.declared.item.Item.{Item}
-use Rattle.fm_records_query.specs.declared.condition.Condition.{Condition}
-use Rattle.fm_records_query.specs.Grammar.{Syntax, IsQuery, query_text, IsTextOf, IsNoText}
-use Rattle.fm_records_query.specs.Plan.{Plan, plan}
+use Rattle.fm_records_query.specs.declared.{operator.Operator.{Operator}, syntax.{ItemSyntax.{ItemSyntax}, ConditionSyntax.{ConditionSyntax}}}
+use Rattle.fm_records_query.specs.declared.{item.{Asked.{Asked}, Item.{Item}}, condition.Condition.{Condition}}
+use Rattle.fm_records_query.specs.{Grammar.{Syntax, IsQuery, query_text, IsTextOf, IsNoText}, Plan.{Plan, plan}}
 use Rattle.fm_records_query.specs.Parsed.{IsAskedOf, IsItemOf, IsConditionOf, IsPlanOf, IsItemRefused, IsConditionRefused, at_path, left_open, IsFirstRefused, IsItemAdmitted, IsConditionAdmitted, IsSyntaxRefused, at_item, at_condition, IsParsed, IsNoQuery, no_text, refused}
 use Rattle.fm_records_query.proofs.Plans.{all_admitted}
+use Rattle.fm_records_query.specs.declared.syntax.ItemSyntax.TheVariants as syntax
+use Rattle.fm_records_query.specs.declared.item.Asked.TheVariants as asked
 
 -- ---- one plan
 

@@ -1,18 +1,14 @@
 -- A layout or a text that is refused, is refused for one reason.
 use Rattle.std.proofs.Common.{◌≡◌, ◌≢◌, ℕ, List, [], ◌∷◌, refl, subst, inl, inr, arith}
-use Rattle.fm_base.specs.declared.refusal.Refusal.{Refusal}
-use Rattle.fm_base.specs.declared.refusal.Refusal.TheVariants.{NoSize, ElementRagged, Memory}
+use Rattle.fm_base.specs.declared.refusal.Refusal.{Refusal, TheVariants.{NoSize, ElementRagged, Memory}}
 use Rattle.fm_layout.specs.Tree.{Tree}
-use Rattle.fm_path_text.specs.declared.step.PathStep.{PathStep}
-use Rattle.fm_path_text.proofs.Language.{one_no_text}
+use Rattle.fm_path_text.{specs.declared.step.PathStep.{PathStep}, proofs.Language.{one_no_text}}
 use Rattle.fm_path.specs.Resolution.{IsRefusal, at_step, no_value, no_memory}
-use Rattle.fm_records_query.specs.declared.syntax.ItemSyntax.{ItemSyntax}
-use Rattle.fm_records_query.specs.declared.syntax.ItemSyntax.TheVariants as syntax
-use Rattle.fm_records_query.specs.declared.syntax.ConditionSyntax.{ConditionSyntax}
-use Rattle.fm_records_query.specs.Grammar.{Syntax, IsQuery, query_text}
+use Rattle.fm_records_query.specs.{declared.syntax.{ItemSyntax.{ItemSyntax}, ConditionSyntax.{ConditionSyntax}}, Grammar.{Syntax, IsQuery, query_text}}
 use Rattle.fm_records_query.specs.Parsed.{IsItemRefused, IsConditionRefused, at_path, left_open, IsFirstRefused, IsItemAdmitted, IsConditionAdmitted, IsSyntaxRefused, at_item, at_condition, IsNoQuery, no_text, refused}
 use Rattle.fm_records_query.specs.Records.{IsNoRecord}
 use Rattle.fm_records_query.proofs.OnePlan.{one_syntax, follows, not_refused, item_clash, condition_clash, none_first, not_no_text}
+use Rattle.fm_records_query.specs.declared.syntax.ItemSyntax.TheVariants as syntax
 
 -- ---- layouts
 

@@ -1,33 +1,15 @@
 -- Paths resolved one after the other, up to the first refusal.
 use Rattle.std.proofs.Common.{◌≡◌, refl, sym, ap, subst, ℕ, ◌+◌, ◌<◌, zero, suc, None, Result, Ok, Err, List, [], ◌∷◌, ◌++◌, length, take, get_or, inl, inr, arith}
-use Rattle.std.specs.Prelude.{IsTrue, ◌||◌}
-use Rattle.std.specs.List.{AllByRecursion, AllZip}
-use Rattle.std.specs.Result.{IfErr, IsErrAnd}
-use Rattle.std.proofs.lemmas.Slice.Zip.{AllZip-long}
-use Rattle.std.proofs.lemmas.Bool.Decides.{nat_tests}
-use Rattle.std.proofs.lemmas.List.{take_more}
+use Rattle.std.{specs.{Prelude.{IsTrue, ◌||◌}, List.{AllByRecursion, AllZip}, Result.{IfErr, IsErrAnd}}, proofs.lemmas.Slice.Zip.{AllZip-long}}
+use Rattle.std.proofs.lemmas.{Bool.Decides.{nat_tests}, List.{take_more}}
 use Rattle.fm_base.specs.declared.refusal.Refusal.{Refusal}
-use Rattle.fm_layout.specs.Tree.{Tree, alignment_of}
-use Rattle.fm_layout.specs.Size.{size_of}
-use Rattle.fm_layout.specs.Name.{is_letter, is_digit, IsName, IsNameEnd}
-use Rattle.fm_layout.specs.WellFormed.{IsWellFormed}
+use Rattle.fm_layout.specs.{Tree.{Tree, alignment_of}, Size.{size_of}, Name.{is_letter, is_digit, IsName, IsNameEnd}, WellFormed.{IsWellFormed}}
 use Rattle.fm_layout.proofs.Sound.{fit_of}
-use Rattle.fm_path_text.specs.declared.step.PathStep.{PathStep}
-use Rattle.fm_path_text.specs.declared.step.PathStep.TheVariants.{Each, EachFrom}
-use Rattle.fm_path_text.specs.Grammar.{piece_of, pieces_of}
-use Rattle.fm_path_text.proofs.Reading.{pieces_snoc}
-use Rattle.fm_path_meaning.specs.declared.dim.Dim.{Dim}
-use Rattle.fm_path_meaning.specs.Follow.{end_at}
-use Rattle.fm_path_meaning.specs.Found.{HasDims, no_step, closed_step, open_step}
-use Rattle.fm_path.specs.Resolution.{Resolution, IsResolved}
-use Rattle.fm_path.proofs.Resolving.{stays_inside}
-use Rattle.fm_records_query.specs.declared.syntax.ItemSyntax.{ItemSyntax}
-use Rattle.fm_records_query.specs.declared.syntax.ItemSyntax.TheVariants.{Count, Of}
-use Rattle.fm_records_query.specs.declared.syntax.ConditionSyntax.{ConditionSyntax}
-use Rattle.fm_records_query.specs.declared.item.Item.{Item}
-use Rattle.fm_records_query.specs.declared.condition.Condition.{Condition}
-use Rattle.fm_records_query.specs.Grammar.{Syntax, IsQuery, IsTextOf, IsNoText}
-use Rattle.fm_records_query.specs.Records.{IsRecord}
+use Rattle.fm_path_text.{specs.{declared.step.PathStep.{PathStep, TheVariants.{Each, EachFrom}}, Grammar.{piece_of, pieces_of}}, proofs.Reading.{pieces_snoc}}
+use Rattle.fm_path_meaning.specs.{declared.dim.Dim.{Dim}, Follow.{end_at}, Found.{HasDims, no_step, closed_step, open_step}}
+use Rattle.fm_path.{specs.Resolution.{Resolution, IsResolved}, proofs.Resolving.{stays_inside}}
+use Rattle.fm_records_query.specs.declared.{syntax.{ItemSyntax.{ItemSyntax, TheVariants.{Count, Of}}, ConditionSyntax.{ConditionSyntax}}, item.Item.{Item}}
+use Rattle.fm_records_query.specs.{declared.condition.Condition.{Condition}, Grammar.{Syntax, IsQuery, IsTextOf, IsNoText}, Records.{IsRecord}}
 use Rattle.fm_records_query.specs.Plan.{plan, IsThrough, AsksOf, IsItemIn, IsConditionIn, IsPlan}
 use Rattle.fm_records_query.specs.Parsed.{open_from, IsItemOf, IsItemAdmitted, IsItemRefused, IsConditionOf, IsConditionAdmitted, IsConditionRefused, IsFirstRefused, at_item, at_condition, IsNoQuery, no_text, refused, OrMemory}
 use Rattle.fm_records_query.proofs.Few.{values_are_few}

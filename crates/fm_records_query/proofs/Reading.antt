@@ -1,31 +1,19 @@
 -- The loop over the bytes of a query's text.
 use Rattle.std.proofs.Common.{◌≡◌, refl, sym, ap, subst, ℕ, ◌+◌, ◌<◌, ◌≤◌, zero, suc, false, if◌then◌else◌, nat_eq, Option, Some, None, List, [], ◌∷◌, ◌++◌, length, take, get_or, arith, ◌∙◌}
-use Rattle.std.specs.Prelude.{codes}
-use Rattle.std.specs.Option.{IfSome}
-use Rattle.std.proofs.lemmas.Bool.Decides.{nat_tests}
-use Rattle.std.proofs.lemmas.List.{append_assoc, append-nil, length-append, take_all}
+use Rattle.std.{specs.{Prelude.{codes}, Option.{IfSome}}, proofs.lemmas.{Bool.Decides.{nat_tests}, List.{append_assoc, append-nil, length-append, take_all}}}
 use Rattle.fm_base_lists.proofs.Each.{all_snoc}
-use Rattle.fm_path_text.specs.declared.step.PathStep.{PathStep}
-use Rattle.fm_path_text.specs.declared.part.Part.{Part}
-use Rattle.fm_path_text.specs.Reader as path
-use Rattle.fm_path_text.proofs.Language.{IsReader, only, leaves_at, leaves_behind}
+use Rattle.fm_path_text.{specs.declared.{step.PathStep.{PathStep}, part.Part.{Part}}, proofs.Language.{IsReader, only, leaves_at, leaves_behind}}
 use Rattle.fm_path_text.proofs.Machine.{run_keeps, run_more}
+use Rattle.fm_path_text.specs.Reader as path
 use Rattle.fm_path_text.proofs.Parsing as path_parsing
 use Rattle.fm_path_text.specs.Machine as machine
-use Rattle.fm_records_query.specs.declared.syntax.ItemSyntax.{ItemSyntax}
-use Rattle.fm_records_query.specs.declared.syntax.ConditionSyntax.{ConditionSyntax}
-use Rattle.fm_records_query.specs.declared.stage.Role.TheVariants.{OfCondition}
-use Rattle.fm_records_query.specs.declared.stage.Stage.{Stage}
-use Rattle.fm_records_query.specs.declared.stage.Stage.TheVariants.{Spelling, InPath, Behind, Bang, Compare, Minus, Literal}
-use Rattle.fm_records_query.specs.declared.stage.Turn.{Turn}
+use Rattle.fm_records_query.specs.declared.{syntax.{ItemSyntax.{ItemSyntax}, ConditionSyntax.{ConditionSyntax}}, stage.Role.TheVariants.{OfCondition}}
+use Rattle.fm_records_query.specs.declared.stage.{Stage.{Stage, TheVariants.{Spelling, InPath, Behind, Bang, Compare, Minus, Literal}}, Turn.{Turn}}
 use Rattle.fm_records_query.specs.declared.stage.Turn.TheVariants.{Dead, Stay, NextItem, NextCondition}
 use Rattle.fm_records_query.specs.Grammar.{most_parts, Syntax, syntax, item_text, query_text, IsItem, IsCondition, IsQuery, IsTextOf, BeginsUpTo}
 use Rattle.fm_records_query.specs.Reader.{condition, next, Spot, spot, moved, reads, run, start, whole, whole_at, IsReady, IsReadySpot}
-use Rattle.fm_records_query.proofs.Shown.{so_far, join_led, base, own, IsCounted, IsLive, HasRead, HasReadTo, Leaves}
-use Rattle.fm_records_query.proofs.Leaving.{leaves}
-use Rattle.fm_records_query.proofs.LeavingConditions.{literal_of}
-use Rattle.fm_records_query.proofs.Completing.{where_led, can_end}
-use Rattle.fm_records_query.proofs.Accepting.{accepts}
+use Rattle.fm_records_query.proofs.{Shown.{so_far, join_led, base, own, IsCounted, IsLive, HasRead, HasReadTo, Leaves}, Leaving.{leaves}}
+use Rattle.fm_records_query.proofs.{LeavingConditions.{literal_of}, Completing.{where_led, can_end}, Accepting.{accepts}}
 
 -- what was read after one more turn
 after : (text : List ℕ) (is : List ItemSyntax) (cs : List ConditionSyntax) (s : Stage) (b : ℕ) (m : Turn) → HasRead text is cs s → Leaves is cs s b m

@@ -1,22 +1,14 @@
 -- The text that a stage of the reader shows, and what holds there.
 use Rattle.std.proofs.Common.{◌≡◌, sym, ap, ℕ, ◌+◌, ◌<◌, ◌≤◌, Some, true, false, nat_eq, List, [], ◌∷◌, ◌++◌, length, take, get_or, arith, ◌∙◌}
-use Rattle.std.specs.Prelude.{codes}
-use Rattle.std.specs.List.{AllByRecursion, join_by, flat_map}
-use Rattle.std.proofs.lemmas.Bool.{eqb-true}
-use Rattle.std.proofs.lemmas.Bool.Decides.{nat_tests}
+use Rattle.std.{specs.{Prelude.{codes}, List.{AllByRecursion, join_by, flat_map}}, proofs.lemmas.Bool.{eqb-true, Decides.{nat_tests}}}
 use Rattle.std.proofs.lemmas.List.{append_assoc, append-nil, take_more, take_all}
-use Rattle.fm_path_text.specs.declared.step.PathStep.{PathStep}
-use Rattle.fm_path_text.specs.declared.part.Part.{Part}
+use Rattle.fm_path_text.specs.declared.{step.PathStep.{PathStep}, part.Part.{Part}}
 use Rattle.fm_path_text.specs.Grammar as path
 use Rattle.fm_path_text.specs.Reader as path_reader
 use Rattle.fm_path_text.proofs.Moves as path_moves
-use Rattle.fm_records_query.specs.declared.syntax.ItemSyntax.{ItemSyntax}
-use Rattle.fm_records_query.specs.declared.syntax.ConditionSyntax.{ConditionSyntax}
-use Rattle.fm_records_query.specs.declared.word.Word.TheVariants.{Folding}
-use Rattle.fm_records_query.specs.declared.stage.Role.TheVariants.{OfItem, OfCondition}
-use Rattle.fm_records_query.specs.declared.stage.Stage.{Stage}
-use Rattle.fm_records_query.specs.declared.stage.Stage.TheVariants.{Start, Spelling, InPath, Behind, Bang, Compare, Minus, Literal}
-use Rattle.fm_records_query.specs.declared.stage.Turn.{Turn}
+use Rattle.fm_records_query.specs.declared.{syntax.{ItemSyntax.{ItemSyntax}, ConditionSyntax.{ConditionSyntax}}, word.Word.TheVariants.{Folding}}
+use Rattle.fm_records_query.specs.declared.stage.{Role.TheVariants.{OfItem, OfCondition}, Stage.{Stage}}
+use Rattle.fm_records_query.specs.declared.stage.{Stage.TheVariants.{Start, Spelling, InPath, Behind, Bang, Compare, Minus, Literal}, Turn.{Turn}}
 use Rattle.fm_records_query.specs.declared.stage.Turn.TheVariants.{Dead, Stay, NextItem, NextCondition}
 use Rattle.fm_records_query.specs.Grammar.{item_text, condition_text, operator_text, IsItem, IsCondition}
 use Rattle.fm_records_query.specs.Reader.{word_text, where_word, and_word, condition, IsNumber, Spot}

@@ -1,17 +1,11 @@
 -- The texts of queries, and what a text that is none begins.
-use Rattle.std.specs.Prelude.{◌≡◌, ℤ, pos, negsuc, ℕ, ◌^◌, ◌<◌, ◌≤◌, List, [], ◌∷◌, ◌++◌, length, codes}
-use Rattle.std.specs.Fmt.{signed_decimal}
-use Rattle.std.specs.List.{AllByRecursion, join_by}
+use Rattle.std.specs.{Prelude.{◌≡◌, ℤ, pos, negsuc, ℕ, ◌^◌, ◌<◌, ◌≤◌, List, [], ◌∷◌, ◌++◌, length, codes}, Fmt.{signed_decimal}, List.{AllByRecursion, join_by}}
 use Rattle.fm_base.specs.declared.refusal.Refusal.{Refusal}
 use Rattle.fm_path_text.specs.Grammar as path
 use Rattle.fm_path_text.specs.Language as language
-use Rattle.fm_records_query.specs.declared.fold.Fold.{Fold}
-use Rattle.fm_records_query.specs.declared.fold.Fold.TheVariants.{Sum, Least, Greatest, All}
-use Rattle.fm_records_query.specs.declared.operator.Operator.{Operator}
-use Rattle.fm_records_query.specs.declared.operator.Operator.TheVariants.{Equal, NotEqual, Below, AtMost, Above, AtLeast}
-use Rattle.fm_records_query.specs.declared.syntax.ItemSyntax.{ItemSyntax}
-use Rattle.fm_records_query.specs.declared.syntax.ItemSyntax.TheVariants.{Count, Of}
-use Rattle.fm_records_query.specs.declared.syntax.ConditionSyntax.{ConditionSyntax}
+use Rattle.fm_records_query.specs.declared.{fold.Fold.{Fold, TheVariants.{Sum, Least, Greatest, All}}, operator.Operator.{Operator}}
+use Rattle.fm_records_query.specs.declared.{operator.Operator.TheVariants.{Equal, NotEqual, Below, AtMost, Above, AtLeast}, syntax.ItemSyntax.{ItemSyntax}}
+use Rattle.fm_records_query.specs.declared.syntax.{ItemSyntax.TheVariants.{Count, Of}, ConditionSyntax.{ConditionSyntax}}
 
 -- the most items, and the most conditions
 abbrev pub most_parts : ℕ

@@ -1,11 +1,8 @@
 -- What holds of every layout and text: the refusal that is answered is the only one.
 use Rattle.std.specs.Prelude.{◌≡◌, ◌≢◌, ℕ, List}
-use Rattle.fm_base.specs.declared.refusal.Refusal.{Refusal}
-use Rattle.fm_base.specs.declared.refusal.Refusal.TheVariants.{Memory}
+use Rattle.fm_base.specs.declared.refusal.Refusal.{Refusal, TheVariants.{Memory}}
 use Rattle.fm_layout.specs.Tree.{Tree}
-use Rattle.fm_records_query.specs.Parsed.{IsParsed, IsNoQuery}
-use Rattle.fm_records_query.specs.Plan.{Plan}
-use Rattle.fm_records_query.specs.Records.{IsNoRecord}
+use Rattle.fm_records_query.specs.{Parsed.{IsParsed, IsNoQuery}, Plan.{Plan}, Records.{IsNoRecord}}
 
 -- a layout is none of a record for one reason
 abbrev pub LayoutsHaveOneRefusal : Type 0

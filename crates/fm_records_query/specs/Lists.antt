@@ -3,12 +3,8 @@ use Rattle.std.specs.Prelude.{ℕ, List, [], ◌∷◌}
 use Rattle.fm_base.specs.declared.refusal.Refusal.{Refusal}
 use Rattle.fm_layout.specs.Tree.{Tree}
 use Rattle.fm_path.specs.Resolution.{IsRefusal}
-use Rattle.fm_path_text.specs.Grammar.{IsTextOf, IsNoPath}
-use Rattle.fm_path_text.specs.declared.step.PathStep.{PathStep}
-use Rattle.fm_records_query.specs.Grammar.{Syntax, syntax}
-use Rattle.fm_records_query.specs.Parsed.{IsPlanOf}
-use Rattle.fm_records_query.specs.Plan.{Plan}
-use Rattle.fm_records_query.specs.declared.fold.Fold.TheVariants.{All}
+use Rattle.fm_path_text.specs.{Grammar.{IsTextOf, IsNoPath}, declared.step.PathStep.{PathStep}}
+use Rattle.fm_records_query.specs.{Grammar.{Syntax, syntax}, Parsed.{IsPlanOf}, Plan.{Plan}, declared.fold.Fold.TheVariants.{All}}
 use Rattle.fm_records_query.specs.declared.syntax.ItemSyntax.TheVariants.{Of}
 
 -- one item, which lists the path's values, and no condition

@@ -1,22 +1,13 @@
 -- What the text of a query comes to over a layout, and why it is refused.
-use Rattle.std.specs.Prelude.{◌≡◌, ℕ, ◌+◌, ◌⊎◌, Bool, true, false, if◌then◌else◌, Option, Some, None, List, [], ◌∷◌}
-use Rattle.std.specs.List.{AllByRecursion, AllZip}
-use Rattle.fm_base.specs.declared.refusal.Refusal.{Refusal}
-use Rattle.fm_base.specs.declared.refusal.Refusal.TheVariants.{StillOpen, Memory}
-use Rattle.fm_layout.specs.Tree.{Tree, alignment_of}
-use Rattle.fm_layout.specs.Size.{size_of}
-use Rattle.fm_path_text.specs.declared.step.PathStep.{PathStep}
-use Rattle.fm_path_text.specs.declared.step.PathStep.TheVariants.{Each, EachFrom}
+use Rattle.std.specs.{Prelude.{◌≡◌, ℕ, ◌+◌, ◌⊎◌, Bool, true, false, if◌then◌else◌, Option, Some, None, List, [], ◌∷◌}, List.{AllByRecursion, AllZip}}
+use Rattle.fm_base.specs.declared.refusal.Refusal.{Refusal, TheVariants.{StillOpen, Memory}}
+use Rattle.fm_layout.specs.{Tree.{Tree, alignment_of}, Size.{size_of}}
+use Rattle.fm_path_text.specs.declared.step.PathStep.{PathStep, TheVariants.{Each, EachFrom}}
 use Rattle.fm_path.specs.Resolution.{Resolution, IsResolved, IsRefusal}
-use Rattle.fm_records_query.specs.declared.syntax.ItemSyntax.{ItemSyntax}
+use Rattle.fm_records_query.specs.declared.{syntax.{ItemSyntax.{ItemSyntax}, ConditionSyntax.{ConditionSyntax}}, item.{Asked.{Asked}, Item.{Item}}}
+use Rattle.fm_records_query.specs.{declared.condition.Condition.{Condition}, Grammar.{Syntax, IsTextOf, IsNoText, item_text, condition_text}, Plan.{Plan}}
 use Rattle.fm_records_query.specs.declared.syntax.ItemSyntax.TheVariants as syntax
-use Rattle.fm_records_query.specs.declared.syntax.ConditionSyntax.{ConditionSyntax}
-use Rattle.fm_records_query.specs.declared.item.Asked.{Asked}
 use Rattle.fm_records_query.specs.declared.item.Asked.TheVariants as asked
-use Rattle.fm_records_query.specs.declared.item.Item.{Item}
-use Rattle.fm_records_query.specs.declared.condition.Condition.{Condition}
-use Rattle.fm_records_query.specs.Grammar.{Syntax, IsTextOf, IsNoText, item_text, condition_text}
-use Rattle.fm_records_query.specs.Plan.{Plan}
 
 -- the step leaves an index open
 abbrev pub is_open : PathStep → Bool

@@ -1,13 +1,8 @@
 -- What a query is seen as: the record's size and alignment in bytes, its items and its conditions.
-use Rattle.std.specs.Prelude.{◌≡◌, ℕ, ◌*◌, ◌%◌, ◌^◌, ◌<◌, ◌≤◌, List, [], ◌∷◌, length}
-use Rattle.std.specs.List.{AllByRecursion}
+use Rattle.std.specs.{Prelude.{◌≡◌, ℕ, ◌*◌, ◌%◌, ◌^◌, ◌<◌, ◌≤◌, List, [], ◌∷◌, length}, List.{AllByRecursion}}
 use Rattle.fm_path.specs.Resolution.{Resolution, StaysInside}
 use Rattle.fm_path_meaning.specs.declared.dim.Dim.{Dim}
-use Rattle.fm_records_query.specs.Grammar.{most_parts}
-use Rattle.fm_records_query.specs.declared.item.Asked.{Asked}
-use Rattle.fm_records_query.specs.declared.item.Asked.TheVariants.{Count, Of}
-use Rattle.fm_records_query.specs.declared.item.Item.{Item}
-use Rattle.fm_records_query.specs.declared.condition.Condition.{Condition}
+use Rattle.fm_records_query.specs.{Grammar.{most_parts}, declared.{item.{Asked.{Asked, TheVariants.{Count, Of}}, Item.{Item}}, condition.Condition.{Condition}}}
 
 pub record Plan : Type 0 where
   pub size : ℕ

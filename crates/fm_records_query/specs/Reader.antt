@@ -1,28 +1,16 @@
 -- The reader of a query's text, byte by byte: how far an item or a condition has been read, and what a byte does there.
 use Rattle.std.specs.Prelude.{ℤ, pos, neg_ℤ, ℕ, ◌+◌, ◌-◌, ◌*◌, ◌^◌, ◌<◌, ◌≤◌, Bool, ◌&&◌, ◌||◌, not, Option, Some, None, List, [], ◌∷◌, ◌++◌, length, get_or, codes, if◌then◌else◌, nat_eq, nat_lt, nat_le}
 use Rattle.fm_layout.specs.Name.{is_digit}
-use Rattle.fm_path_text.specs.declared.step.PathStep.{PathStep}
-use Rattle.fm_path_text.specs.declared.part.Part.{Part}
-use Rattle.fm_path_text.specs.declared.part.Part.TheVariants.{Between}
+use Rattle.fm_path_text.specs.declared.{step.PathStep.{PathStep}, part.Part.{Part, TheVariants.{Between}}}
 use Rattle.fm_path_text.specs.Machine as machine
 use Rattle.fm_path_text.specs.Reader as path
-use Rattle.fm_records_query.specs.declared.fold.Fold.TheVariants.{Sum, Least, Greatest, All}
-use Rattle.fm_records_query.specs.declared.operator.Operator.{Operator}
-use Rattle.fm_records_query.specs.declared.operator.Operator.TheVariants.{Equal, NotEqual, Below, AtMost, Above, AtLeast}
-use Rattle.fm_records_query.specs.declared.syntax.ItemSyntax.{ItemSyntax}
-use Rattle.fm_records_query.specs.declared.syntax.ItemSyntax.TheVariants.{Count, Of}
-use Rattle.fm_records_query.specs.declared.syntax.ConditionSyntax.{ConditionSyntax}
-use Rattle.fm_records_query.specs.declared.word.Word.{Word}
-use Rattle.fm_records_query.specs.declared.word.Word.TheVariants.{Counting, Folding}
-use Rattle.fm_records_query.specs.declared.number.Number.{Number}
-use Rattle.fm_records_query.specs.declared.number.Number.TheVariants.{Up, Down}
-use Rattle.fm_records_query.specs.declared.stage.Role.{Role}
-use Rattle.fm_records_query.specs.declared.stage.Role.TheVariants.{OfItem, OfCondition}
-use Rattle.fm_records_query.specs.declared.stage.Stage.{Stage}
-use Rattle.fm_records_query.specs.declared.stage.Stage.TheVariants.{Start, Spelling, InPath, Behind, Bang, Compare, Minus, Literal}
-use Rattle.fm_records_query.specs.declared.stage.Turn.{Turn}
-use Rattle.fm_records_query.specs.declared.stage.Turn.TheVariants.{Dead, Stay, NextItem, NextCondition}
-use Rattle.fm_records_query.specs.Grammar.{Syntax, syntax, fold_text, most_parts}
+use Rattle.fm_records_query.specs.declared.{fold.Fold.TheVariants.{Sum, Least, Greatest, All}, operator.Operator.{Operator}}
+use Rattle.fm_records_query.specs.declared.{operator.Operator.TheVariants.{Equal, NotEqual, Below, AtMost, Above, AtLeast}, syntax.ItemSyntax.{ItemSyntax}}
+use Rattle.fm_records_query.specs.declared.{syntax.{ItemSyntax.TheVariants.{Count, Of}, ConditionSyntax.{ConditionSyntax}}, word.Word.{Word}}
+use Rattle.fm_records_query.specs.declared.{word.Word.TheVariants.{Counting, Folding}, number.Number.{Number, TheVariants.{Up, Down}}, stage.Role.{Role}}
+use Rattle.fm_records_query.specs.declared.stage.{Role.TheVariants.{OfItem, OfCondition}, Stage.{Stage}}
+use Rattle.fm_records_query.specs.declared.stage.{Stage.TheVariants.{Start, Spelling, InPath, Behind, Bang, Compare, Minus, Literal}, Turn.{Turn}}
+use Rattle.fm_records_query.specs.{declared.stage.Turn.TheVariants.{Dead, Stay, NextItem, NextCondition}, Grammar.{Syntax, syntax, fold_text, most_parts}}
 
 -- the word that begins an item, and the words between parts
 abbrev pub word_text : Word → List ℕ

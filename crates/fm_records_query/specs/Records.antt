@@ -1,9 +1,7 @@
 -- The layouts of which records can stand one after the other.
 use Rattle.std.specs.Prelude.{◌≡◌, ◌≢◌, ◌%◌, ◌<◌}
-use Rattle.fm_base.specs.declared.refusal.Refusal.{Refusal}
-use Rattle.fm_base.specs.declared.refusal.Refusal.TheVariants.{NoSize, ElementRagged}
-use Rattle.fm_layout.specs.Tree.{Tree, alignment_of}
-use Rattle.fm_layout.specs.Size.{size_of}
+use Rattle.fm_base.specs.declared.refusal.Refusal.{Refusal, TheVariants.{NoSize, ElementRagged}}
+use Rattle.fm_layout.specs.{Tree.{Tree, alignment_of}, Size.{size_of}}
 
 -- a record of this layout has bytes, and the next one is aligned where it is
 pub record IsRecord (t : Tree) : Type 0 where

@@ -1,23 +1,15 @@
 -- What a step needs is what the table asks, and what a step tells is that it stepped.
 use Rattle.std.proofs.Common.{◌≡◌, ℕ, ◌-◌, ◌/◌, ◌<◌, ◌==◌, if◌then◌else◌, Bool, true, false, List, [], ◌∷◌, ◌++◌, length, set, slice_index, All, Option, Some, None, inl, inr, sym, refl, ap, ◌∙◌, subst}
-use Rattle.std.specs.Prelude.{⊤}
-use Rattle.std.proofs.lemmas.List.{append-nil}
-use Rattle.std.proofs.lemmas.List.Elements.{All-nil, All-cons}
+use Rattle.std.{specs.Prelude.{⊤}, proofs.lemmas.List.{append-nil, Elements.{All-nil, All-cons}}}
 use Rattle.atomic_table.specs.Table.{State, Me, keeps, Allows}
 use Rattle.fm_words.specs.declared.shape.Shape.{Shape}
-use Rattle.fm_base.specs.declared.caller.Caller.{Caller}
-use Rattle.fm_base.specs.declared.arena_id.ArenaId.{ArenaId}
-use Rattle.fm_base.specs.Calls.{Entry}
-use Rattle.fm_base.specs.Histories.{made_by}
+use Rattle.fm_base.specs.{declared.{caller.Caller.{Caller}, arena_id.ArenaId.{ArenaId}}, Calls.{Entry}, Histories.{made_by}}
 use Rattle.fm_base.specs.Finds.{Find, Gathered, Close, Sweep, is_number, group_of}
 use Rattle.fm_rule_facts.specs.declared.step.Step.{Step}
 use Rattle.fm_rule_facts.specs.declared.step.Step.TheVariants.{Draws, Marks, Checks, Loads, Stores, SwapsIf, Adds, Allocates, Holds, Unholds, Backs, Unmarks, Shuts, Visits, TakesSlot, LearnsGeneration, Opens, Claims, Maps, ReadsMap, SweepsGiven, SweepsMap, Unmaps, Wipes, GivesPage, ReturnsPage, ResetsGiven, Retires, GivesSlot, Looks, TakesNumber, LearnsTerm, RaisesTerm, GivesNumber}
 use Rattle.fm_rule_facts.specs.Views.{Met, View, In, IsSound, IsNew, IsNumberGone, all_gathered, brought}
-use Rattle.fm_rule_facts.specs.Hands.{Hand, Number, no_number, number_drawn, number_after, drawn_by}
-use Rattle.fm_rule_facts.specs.Steps.{Stepped, part, entries, noted, draws}
-use Rattle.fm_rule_facts.specs.Facts.{Rule}
-use Rattle.fm_rule_facts.specs.Parts.{Mapping, Swept, mapping_of, reads_after, reads_mapped}
-use Rattle.fm_rule_facts.specs.Moves.{Same, Gives, Tells, MayStep, MayStore}
+use Rattle.fm_rule_facts.specs.{Hands.{Hand, Number, no_number, number_drawn, number_after, drawn_by}, Steps.{Stepped, part, entries, noted, draws}}
+use Rattle.fm_rule_facts.specs.{Facts.{Rule}, Parts.{Mapping, Swept, mapping_of, reads_after, reads_mapped}, Moves.{Same, Gives, Tells, MayStep, MayStore}}
 use Rattle.fm_rule.specs.Views.{homed}
 
 abbrev pub Keeping : Shape → State (Unit {0}) View → Type 0

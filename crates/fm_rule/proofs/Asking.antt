@@ -1,21 +1,11 @@
 -- A pass looks for a number and asks how many draws were made: one step after another.
 use Rattle.std.proofs.Common.{◌≡◌, ◌⊎◌, ℕ, ◌+◌, ◌<◌, ◌==◌, ◌&&◌, Bool, true, false, if◌then◌else◌, List, [], ◌++◌, length, All, get_or, sym, refl, ap, ◌∙◌, subst, arith, inl, inr, ⊎_elim, append_assoc, Option, Some, None, eq-eqb, ne_eqb}
-use Rattle.std.proofs.lemmas.List.{append-nil}
-use Rattle.std.proofs.lemmas.List.Elements.{filter-append}
-use Rattle.fm_base.specs.declared.caller.Caller.{Caller}
-use Rattle.fm_base.specs.Calls.{Entry}
-use Rattle.fm_base.specs.Histories.{made_by}
-use Rattle.fm_base.specs.Finds.{Find, Gathered, Draws as Drawing, is_draw, is_number}
-use Rattle.fm_rule_facts.specs.Views.{View, In, HasFind}
-use Rattle.fm_rule_facts.specs.Steps.{Stepped, draws, note_draw, is_clear}
-use Rattle.fm_rule_facts.specs.Hands.{Number, no_number, drawn_by, number_after}
-use Rattle.fm_rule_facts.specs.Moves.{LearnsCount}
-use Rattle.fm_rule_facts.proofs.Founds.{draw_found, draw_is}
-use Rattle.fm_rule_facts.proofs.Keeping.{in_append, in_left}
+use Rattle.std.proofs.lemmas.List.{append-nil, Elements.{filter-append}}
+use Rattle.fm_base.specs.{declared.caller.Caller.{Caller}, Calls.{Entry}, Histories.{made_by}, Finds.{Find, Gathered, Draws as Drawing, is_draw, is_number}}
+use Rattle.fm_rule_facts.specs.{Views.{View, In, HasFind}, Steps.{Stepped, draws, note_draw, is_clear}, Hands.{Number, no_number, drawn_by, number_after}}
+use Rattle.fm_rule_facts.{specs.Moves.{LearnsCount}, proofs.{Founds.{draw_found, draw_is}, Keeping.{in_append, in_left}}}
 use Rattle.fm_rule_steps.proofs.Reading.{eqb_true, eqb_false}
-use Rattle.fm_rule.specs.Passes.{IsOf}
-use Rattle.fm_rule.specs.Draws.{Asked, Asks, Looked}
-use Rattle.fm_rule.specs.declared.pool.Pool.{Pool}
+use Rattle.fm_rule.specs.{Passes.{IsOf}, Draws.{Asked, Asks, Looked}, declared.pool.Pool.{Pool}}
 
 -- no step
 asked_none : (p : View) (k : Number) → p.number ≡ k → Asked p p [] k

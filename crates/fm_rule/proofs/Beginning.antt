@@ -1,22 +1,14 @@
 -- The bits of a new pool are set one word after another.
 use Rattle.std.proofs.Common.{◌≡◌, ◌≢◌, ℕ, ◌+◌, ◌-◌, ◌*◌, ◌/◌, ◌%◌, ◌<◌, min, List, [], ◌∷◌, length, set, ap, ◌∙◌, subst, sym, refl, arith, inl, inr}
+use Rattle.std.{specs.Int.{bit_at}, proofs.lemmas.{Bool.{cases_lt}, Nat.Bits.{bit_at-zero, bit_at_ones, bit_at_ones_above}}}
 use mathlib.Core.Logic.{dite}
 use native.Mathlib.Decide.{ℕ_discrete}
-use Rattle.std.specs.Int.{bit_at}
-use Rattle.std.proofs.lemmas.Bool.{cases_lt}
-use Rattle.std.proofs.lemmas.Nat.Bits.{bit_at-zero, bit_at_ones, bit_at_ones_above}
-use Rattle.fm_words.specs.declared.shape.Shape.{Shape}
-use Rattle.fm_words.specs.Shapes.{IsValid}
-use Rattle.fm_words.specs.Places.{Place, IsPlace, at, number_bits, groups, page_bits, page_groups, words}
+use Rattle.fm_words.specs.{declared.shape.Shape.{Shape}, Shapes.{IsValid}, Places.{Place, IsPlace, at, number_bits, groups, page_bits, page_groups, words}}
 use Rattle.fm_words.specs.Bits.{ones, number_at, bit_of, IsWithout}
-use Rattle.fm_base_machine.specs.Functions.{put}
-use Rattle.fm_base_machine.proofs.Putting.{put_here, put_else}
-use Rattle.fm_rule_facts.specs.Views.{IsSound}
-use Rattle.fm_rule_facts.specs.Splits.{first_view}
-use Rattle.fm_rule_facts.specs.Facts.{Rule}
+use Rattle.fm_base_machine.{specs.Functions.{put}, proofs.Putting.{put_here, put_else}}
+use Rattle.fm_rule_facts.specs.{Views.{IsSound}, Splits.{first_view}, Facts.{Rule}}
 use Rattle.fm_rule_steps.proofs.First.{AreFree, AreLoose, slots_set, shows_blank, shows_pages, shows_group, first_rule, first_sound}
-use Rattle.fm_rule.specs.Beginning.{IsFull, AreFirst, IsBegun}
-use Rattle.fm_rule.proofs.Knowing.{place_below}
+use Rattle.fm_rule.{specs.Beginning.{IsFull, AreFirst, IsBegun}, proofs.Knowing.{place_below}}
 
 -- no word of these bits is set
 pub begun_none : (z : Shape) → IsValid z → IsBegun z (slots_set z) 0 0

@@ -1,23 +1,15 @@
 -- A pass has a number whose term it knows, and counts a draw; then the number's next caller is drawn.
 use Rattle.std.proofs.Common.{◌≡◌, ◌≢◌, ℕ, ◌<◌, ◌==◌, Bool, true, false, if◌then◌else◌, List, [], ◌++◌, length, sym, refl, ap, ◌∙◌, subst, arith, inl, inr, ⊎_elim, append_assoc, Option, Some, None, eq-eqb, ne_eqb}
 use Rattle.std.proofs.lemmas.List.{append-nil}
-use Rattle.fm_words.specs.declared.shape.Shape.{Shape}
-use Rattle.fm_words.specs.Places.{groups}
-use Rattle.fm_base.specs.declared.caller.Caller.{Caller}
-use Rattle.fm_base.specs.Finds.{Find, Draws as Drawing, is_draw}
-use Rattle.fm_rule_facts.specs.Views.{View, In, IsSound}
-use Rattle.fm_rule_facts.specs.Steps.{Stepped, draws, note_draw, none_noted, is_clear}
+use Rattle.fm_words.specs.{declared.shape.Shape.{Shape}, Places.{groups}}
+use Rattle.fm_base.specs.{declared.caller.Caller.{Caller}, Finds.{Find, Draws as Drawing, is_draw}}
+use Rattle.fm_rule_facts.specs.{Views.{View, In, IsSound}, Steps.{Stepped, draws, note_draw, none_noted, is_clear}}
 use Rattle.fm_rule_facts.specs.Hands.{Number, no_number, number_taken, number_learnt, number_left, number_drawn, most_draws, drawn_by, number_after}
-use Rattle.fm_rule_facts.specs.Moves.{LearnsCount}
-use Rattle.fm_rule_facts.specs.Splits.{drawn_left}
-use Rattle.fm_rule_facts.proofs.Founds.{draw_found, draw_drew, draw_is}
+use Rattle.fm_rule_facts.{specs.{Moves.{LearnsCount}, Splits.{drawn_left}}, proofs.Founds.{draw_found, draw_drew, draw_is}}
 use Rattle.fm_rule_facts.proofs.Keeping.{in_append, in_left, in_right}
-use Rattle.fm_rule.specs.Passes.{IsOf}
-use Rattle.fm_rule.specs.Draws.{cut_from, Asks, Seeks, Follow, LearnsAnew, FoundZero, Takes, Counts, Drawn, NoneDrawn}
-use Rattle.fm_rule.specs.declared.pool.Pool.{Pool}
-use Rattle.fm_rule.proofs.Following.{last_found, follows_more, last_more}
-use Rattle.fm_rule.proofs.Asking.{asked_then, asked_both, asks_none, asks_both, asks_step, Draw, whole_after, not_made, draw_counts}
-use Rattle.fm_rule.proofs.Seeking.{seeks_both}
+use Rattle.fm_rule.specs.{Passes.{IsOf}, Draws.{cut_from, Asks, Seeks, Follow, LearnsAnew, FoundZero, Takes, Counts, Drawn, NoneDrawn}}
+use Rattle.fm_rule.{specs.declared.pool.Pool.{Pool}, proofs.Following.{last_found, follows_more, last_more}}
+use Rattle.fm_rule.proofs.{Asking.{asked_then, asked_both, asks_none, asks_both, asks_step, Draw, whole_after, not_made, draw_counts}, Seeking.{seeks_both}}
 use Rattle.fm_rule.proofs.Halves.{left_sound}
 
 -- ---- the loop

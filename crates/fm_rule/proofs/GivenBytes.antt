@@ -1,23 +1,13 @@
 -- The bytes of an arena stand in the words of its slot.
 use Rattle.std.proofs.Common.{◌≡◌, ◌≢◌, Some, None, ℕ, ◌+◌, ◌*◌, ◌/◌, ◌%◌, ◌<◌, ◌≤◌, List, [], ◌∷◌, ◌++◌, length, take, get_or, sym, ap, ◌∙◌, subst, arith, true}
-use Rattle.fm_words.specs.Places.{at, map, page_word, words, session, given as given_place}
+use Rattle.std.proofs.{lemmas.List.{take_more}, Math.Nat.{mod-lt}}
+use Rattle.fm_words.specs.{Places.{at, map, page_word, words, session, given as given_place}, declared.shape.Shape.{Shape}, Maps.{map_word}}
 use Rattle.fm_rule_steps.proofs.Bearing.{shown_alive, shown_unalive}
-use Rattle.fm_rule_facts.specs.Words.{alive_holds}
-use Rattle.std.proofs.lemmas.List.{take_more}
-use Rattle.fm_words.specs.declared.shape.Shape.{Shape}
-use Rattle.fm_base.specs.declared.arena_id.ArenaId.{ArenaId}
-use Rattle.fm_base.specs.Arenas.{Alive, Ended, arena_of, word_in, has_arena}
-use Rattle.fm_base.specs.Histories.{IsWhole}
-use Rattle.fm_base.proofs.Growing.{there_by_life}
-use Rattle.fm_base.proofs.Wholeness.{whole_always}
-use Rattle.fm_base_bytes.specs.Words.{bytes_in, byte_of}
-use Rattle.fm_base_bytes.proofs.Words.{length-bytes_in, get_or-bytes_in}
-use Rattle.fm_rule_facts.specs.Views.{Fits, span, limit_of}
-use Rattle.fm_words.specs.Maps.{map_word}
-use Rattle.std.proofs.Math.Nat.{mod-lt}
-use Rattle.fm_rule.proofs.Knowing.{place_below}
-use Rattle.fm_rule.specs.Finishing.{FinishedView, IsFinished}
-use Rattle.fm_rule.specs.GivenBytes.{HasBytes, given_bytes, state_of}
+use Rattle.fm_rule_facts.specs.{Words.{alive_holds}, Views.{Fits, span, limit_of}}
+use Rattle.fm_base.specs.{declared.arena_id.ArenaId.{ArenaId}, Arenas.{Alive, Ended, arena_of, word_in, has_arena}, Histories.{IsWhole}}
+use Rattle.fm_base.proofs.{Growing.{there_by_life}, Wholeness.{whole_always}}
+use Rattle.fm_base_bytes.{specs.Words.{bytes_in, byte_of}, proofs.Words.{length-bytes_in, get_or-bytes_in}}
+use Rattle.fm_rule.{proofs.Knowing.{place_below}, specs.{Finishing.{FinishedView, IsFinished}, GivenBytes.{HasBytes, given_bytes, state_of}}}
 
 module _ (f : FinishedView) (i : IsFinished f) (a : ArenaId) (has : HasBytes f a) where
   whole : IsWhole (limit_of f.shape) (arena_of (state_of f) a)

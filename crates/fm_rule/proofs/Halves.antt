@@ -1,30 +1,15 @@
 -- A pass and the one that is split off from it, and a pass that another is gathered into.
 use Rattle.std.proofs.Common.{◌≡◌, ℕ, suc, ◌+◌, ◌<◌, Bool, true, false, if◌then◌else◌, List, [], ◌∷◌, ◌++◌, length, sym, refl, ap, ◌∙◌, subst, arith, inl, inr, Option, None, ⊎_elim, All, append_assoc, ◌^◌, ◌≤◌}
-use Rattle.std.proofs.lemmas.List.{append-nil, length-append}
-use Rattle.std.proofs.lemmas.List.Elements.{filter-append}
-use Rattle.fm_base.specs.declared.caller.Caller.{Caller}
-use Rattle.fm_base.specs.declared.arena_id.ArenaId.{ArenaId}
-use Rattle.fm_base.specs.Arenas.{IsUnderWay}
-use Rattle.fm_base.specs.Calls.{Entry}
-use Rattle.fm_base.specs.Histories.{made_by}
+use Rattle.std.proofs.lemmas.List.{append-nil, length-append, Elements.{filter-append}}
+use Rattle.fm_base.specs.{declared.{caller.Caller.{Caller}, arena_id.ArenaId.{ArenaId}}, Arenas.{IsUnderWay}, Calls.{Entry}, Histories.{made_by}}
 use Rattle.fm_base.specs.Finds.{Gathered}
 use Rattle.fm_base_machine.specs.Handles.{AreLeft}
-use Rattle.fm_rule_facts.specs.declared.step.Step.TheVariants.{Looks}
-use Rattle.fm_rule_facts.specs.Views.{Met, View, In, IsSound, is_automatic, brought, state_in}
+use Rattle.fm_rule_facts.specs.{declared.step.Step.TheVariants.{Looks}, Views.{Met, View, In, IsSound, is_automatic, brought, state_in}}
 use Rattle.fm_rule_facts.specs.Splits.{drawn_left, drawn_right, as_gathered, gather, IsAtRest, caller_or}
-use Rattle.fm_rule_facts.specs.Hands.{no_number, number_drawn, number_of_joined, last_term}
-use Rattle.fm_rule_facts.specs.Steps.{part, entries, noted}
-use Rattle.fm_rule_facts.specs.Facts.{Begins}
-use Rattle.fm_rule.specs.declared.pass.Part.{Part}
-use Rattle.fm_rule.proofs.Allowed.{sound_with, sound_homed, all_of_in}
-use Rattle.fm_rule.proofs.Keeping.{part_on}
-use Rattle.fm_rule_facts.specs.Moves.{Gives, Tells}
-use Rattle.fm_rule_facts.proofs.Keeping.{none_added}
-use Rattle.fm_rule.specs.Views.{homed, Keeps}
-use Rattle.fm_rule.specs.Draws.{CanGather, Gathers, GivesBack}
-use Rattle.fm_rule_facts.proofs.Keeping.{in_left, in_right}
-use Rattle.fm_base.specs.Calls.{Entry}
-use Rattle.fm_rule.specs.declared.pool.Pool.{Pool}
+use Rattle.fm_rule_facts.specs.{Hands.{no_number, number_drawn, number_of_joined, last_term}, Steps.{part, entries, noted}, Facts.{Begins}}
+use Rattle.fm_rule_facts.{specs.Moves.{Gives, Tells}, proofs.Keeping.{none_added, in_left, in_right}}
+use Rattle.fm_rule.{specs.{declared.pass.Part.{Part}, Views.{homed, Keeps}}, proofs.{Allowed.{sound_with, sound_homed, all_of_in}, Keeping.{part_on}}}
+use Rattle.fm_rule.specs.{Draws.{CanGather, Gathers, GivesBack}, declared.pool.Pool.{Pool}}
 
 -- ---- the drawer and the new pass
 

@@ -2,27 +2,11 @@
 use Rattle.std.proofs.Common.{◌≡◌, ◌==◌, if◌then◌else◌, Bool, false, ◌∷◌, ◌++◌, ne_eqb, ℕ, zero, suc, ◌+◌, ◌-◌, ◌*◌, ◌<◌, inl, arith, subst, List, [], length, Option, None, sym, refl, ap, ◌∙◌}
 use Rattle.std.proofs.lemmas.List.{append-nil}
 use Rattle.atomic_table.specs.declared.shared.Seat.{Seat}
-use Rattle.fm_words.specs.declared.shape.Shape.{Shape}
-use Rattle.fm_base.specs.Arenas.{only_caller}
-use Rattle.fm_base.specs.Calls.{Entry}
-use Rattle.fm_base.specs.Finds.{Find, Gathered}
-use Rattle.fm_base.specs.declared.caller.Caller.{Caller}
-use Rattle.fm_base.specs.declared.arena_id.ArenaId.{ArenaId}
-use Rattle.fm_rule_facts.specs.declared.step.Step.{Step}
-use Rattle.fm_rule_facts.specs.declared.step.Step.TheVariants.{Checks, Unmarks, ReadsMap}
-use Rattle.fm_rule_facts.specs.Views.{View, In, IsSound, brought}
-use Rattle.fm_rule_facts.specs.Splits.{first_view}
-use Rattle.fm_rule_facts.specs.Words.{alive_holds, inside_found}
-use Rattle.fm_rule_facts.specs.Steps.{part}
-use Rattle.fm_rule_facts.specs.Parts.{Mapping, mapping_of, reads_after}
-use Rattle.fm_rule_facts.specs.Moves.{Same, Gives}
-use Rattle.fm_words.specs.Maps.{map_word}
-use Rattle.fm_words.specs.Places.{at, page_word}
-use Rattle.fm_rule.specs.declared.pass.Part.{Part}
-use Rattle.fm_rule.specs.declared.seen.Seen.{Seen}
-use Rattle.fm_rule.specs.Acts.{Acted}
-use Rattle.fm_rule.specs.Views.{IsPart, Keeps}
-use Rattle.fm_rule.proofs.Allowed.{StaysInside, leaves}
+use Rattle.fm_words.specs.{declared.shape.Shape.{Shape}, Maps.{map_word}, Places.{at, page_word}}
+use Rattle.fm_base.specs.{Arenas.{only_caller}, Calls.{Entry}, Finds.{Find, Gathered}, declared.{caller.Caller.{Caller}, arena_id.ArenaId.{ArenaId}}}
+use Rattle.fm_rule_facts.specs.{declared.step.Step.{Step, TheVariants.{Checks, Unmarks, ReadsMap}}, Views.{View, In, IsSound, brought}, Splits.{first_view}}
+use Rattle.fm_rule_facts.specs.{Words.{alive_holds, inside_found}, Steps.{part}, Parts.{Mapping, mapping_of, reads_after}, Moves.{Same, Gives}}
+use Rattle.fm_rule.{specs.{declared.{pass.Part.{Part}, seen.Seen.{Seen}}, Acts.{Acted}, Views.{IsPart, Keeps}}, proofs.Allowed.{StaysInside, leaves}}
 
 -- after a step that leaves the arena that it is inside
 pub part_on : (v w : View) (part : Part) → w.shape ≡ v.shape → ((x : Mapping) → In x v.reads → In x w.reads) → IsPart v part → IsPart w part

@@ -1,28 +1,14 @@
 -- What a pass of a pool knows at the call of a step.
 use Rattle.std.proofs.Common.{◌≡◌, ℕ, ◌+◌, ◌-◌, ◌*◌, ◌/◌, ◌%◌, ◌^◌, ◌<◌, ◌≤◌, List, [], ◌∷◌, inl, true, refl, Option, Some, sym, ap, ◌∙◌, subst, arith}
-use Rattle.fm_words.specs.declared.shape.Shape.{Shape}
-use Rattle.fm_words.specs.Shapes.{IsValid}
-use Rattle.fm_words.specs.Places.{Place, IsPlace, at, page_word, groups, page_groups, words}
+use Rattle.std.proofs.{Math.Nat.{mod-lt}, lemmas.Nat.{div-mul-add, mod-mul-add}}
+use Rattle.fm_words.specs.{declared.shape.Shape.{Shape}, Shapes.{IsValid}, Places.{Place, IsPlace, at, page_word, groups, page_groups, words}}
 use Rattle.fm_words.proofs.Tables.{at-within, words-le}
-use Rattle.atomic_table.specs.declared.shared.Seat.{Seat}
-use Rattle.fm_base.specs.declared.caller.Caller.{Caller}
-use Rattle.fm_base.specs.declared.arena_id.ArenaId.{ArenaId}
-use Rattle.fm_rule_facts.specs.Hands.{Hand, HasSlot}
-use Rattle.fm_rule_facts.specs.Views.{View, Fits, In, IsKnown, IsOver, IsSound}
-use Rattle.fm_rule_facts.specs.Closes.{passed_of}
-use Rattle.fm_rule_facts.specs.Steps.{HasPlace, number_at, CanDraw, can_draw, can_look}
-use Rattle.fm_rule_facts.specs.Parts.{wiping, mapping_of}
-use Rattle.fm_rule_facts.proofs.Groups.{page_group}
-use Rattle.std.proofs.Math.Nat.{mod-lt}
+use Rattle.atomic_table.specs.{declared.shared.Seat.{Seat}, Seated.{TableId}, Table.{Me}}
+use Rattle.fm_base.specs.declared.{caller.Caller.{Caller}, arena_id.ArenaId.{ArenaId}}
+use Rattle.fm_rule_facts.specs.{Hands.{Hand, HasSlot}, Views.{View, Fits, In, IsKnown, IsOver, IsSound}, Closes.{passed_of}}
+use Rattle.fm_rule_facts.{specs.{Steps.{HasPlace, number_at, CanDraw, can_draw, can_look}, Parts.{wiping, mapping_of}}, proofs.Groups.{page_group}}
 use Rattle.fm_rule_steps.proofs.Closes.{Found, passed_of-found}
-use Rattle.fm_rule.specs.declared.pass.Part.{Part}
-use Rattle.std.proofs.lemmas.Nat.{div-mul-add, mod-mul-add}
-use Rattle.atomic_table.specs.Seated.{TableId}
-use Rattle.atomic_table.specs.Table.{Me}
-use Rattle.fm_rule.specs.declared.pool.Pool.{Pool}
-use Rattle.fm_rule.specs.Passes.{IsOf}
-use Rattle.fm_rule.specs.declared.seen.Seen.{Seen}
-use Rattle.fm_rule.specs.Views.{homed, numbers_of, IsPart, Keeps}
+use Rattle.fm_rule.specs.{declared.{pass.Part.{Part}, pool.Pool.{Pool}, seen.Seen.{Seen}}, Passes.{IsOf}, Views.{homed, numbers_of, IsPart, Keeps}}
 
 -- ---- the table
 

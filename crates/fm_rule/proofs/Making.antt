@@ -1,51 +1,26 @@
 -- The steps that a pass of a pool may make, by what is known at the call.
 use Rattle.std.proofs.Common.{◌≡◌, ◌≢◌, ℕ, ◌+◌, ◌-◌, ◌/◌, ◌%◌, ◌^◌, ◌<◌, ◌≤◌, ◌==◌, bit_or, true, [], ◌∷◌, Some, None, refl, sym, ap, ◌∙◌, subst, arith}
-use prog.Atomic.{either}
 use Rattle.std.proofs.lemmas.Bool.{leb-true}
+use prog.Atomic.{either}
 use Rattle.fm_words.specs.declared.shape.Shape.{Shape}
 use Rattle.fm_words.specs.Places.{Place, IsPlace, at, front, draw, slot_bits, page_bits, map, page_word, mark, session, given, number_bits, term}
-use Rattle.fm_base.specs.declared.caller.Caller.{Caller}
-use Rattle.fm_base.specs.declared.arena_id.ArenaId.{ArenaId}
-use Rattle.fm_base.specs.declared.kind.Kind.TheVariants.{Global, Automatic}
-use Rattle.fm_base.specs.Machine.{IsPower, rounded_up}
-use Rattle.fm_base.specs.Arenas.{MayUse, owner_of}
-use Rattle.fm_words.specs.Bits.{IsWithout}
-use Rattle.fm_rule_facts.specs.Hands.{nothing, taken, learnt, retired, no_number, number_taken, number_left, number_joined}
-use Rattle.fm_rule_facts.specs.declared.step.Step.{Step}
+use Rattle.fm_words.specs.{Bits.{IsWithout}, Maps.{map_word}}
+use Rattle.fm_base.specs.declared.{caller.Caller.{Caller}, arena_id.ArenaId.{ArenaId}, kind.Kind.TheVariants.{Global, Automatic}}
+use Rattle.fm_base.specs.{Machine.{IsPower, rounded_up}, Arenas.{MayUse, owner_of}}
+use Rattle.fm_rule_facts.specs.{Hands.{nothing, taken, learnt, retired, no_number, number_taken, number_left, number_joined}, declared.step.Step.{Step}}
 use Rattle.fm_rule_facts.specs.declared.step.Step.TheVariants.{Draws, Marks, Checks, Loads, Stores, SwapsIf, Adds, Allocates, Holds, Unholds, Backs, Unmarks, Shuts, Visits, TakesSlot, LearnsGeneration, Opens, Claims, Maps, ReadsMap, SweepsGiven, SweepsMap, Unmaps, Wipes, GivesPage, ReturnsPage, ResetsGiven, Retires, GivesSlot, TakesNumber, LearnsTerm, RaisesTerm, GivesNumber, Looks}
-use Rattle.fm_rule_facts.specs.Views.{View, In, IsKnown, limit_of}
-use Rattle.fm_rule_facts.specs.Words.{alive_word, closing_word, free_word, held_word, mark_of}
-use Rattle.fm_rule_facts.specs.Handles.{back_word}
-use Rattle.fm_rule_facts.specs.Closes.{passed_of}
-use Rattle.fm_rule_facts.specs.Steps.{draw_next, number_at, CanDraw, CanReach, HasParts, HasPlace, AreAllGiven, given_next}
-use Rattle.fm_words.specs.Maps.{map_word}
-use Rattle.fm_rule_facts.specs.Parts.{unread, named, wiping, mapping_of}
-use Rattle.fm_rule_facts.specs.Moves.{MayStep, MayStore}
-use Rattle.fm_rule_steps.proofs.Acting.{mark_steps, check_steps, unmark_steps, look_steps}
-use Rattle.fm_rule_steps.proofs.Reaching.{load_steps, store_steps, swap_steps, add_steps}
-use Rattle.fm_rule_steps.proofs.Allocating.{allocate_steps}
-use Rattle.fm_rule_steps.proofs.Holding.{hold_steps, unhold_steps}
-use Rattle.fm_rule_steps.proofs.Backing.{back_steps}
-use Rattle.fm_rule_steps.proofs.Drawing.{draw_steps}
-use Rattle.fm_rule_steps.proofs.Numbering.{learn_term_steps, raise_term_steps, give_number_steps}
-use Rattle.fm_rule_steps.proofs.Shutting.{shut_steps}
-use Rattle.fm_rule_steps.proofs.Visiting.{visit_steps}
-use Rattle.fm_rule_steps.proofs.Taking.{take_steps, generation_steps}
-use Rattle.fm_rule_steps.proofs.Opening.{open_steps}
-use Rattle.fm_rule_steps.proofs.Wiping.{look_map_steps, unmap_steps, wipe_steps, return_steps}
-use Rattle.fm_rule_steps.proofs.Resetting.{given_steps, reset_steps}
-use Rattle.fm_rule_steps.proofs.Claiming.{claim_steps, give_page_steps}
-use Rattle.fm_rule_steps.proofs.Mapping.{map_steps, read_map_steps}
-use Rattle.fm_rule_steps.proofs.Retiring.{retire_steps}
-use Rattle.fm_rule_steps.proofs.Giving.{give_steps}
-use Rattle.fm_rule_facts.proofs.Groups.{group_of_page}
+use Rattle.fm_rule_facts.specs.{Views.{View, In, IsKnown, limit_of}, Words.{alive_word, closing_word, free_word, held_word, mark_of}, Handles.{back_word}}
+use Rattle.fm_rule_facts.specs.{Closes.{passed_of}, Steps.{draw_next, number_at, CanDraw, CanReach, HasParts, HasPlace, AreAllGiven, given_next}}
+use Rattle.fm_rule_facts.{specs.{Parts.{unread, named, wiping, mapping_of}, Moves.{MayStep, MayStore}}, proofs.Groups.{group_of_page}}
+use Rattle.fm_rule_steps.proofs.{Acting.{mark_steps, check_steps, unmark_steps, look_steps}, Reaching.{load_steps, store_steps, swap_steps, add_steps}}
+use Rattle.fm_rule_steps.proofs.{Allocating.{allocate_steps}, Holding.{hold_steps, unhold_steps}, Backing.{back_steps}, Drawing.{draw_steps}}
+use Rattle.fm_rule_steps.proofs.{Numbering.{learn_term_steps, raise_term_steps, give_number_steps}, Shutting.{shut_steps}, Visiting.{visit_steps}}
+use Rattle.fm_rule_steps.proofs.{Taking.{take_steps, generation_steps}, Opening.{open_steps}, Wiping.{look_map_steps, unmap_steps, wipe_steps, return_steps}}
+use Rattle.fm_rule_steps.proofs.{Resetting.{given_steps, reset_steps}, Claiming.{claim_steps, give_page_steps}, Mapping.{map_steps, read_map_steps}}
+use Rattle.fm_rule_steps.proofs.{Retiring.{retire_steps}, Giving.{give_steps}, TakingNumbers.{take_number_steps}}
 use Rattle.atomic_table.specs.declared.shared.Seat.{Seat}
-use Rattle.fm_rule.specs.declared.pool.Pool.{Pool}
-use Rattle.fm_rule.specs.declared.seen.Seen.{Seen}
-use Rattle.fm_rule.specs.Acts.{CanAct, CanStore}
-use Rattle.fm_rule.specs.Views.{numbers_of}
+use Rattle.fm_rule.specs.{declared.{pool.Pool.{Pool}, seen.Seen.{Seen}}, Acts.{CanAct, CanStore}, Views.{numbers_of}}
 use Rattle.fm_rule.proofs.Knowing.{IsOpen, Sees, WordPlace, place_below, group_low, group_of_low, at_number, inner, in_shape, shape_is, knows, fits, number_below, slot_in_hand, swept_fits, swept_over, inside_slot, word_place, page_in_sweep, group_in_hand, group_in_sweep, can_draw_in}
-use Rattle.fm_rule_steps.proofs.TakingNumbers.{take_number_steps}
 
 module _ {pool : Pool} {now : View} {seat : Seat (Unit {0}) Seen} (k : IsOpen pool now seat) where
   abbrev z : Shape

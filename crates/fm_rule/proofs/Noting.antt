@@ -1,23 +1,14 @@
 -- Notes are made and met.
 use Rattle.std.proofs.Common.{◌≡◌, ◌≢◌, ℕ, ◌+◌, ◌-◌, ◌%◌, ◌^◌, ◌<◌, ◌≤◌, ◌==◌, Bool, true, false, if◌then◌else◌, bit_and, List, [], Option, Some, None, inl, inr, refl, ◌++◌, sym, ap, ◌∙◌, subst, arith, eq-eqb, ne_eqb}
 use Rattle.std.proofs.lemmas.Nat.{and_mask}
-use Rattle.fm_words.specs.declared.shape.Shape.{Shape}
-use Rattle.fm_words.specs.Places.{words}
-use Rattle.fm_base.specs.declared.caller.Caller.{Caller}
-use Rattle.fm_base.specs.declared.arena_id.ArenaId.{ArenaId}
-use Rattle.fm_base.specs.Calls.{Entry, Fine, TooManyHolds}
-use Rattle.fm_rule_facts.specs.declared.step.Step.TheVariants.{Looks}
-use Rattle.fm_rule_facts.specs.Views.{View}
+use Rattle.fm_words.specs.{declared.shape.Shape.{Shape}, Places.{words}}
+use Rattle.fm_base.specs.{declared.{caller.Caller.{Caller}, arena_id.ArenaId.{ArenaId}}, Calls.{Entry, Fine, TooManyHolds}}
+use Rattle.fm_rule_facts.specs.{declared.step.Step.TheVariants.{Looks}, Views.{View}}
 use Rattle.fm_rule_facts.specs.Words.{held_by, held_word, hold_found, alive_word, alive_holds, closing_word}
-use Rattle.fm_rule_facts.specs.Handles.{last_if, giving_by, word_given, back_word}
-use Rattle.fm_rule_facts.specs.Splits.{met}
-use Rattle.fm_rule_facts.specs.Steps.{Stepped, part, entries, noted, none_noted}
-use Rattle.fm_rule.specs.declared.pass.Part.{Part}
-use Rattle.fm_rule.proofs.Allowed.{all_same, stepped}
-use Rattle.fm_rule.proofs.Keeping.{keeps_on}
+use Rattle.fm_rule_facts.specs.{Handles.{last_if, giving_by, word_given, back_word}, Splits.{met}, Steps.{Stepped, part, entries, noted, none_noted}}
 use Rattle.fm_rule_facts.specs.Moves.{Gives, Tells}
+use Rattle.fm_rule.{specs.{declared.pass.Part.{Part}, Views.{homed, Keeps}}, proofs.{Allowed.{all_same, stepped}, Keeping.{keeps_on}}}
 use Rattle.fm_rule_steps.proofs.First.{two_words}
-use Rattle.fm_rule.specs.Views.{homed, Keeps}
 
 -- a table has words
 pub some_words : (z : Shape) (n : ℕ) → n ≡ words z → 0 < n

@@ -3,21 +3,11 @@ use Rattle.std.proofs.Common.{◌≡◌, ℕ, zero, suc, true, List, [], ◌∷�
 use mathlib.Core.Option.{some, some-injective, some-ne-none}
 use lib.ListN.{get_elem?}
 use Rattle.atomic_table.specs.Table.{Final, Seen}
-use Rattle.fm_words.specs.declared.shape.Shape.{Shape}
-use Rattle.fm_words.specs.Shapes.{IsValid}
-use Rattle.fm_words.specs.Places.{words as word_count}
-use Rattle.fm_base.specs.Calls.{Entry}
-use Rattle.fm_base.specs.Histories.{IsLegal}
-use Rattle.fm_rule_facts.specs.Hands.{nothing}
-use Rattle.fm_rule_facts.specs.Rest.{ShowsHistory}
-use Rattle.fm_rule_facts.specs.Loans.{IsRightlyLent}
-use Rattle.fm_rule_facts.specs.Views.{View, IsSound, limit_of}
-use Rattle.fm_rule_facts.specs.Facts.{Rule}
-use Rattle.fm_rule_steps.proofs.Knowing.{own}
-use Rattle.fm_rule_steps.proofs.Resting.{at_rest}
-use Rattle.fm_rule.proofs.Allowed.{Keeping}
-use Rattle.fm_rule.specs.Views.{homed}
-use Rattle.fm_rule.specs.Finishing.{IsFinished}
+use Rattle.fm_words.specs.{declared.shape.Shape.{Shape}, Shapes.{IsValid}, Places.{words as word_count}}
+use Rattle.fm_base.specs.{Calls.{Entry}, Histories.{IsLegal}}
+use Rattle.fm_rule_facts.specs.{Hands.{nothing}, Rest.{ShowsHistory}, Loans.{IsRightlyLent}, Views.{View, IsSound, limit_of}, Facts.{Rule}}
+use Rattle.fm_rule_steps.proofs.{Knowing.{own}, Resting.{at_rest}}
+use Rattle.fm_rule.{proofs.Allowed.{Keeping}, specs.{Views.{homed}, Finishing.{IsFinished}}}
 
 -- What stands at an index.
 pub read_at : (xs : List ℕ) (k x : ℕ) → get_elem? xs k ≡ some x → x ≡ get_or xs k 0

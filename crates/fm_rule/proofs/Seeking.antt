@@ -1,21 +1,14 @@
 -- A pass looks for a free number, until it took one or found each group's word 0.
 use Rattle.std.proofs.Common.{◌≡◌, ◌≢◌, ℕ, ◌+◌, ◌<◌, ◌==◌, Bool, true, false, if◌then◌else◌, List, [], ◌++◌, length, sym, refl, ap, ◌∙◌, subst, arith, inl, inr, ⊎_elim, None, eq-eqb, ne_eqb}
+use Rattle.std.{specs.Int.{bit_at}, proofs.lemmas.{List.{append-nil}, Nat.Bits.{bit_at-lt, bit_at-zero}}}
 use mathlib.Core.Logic.{dite}
 use native.Mathlib.Decide.{ℕ_discrete}
-use Rattle.std.specs.Int.{bit_at}
-use Rattle.std.proofs.lemmas.List.{append-nil}
-use Rattle.std.proofs.lemmas.Nat.Bits.{bit_at-lt, bit_at-zero}
-use Rattle.fm_words.specs.Places.{groups}
-use Rattle.fm_words.specs.Bits.{IsWithout}
+use Rattle.fm_words.specs.{Places.{groups}, Bits.{IsWithout}}
 use Rattle.fm_base.specs.Finds.{Find, TakesNumber as Taking, is_draw, is_number}
-use Rattle.fm_rule_facts.specs.Views.{View, In}
-use Rattle.fm_rule_facts.specs.Steps.{Stepped, note_of, number_at, is_clear}
-use Rattle.fm_rule_facts.specs.Hands.{Number, no_number, number_taken, number_taken_by, takes}
-use Rattle.fm_rule_facts.proofs.Keeping.{in_append, in_left, in_right}
+use Rattle.fm_rule_facts.specs.{Views.{View, In}, Steps.{Stepped, note_of, number_at, is_clear}}
+use Rattle.fm_rule_facts.{specs.Hands.{Number, no_number, number_taken, number_taken_by, takes}, proofs.Keeping.{in_append, in_left, in_right}}
 use Rattle.fm_rule_steps.proofs.Reading.{eqb_true, eqb_false}
-use Rattle.fm_rule.specs.Passes.{IsOf}
-use Rattle.fm_rule.specs.Draws.{Seeks, AreLooks, Tried, FoundIn, FoundZero, Takes, NoneDrawn}
-use Rattle.fm_rule.specs.declared.pool.Pool.{Pool}
+use Rattle.fm_rule.specs.{Passes.{IsOf}, Draws.{Seeks, AreLooks, Tried, FoundIn, FoundZero, Takes, NoneDrawn}, declared.pool.Pool.{Pool}}
 use Rattle.fm_rule.proofs.Asking.{asks_none, asks_both, asks_step}
 
 -- no step

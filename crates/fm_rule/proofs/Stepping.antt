@@ -1,19 +1,10 @@
 -- What each step tells is that the pass stepped.
 use Rattle.std.proofs.Common.{◌≡◌, ℕ, ap, List, Option, sym, subst}
 use Rattle.atomic_table.specs.declared.shared.Seat.{Seat}
-use Rattle.fm_base.specs.declared.arena_id.ArenaId.{ArenaId}
-use Rattle.fm_base.specs.declared.caller.Caller.{Caller}
-use Rattle.fm_rule_facts.specs.declared.step.Step.{Step}
-use Rattle.fm_rule_facts.specs.Views.{View}
-use Rattle.fm_rule_facts.specs.Steps.{Stepped, part, entries, noted}
-use Rattle.fm_rule_facts.specs.Moves.{LearnsCount, LearnsSlots, LearnsMap}
-use Rattle.fm_rule.specs.declared.pass.Part.{Part}
-use Rattle.fm_rule.specs.declared.seen.Seen.{Seen}
-use Rattle.fm_rule.specs.Acts.{Acted}
-use Rattle.fm_rule.specs.Views.{homed, numbers_of, Keeps}
-use Rattle.fm_rule.proofs.Allowed.{Outcome, leaves, stepped}
-use Rattle.fm_rule.proofs.Keeping.{step_keeps}
-use Rattle.fm_rule.proofs.Knowing.{known_slot, known_owner}
+use Rattle.fm_base.specs.declared.{arena_id.ArenaId.{ArenaId}, caller.Caller.{Caller}}
+use Rattle.fm_rule_facts.specs.{declared.step.Step.{Step}, Views.{View}, Steps.{Stepped, part, entries, noted}, Moves.{LearnsCount, LearnsSlots, LearnsMap}}
+use Rattle.fm_rule.specs.{declared.{pass.Part.{Part}, seen.Seen.{Seen}}, Acts.{Acted}, Views.{homed, numbers_of, Keeps}}
+use Rattle.fm_rule.proofs.{Allowed.{Outcome, leaves, stepped}, Keeping.{step_keeps}, Knowing.{known_slot, known_owner}}
 
 module _ {now : View} {c : Caller} {i : Option ArenaId} {part' : Part} {count : ℕ} {old : Seat (Unit {0}) Seen} where
   -- the step of the views in the table is one of the views that contracts see

@@ -2,10 +2,8 @@
 use Rattle.std.specs.Prelude.{◌≡◌, ℕ, ◌<◌}
 use Rattle.atomic_table.specs.declared.shared.Seat.{Seat}
 use Rattle.fm_words.specs.Places.{words}
-use Rattle.fm_rule_facts.specs.declared.step.Step.{Step}
-use Rattle.fm_rule_facts.specs.Moves.{Tells, MayStep, MayStore}
-use Rattle.fm_rule.specs.declared.pool.Pool.{Pool}
-use Rattle.fm_rule.specs.declared.seen.Seen.{Seen}
+use Rattle.fm_rule_facts.specs.{declared.step.Step.{Step}, Moves.{Tells, MayStep, MayStore}}
+use Rattle.fm_rule.specs.declared.{pool.Pool.{Pool}, seen.Seen.{Seen}}
 
 -- the seat may make the step at this word of the pool, which becomes f of what it was
 pub record CanAct (pool : Pool) (seat : Seat (Unit {0}) Seen) (i : ℕ) (step : Step) (f : ℕ → ℕ) : Type 0 where

@@ -1,10 +1,7 @@
 -- The bits of a new pool's words.
-use Rattle.std.specs.Prelude.{◌≡◌, ◌≢◌, ℕ, ◌<◌, ◌≤◌, List}
-use Rattle.std.specs.Int.{bit_at}
-use Rattle.fm_words.specs.declared.shape.Shape.{Shape}
-use Rattle.fm_words.specs.Bits.{number_at}
-use Rattle.fm_rule_facts.specs.Memory.{Shows}
-use Rattle.fm_rule_facts.specs.Beginning.{first_memory}
+use Rattle.std.specs.{Prelude.{◌≡◌, ◌≢◌, ℕ, ◌<◌, ◌≤◌, List}, Int.{bit_at}}
+use Rattle.fm_words.specs.{declared.shape.Shape.{Shape}, Bits.{number_at}}
+use Rattle.fm_rule_facts.specs.{Memory.{Shows}, Beginning.{first_memory}}
 
 -- a group's word of bits for so many things: each has its bit 1, and no other bit is 1
 pub record IsFull (count group word : ℕ) : Type 0 where

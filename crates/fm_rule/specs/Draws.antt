@@ -1,15 +1,10 @@
 -- What drawing, gathering and looking for every caller do to passes.
 use Rattle.std.specs.Prelude.{◌≡◌, ◌⊎◌, ℕ, ◌+◌, ◌<◌, ◌≤◌, ◌==◌, Bool, true, false, List, [], ◌∷◌, ◌++◌, length, All, Some, None, ⊤}
 use Rattle.fm_words.specs.Places.{groups}
-use Rattle.fm_base.specs.declared.caller.Caller.{Caller}
-use Rattle.fm_base.specs.Calls.{Entry}
-use Rattle.fm_base.specs.Histories.{made_by}
-use Rattle.fm_base.specs.Finds.{Find, Gathered, Draws, is_draw, is_number, group_of}
+use Rattle.fm_base.specs.{declared.caller.Caller.{Caller}, Calls.{Entry}, Histories.{made_by}, Finds.{Find, Gathered, Draws, is_draw, is_number, group_of}}
 use Rattle.fm_rule_facts.specs.Views.{View, In, IsNew, IsSound, HasFind, HasAllDrawn, KnowsCallers}
-use Rattle.fm_rule_facts.specs.Hands.{nothing, Number, no_number, number_taken, number_drawn, most_draws}
-use Rattle.fm_rule_facts.specs.Splits.{view_of, as_gathered}
-use Rattle.fm_rule.specs.Passes.{IsOf}
-use Rattle.fm_rule.specs.declared.pool.Pool.{Pool}
+use Rattle.fm_rule_facts.specs.{Hands.{nothing, Number, no_number, number_taken, number_drawn, most_draws}, Splits.{view_of, as_gathered}}
+use Rattle.fm_rule.specs.{Passes.{IsOf}, declared.pool.Pool.{Pool}}
 
 -- Others made entries, and the pass looked for a number, and how many draws were made: these are its finds
 pub record Asked (old new : View) (finds : List Find) (number : Number) : Type 0 where

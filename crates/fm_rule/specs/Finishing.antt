@@ -1,16 +1,9 @@
 -- What a pool tells once it is finished.
 use Rattle.std.specs.Prelude.{◌≡◌, ℕ, true, List, [], length}
-use Rattle.fm_words.specs.declared.shape.Shape.{Shape}
-use Rattle.fm_words.specs.Shapes.{IsValid}
-use Rattle.fm_words.specs.Places.{words as word_count}
-use Rattle.fm_base.specs.Calls.{Entry}
-use Rattle.fm_base.specs.Histories.{IsLegal}
-use Rattle.fm_rule_facts.specs.Hands.{nothing}
-use Rattle.fm_rule_facts.specs.Loans.{IsRightlyLent}
-use Rattle.fm_rule_facts.specs.Rest.{ShowsHistory}
-use Rattle.fm_rule_facts.specs.Views.{View, limit_of}
-use Rattle.fm_rule.specs.Passes.{IsOf}
-use Rattle.fm_rule.specs.declared.pool.Pool.{Pool}
+use Rattle.fm_words.specs.{declared.shape.Shape.{Shape}, Shapes.{IsValid}, Places.{words as word_count}}
+use Rattle.fm_base.specs.{Calls.{Entry}, Histories.{IsLegal}}
+use Rattle.fm_rule_facts.specs.{Hands.{nothing}, Loans.{IsRightlyLent}, Rest.{ShowsHistory}, Views.{View, limit_of}}
+use Rattle.fm_rule.specs.{Passes.{IsOf}, declared.pool.Pool.{Pool}}
 
 pub record FinishedView : Type 0 where
   pub shape : Shape

@@ -1,11 +1,8 @@
 -- The bytes that the arenas of a finished pool have given.
 use Rattle.std.specs.Prelude.{◌≢◌, ℕ, Bool, true, false, List, [], take}
 use Rattle.fm_base_bytes.specs.Words.{bytes_in}
-use Rattle.fm_base.specs.declared.arena_id.ArenaId.{ArenaId}
-use Rattle.fm_base.specs.Arenas.{State, Alive, arena_of}
-use Rattle.fm_base.specs.Histories.{state_after}
-use Rattle.fm_rule_facts.specs.Views.{Fits, limit_of}
-use Rattle.fm_rule_facts.specs.Rest.{ShowsArena}
+use Rattle.fm_base.specs.{declared.arena_id.ArenaId.{ArenaId}, Arenas.{State, Alive, arena_of}, Histories.{state_after}}
+use Rattle.fm_rule_facts.specs.{Views.{Fits, limit_of}, Rest.{ShowsArena}}
 use Rattle.fm_rule.specs.Finishing.{FinishedView}
 
 -- the state that the history leaves

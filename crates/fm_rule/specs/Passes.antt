@@ -2,8 +2,7 @@
 use Rattle.std.specs.Prelude.{◌≡◌, List, ◌++◌}
 use Rattle.fm_base.specs.Calls.{Entry}
 use Rattle.fm_rule_facts.specs.Views.{View}
-use Rattle.fm_rule.specs.Views.{NoteView, numbers_of}
-use Rattle.fm_rule.specs.declared.pool.Pool.{Pool}
+use Rattle.fm_rule.specs.{Views.{NoteView, numbers_of}, declared.pool.Pool.{Pool}}
 
 -- the pass is one of the pool
 abbrev pub IsOf : Pool → View → Type 0

@@ -1,16 +1,9 @@
 -- Views of the passes and notes of a pool, and what a pass keeps beside its seat.
 use Rattle.std.specs.Prelude.{◌≡◌, ◌*◌, ◌<◌, ℕ, Bool, true, false, List, [], ◌∷◌, length, Option, Some, None}
-use Rattle.atomic_table.specs.Seated.{TableId}
-use Rattle.atomic_table.specs.Table.{Me}
-use Rattle.fm_words.specs.declared.shape.Shape.{Shape}
-use Rattle.fm_base.specs.declared.caller.Caller.{Caller}
-use Rattle.fm_base.specs.declared.arena_id.ArenaId.{ArenaId}
-use Rattle.fm_base.specs.Calls.{Entry}
-use Rattle.fm_rule_facts.specs.Views.{View, IsSound, In}
-use Rattle.fm_rule_facts.specs.Splits.{first_view}
-use Rattle.fm_words.specs.Places.{at, page_word}
-use Rattle.fm_words.specs.Maps.{map_word}
-use Rattle.fm_rule_facts.specs.Parts.{Mapping}
+use Rattle.atomic_table.specs.{Seated.{TableId}, Table.{Me}}
+use Rattle.fm_words.specs.{declared.shape.Shape.{Shape}, Places.{at, page_word}, Maps.{map_word}}
+use Rattle.fm_base.specs.{declared.{caller.Caller.{Caller}, arena_id.ArenaId.{ArenaId}}, Calls.{Entry}}
+use Rattle.fm_rule_facts.specs.{Views.{View, IsSound, In}, Splits.{first_view}, Parts.{Mapping}}
 use Rattle.fm_rule.specs.declared.pass.Part.{Part}
 
 -- numbers that tell a table

@@ -1,22 +1,12 @@
 -- Steps put together into calls.
 use Rattle.std.proofs.Common.{◌≡◌, ◌≤◌, ℕ, Bool, false, List, [], ◌∷◌, ◌++◌, refl, ap, sym, ◌∙◌, subst, append_assoc, length, Option, Some, None, eq-eqb, All, get_or}
-use Rattle.std.proofs.lemmas.List.{append-nil}
-use Rattle.std.proofs.lemmas.List.Elements.{filter-append, All-nil}
-use Rattle.fm_base.specs.declared.caller.Caller.{Caller}
-use Rattle.fm_base.specs.declared.arena_id.ArenaId.{ArenaId}
-use Rattle.fm_base.specs.Arenas.{State, has_arena, arena_of}
-use Rattle.fm_base.specs.Calls.{Call, Reply, Entry, entry_of}
-use Rattle.fm_base.specs.Histories.{IsLegal, state_after, made_by}
-use Rattle.fm_base.specs.Finds.{Find, Gathered, is_draw}
-use Rattle.fm_base.specs.View.{inside_after}
-use Rattle.fm_base.proofs.Making.{state_after-append, IsLegal-split, inside_after-append, FindsMore-trans, FindsMore-none}
-use Rattle.fm_base.proofs.Growing.{Grows-state_after}
+use Rattle.std.proofs.lemmas.List.{append-nil, Elements.{filter-append, All-nil}}
+use Rattle.fm_base.specs.{declared.{caller.Caller.{Caller}, arena_id.ArenaId.{ArenaId}}, Arenas.{State, has_arena, arena_of}}
+use Rattle.fm_base.specs.{Calls.{Call, Reply, Entry, entry_of}, Histories.{IsLegal, state_after, made_by}, Finds.{Find, Gathered, is_draw}, View.{inside_after}}
+use Rattle.fm_base.proofs.{Making.{state_after-append, IsLegal-split, inside_after-append, FindsMore-trans, FindsMore-none}, Growing.{Grows-state_after}}
 use Rattle.fm_words.specs.declared.shape.Shape.{Shape}
-use Rattle.fm_rule_facts.specs.Views.{View, IsKnown, given_of, limit_of, state_in, IsSound}
-use Rattle.fm_rule_facts.specs.Hands.{Number}
-use Rattle.fm_rule_facts.specs.Steps.{Stepped, none_noted, acted}
-use Rattle.fm_rule_calls.specs.Kept.{Goes, rest_of, Kept, Lasts}
-use Rattle.fm_rule_calls.proofs.Lasting.{ended_after}
+use Rattle.fm_rule_facts.specs.{Views.{View, IsKnown, given_of, limit_of, state_in, IsSound}, Hands.{Number}, Steps.{Stepped, none_noted, acted}}
+use Rattle.fm_rule_calls.{specs.Kept.{Goes, rest_of, Kept, Lasts}, proofs.Lasting.{ended_after}}
 
 -- ---- one step
 

@@ -1,14 +1,9 @@
 -- What has ended stays so, whatever comes after.
-use Rattle.std.proofs.Common.{◌≡◌, ℕ, true, List, [], ◌∷◌, refl, ap, ◌∙◌}
-use Rattle.std.specs.Prelude.{⊤}
-use Rattle.fm_base.specs.declared.caller.Caller.{Caller}
-use Rattle.fm_base.specs.declared.arena_id.ArenaId.{ArenaId}
-use Rattle.fm_base.specs.Arenas.{State, Arena, Ended, arena_of, has_arena}
+use Rattle.std.{proofs.Common.{◌≡◌, ℕ, true, List, [], ◌∷◌, refl, ap, ◌∙◌}, specs.Prelude.{⊤}}
+use Rattle.fm_base.specs.{declared.{caller.Caller.{Caller}, arena_id.ArenaId.{ArenaId}}, Arenas.{State, Arena, Ended, arena_of, has_arena}}
 use Rattle.fm_base.specs.Calls.{Call, Enter, Write, SwapIf, Add, Allocate, Leave, Hold, Unhold, Shut, End, Reply, Fine, Closed, Found, Given, Entry}
-use Rattle.fm_base.specs.Machine.{reply_to, shut_reply, Change, Opens, Alters, Rests, made, change_of, after}
-use Rattle.fm_base.specs.Histories.{IsLegal, state_after}
-use Rattle.fm_base.proofs.Lookup.{changed_lookup, arena_of-append}
-use Rattle.fm_base.proofs.Growing.{Grows-after}
+use Rattle.fm_base.specs.{Machine.{reply_to, shut_reply, Change, Opens, Alters, Rests, made, change_of, after}, Histories.{IsLegal, state_after}}
+use Rattle.fm_base.proofs.{Lookup.{changed_lookup, arena_of-append}, Growing.{Grows-after}}
 
 StaysEnded : Arena → Arena → Type 0
 StaysEnded a b = a.life ≡ Ended → b.life ≡ Ended

@@ -1,21 +1,14 @@
 -- A loan of an arena that hasn't ended lasts.
-use Rattle.std.proofs.Common.{◌≡◌, ◌≢◌, ℕ, ◌==◌, true, not, List, [], ◌∷◌, ◌++◌, ap, sym, ◌∙◌, subst, ⊎_elim, Some, arith, ne_eqb}
-use Rattle.std.specs.Prelude.{Contains}
+use Rattle.std.{proofs.Common.{◌≡◌, ◌≢◌, ℕ, ◌==◌, true, not, List, [], ◌∷◌, ◌++◌, ap, sym, ◌∙◌, subst, ⊎_elim, Some, arith, ne_eqb}, specs.Prelude.{Contains}}
 use Rattle.std.proofs.lemmas.List.Elements.{All-contains}
 use Rattle.fm_words.specs.declared.shape.Shape.{Shape}
-use Rattle.fm_base.specs.declared.arena_id.ArenaId.{ArenaId}
-use Rattle.fm_base.specs.Arenas.{State, Ended, has_arena, arena_of}
-use Rattle.fm_base.specs.Calls.{Call, Open, Enter, Read, Write, SwapIf, Add, Allocate, Leave, Hold, Unhold, Shut, End, Lend, Back, Entry}
-use Rattle.fm_base.specs.Machine.{after}
-use Rattle.fm_base.specs.Histories.{IsLegal, state_after}
-use Rattle.fm_base.proofs.Growing.{Grows-after}
-use Rattle.fm_base.proofs.Making.{IsLegal-split, state_after-append}
+use Rattle.fm_base.specs.{declared.arena_id.ArenaId.{ArenaId}, Arenas.{State, Ended, has_arena, arena_of}}
+use Rattle.fm_base.specs.{Calls.{Call, Open, Enter, Read, Write, SwapIf, Add, Allocate, Leave, Hold, Unhold, Shut, End, Lend, Back, Entry}, Machine.{after}}
+use Rattle.fm_base.{specs.Histories.{IsLegal, state_after}, proofs.{Growing.{Grows-after}, Making.{IsLegal-split, state_after-append}}}
 use Rattle.fm_rule_facts.specs.Loans.{Loan, loan_of, loans_by, loans_after, loans_of, HasPart, IsRightlyLent, IsRightlyLentIn, IsRightlyLentFrom}
 use Rattle.fm_rule_facts.specs.Views.{View, IsKnown, IsSound, limit_of, state_in}
-use Rattle.fm_rule_facts.proofs.Lending.{loan_cases, loan_kept, loan_was, loans_after-append, more_loans}
-use Rattle.fm_rule_facts.proofs.Unlending.{lent-first, lent-split}
-use Rattle.fm_rule_calls.proofs.Lasting.{ended_after}
-use Rattle.fm_rule_calls.proofs.UnderWay.{stands_under_way}
+use Rattle.fm_rule_facts.proofs.{Lending.{loan_cases, loan_kept, loan_was, loans_after-append, more_loans}, Unlending.{lent-first, lent-split}}
+use Rattle.fm_rule_calls.proofs.{Lasting.{ended_after}, UnderWay.{stands_under_way}}
 
 -- no block has two loans
 abbrev IsOnceLent : List Loan → Type 0

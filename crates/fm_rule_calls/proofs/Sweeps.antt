@@ -1,12 +1,7 @@
 -- What a pass has tells which arenas it sweeps.
-use Rattle.std.proofs.Common.{◌≡◌, ◌≤◌, List, [], ◌∷◌, length, refl, ap, sym, ◌∙◌, arith, eq-eqb}
-use Rattle.std.proofs.lemmas.List.{append-nil}
-use Rattle.fm_base.specs.declared.arena_id.ArenaId.{ArenaId}
-use Rattle.fm_base.specs.Arenas.{same_id, kind_number}
-use Rattle.fm_base.specs.Finds.{Sweep, Rest}
-use Rattle.fm_base.proofs.Names.{same_id-true}
-use Rattle.fm_rule_facts.specs.Hands.{Hand, nothing, taken, learnt, retired, slots_in}
-use Rattle.fm_rule_facts.specs.Views.{View}
+use Rattle.std.proofs.{Common.{◌≡◌, ◌≤◌, List, [], ◌∷◌, length, refl, ap, sym, ◌∙◌, arith, eq-eqb}, lemmas.List.{append-nil}}
+use Rattle.fm_base.{specs.{declared.arena_id.ArenaId.{ArenaId}, Arenas.{same_id, kind_number}, Finds.{Sweep, Rest}}, proofs.Names.{same_id-true}}
+use Rattle.fm_rule_facts.specs.{Hands.{Hand, nothing, taken, learnt, retired, slots_in}, Views.{View}}
 use Rattle.fm_rule_calls.specs.Kept.{rest_of, sweep_numbers, slots_told}
 
 -- A hand has one slot at most.

@@ -1,13 +1,8 @@
 -- Calls of a pass as calls of a memory that tells its history.
-use Rattle.std.proofs.Common.{◌≡◌, true, List, ◌++◌, refl, ap, ◌∙◌, inl, inr, Option, Some, None}
-use Rattle.std.proofs.lemmas.List.Elements.{filter-append}
-use Rattle.fm_base.specs.Calls.{Entry}
-use Rattle.fm_base.specs.Histories.{made_by}
-use Rattle.fm_base.specs.View.{Told, TellsOn, Makes, Did, IsByItself}
+use Rattle.std.proofs.{Common.{◌≡◌, true, List, ◌++◌, refl, ap, ◌∙◌, inl, inr, Option, Some, None}, lemmas.List.Elements.{filter-append}}
+use Rattle.fm_base.specs.{Calls.{Entry}, Histories.{made_by}, View.{Told, TellsOn, Makes, Did, IsByItself}}
 use Rattle.fm_rule_facts.specs.Views.{View, limit_of}
-use Rattle.fm_rule_calls.specs.Kept.{Goes, rest_of, Kept}
-use Rattle.fm_rule_calls.specs.Told.{told_of, view_of_pass, silent_view}
-use Rattle.fm_rule_calls.proofs.Going.{reached}
+use Rattle.fm_rule_calls.{specs.{Kept.{Goes, rest_of, Kept}, Told.{told_of, view_of_pass, silent_view}}, proofs.Going.{reached}}
 
 -- A pass that is by itself is known to be whole.
 pub by_itself : (p : View) → IsByItself (view_of_pass p) → p.whole ≡ true

@@ -1,12 +1,8 @@
 -- Nobody is under way in an arena that has ended.
-use Rattle.std.proofs.Common.{◌≡◌, ◌≢◌, ℕ, Bool, true, false, List, [], ◌∷◌, refl, ap, ◌∙◌, subst, filter, not, arith}
-use Rattle.std.specs.Prelude.{Contains}
-use Rattle.fm_base.specs.declared.caller.Caller.{Caller}
-use Rattle.fm_base.specs.declared.arena_id.ArenaId.{ArenaId}
-use Rattle.fm_base.specs.Arenas.{Ended, State, Arena, IsUnderWay, are_one, arena_of, has_arena}
+use Rattle.std.{proofs.Common.{◌≡◌, ◌≢◌, ℕ, Bool, true, false, List, [], ◌∷◌, refl, ap, ◌∙◌, subst, filter, not, arith}, specs.Prelude.{Contains}}
+use Rattle.fm_base.specs.{declared.{caller.Caller.{Caller}, arena_id.ArenaId.{ArenaId}}, Arenas.{Ended, State, Arena, IsUnderWay, are_one, arena_of, has_arena}}
 use Rattle.fm_base.specs.Calls.{Call, Open, Enter, Write, SwapIf, Add, Allocate, Leave, Hold, Unhold, Shut, End, Reply, Fine, Closed, Found, Given, Entry}
-use Rattle.fm_base.specs.Machine.{MayCall, reply_to, enter_reply, change_of, after}
-use Rattle.fm_base.specs.Histories.{IsLegal, state_after}
+use Rattle.fm_base.specs.{Machine.{MayCall, reply_to, enter_reply, change_of, after}, Histories.{IsLegal, state_after}}
 use Rattle.fm_base.proofs.Lookup.{Becomes, made_known, arena_of-none}
 
 -- nobody is under way in it, if it has ended

@@ -1,16 +1,11 @@
 -- What had ended stays so as a pass goes on: it gives no more, and words that were taken back from it aren't lent to it again.
 use Rattle.std.proofs.Common.{◌≡◌, true, List, [], ◌++◌, sym, ◌∙◌, subst, arith, ◌≤◌}
-use Rattle.fm_base.specs.declared.arena_id.ArenaId.{ArenaId}
-use Rattle.fm_base.specs.Arenas.{State, has_arena, arena_of}
-use Rattle.fm_base.specs.Calls.{Entry}
-use Rattle.fm_base.specs.Finds.{Sweep}
+use Rattle.fm_base.specs.{declared.arena_id.ArenaId.{ArenaId}, Arenas.{State, has_arena, arena_of}, Calls.{Entry}, Finds.{Sweep}}
 use Rattle.fm_base.specs.Histories.{IsLegal, state_after}
 use Rattle.fm_base.proofs.Growing as growing
 use Rattle.fm_words.specs.declared.shape.Shape.{Shape}
-use Rattle.fm_rule_facts.specs.Loans.{loans_of, IsUnlent, IsRightlyLent}
-use Rattle.fm_rule_facts.specs.Views.{View, In, IsSound, IsOver, given_of, limit_of, state_in}
-use Rattle.fm_rule_facts.proofs.Ending.{given_later}
-use Rattle.fm_rule_facts.proofs.Unlending.{none_lent_later, over_later}
+use Rattle.fm_rule_facts.specs.{Loans.{loans_of, IsUnlent, IsRightlyLent}, Views.{View, In, IsSound, IsOver, given_of, limit_of, state_in}}
+use Rattle.fm_rule_facts.proofs.{Ending.{given_later}, Unlending.{none_lent_later, over_later}}
 use Rattle.fm_rule_calls.specs.Kept.{Goes, HasEnded, HasNoWords}
 
 module _ {p q : View} {own : List Entry} (id : ArenaId) (g : Goes p q own) (over : IsOver p id) where

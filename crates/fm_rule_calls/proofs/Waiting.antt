@@ -1,11 +1,8 @@
 -- Steps that are tried until one finds the word that it expects.
 use Rattle.std.proofs.Common.{◌≡◌, List, [], refl, ap, sym, ◌∙◌}
-use Rattle.fm_base.specs.declared.arena_id.ArenaId.{ArenaId}
-use Rattle.fm_base.specs.Calls.{Entry}
-use Rattle.fm_rule_facts.specs.Views.{View, IsKnown}
-use Rattle.fm_rule_facts.specs.Steps.{Stepped, none_noted}
-use Rattle.fm_rule_calls.specs.Kept.{Goes}
-use Rattle.fm_rule_calls.proofs.Going.{goes_step, goes_then, no_draws, known_on}
+use Rattle.fm_base.specs.{declared.arena_id.ArenaId.{ArenaId}, Calls.{Entry}}
+use Rattle.fm_rule_facts.specs.{Views.{View, IsKnown}, Steps.{Stepped, none_noted}}
+use Rattle.fm_rule_calls.{specs.Kept.{Goes}, proofs.Going.{goes_step, goes_then, no_draws, known_on}}
 
 -- The pass has come from o to p by steps that left it as it was, but for what it has seen: where it goes from there it goes from o
 pub record Waited (o p : View) : Type 0 where

@@ -1,15 +1,9 @@
 -- How a pass goes on by the entries of one of its calls.
 use Rattle.std.specs.Prelude.{◌≡◌, ◌≤◌, true, List, [], ◌∷◌, ◌++◌, All, ℕ}
-use Rattle.fm_base.specs.declared.arena_id.ArenaId.{ArenaId}
-use Rattle.fm_base.specs.Arenas.{Ended, arena_of, kind_number}
-use Rattle.fm_base.specs.Calls.{Entry}
-use Rattle.fm_base.specs.Histories.{made_by}
-use Rattle.fm_base.specs.Finds.{Close, Sweep, Rest, FindsMore}
-use Rattle.fm_base.specs.View.{inside_after}
+use Rattle.fm_base.specs.{declared.arena_id.ArenaId.{ArenaId}, Arenas.{Ended, arena_of, kind_number}, Calls.{Entry}, Histories.{made_by}}
+use Rattle.fm_base.specs.{Finds.{Close, Sweep, Rest, FindsMore}, View.{inside_after}}
 use Rattle.fm_words.specs.declared.shape.Shape.{Shape}
-use Rattle.fm_rule_facts.specs.Hands.{Hand, slots_in}
-use Rattle.fm_rule_facts.specs.Loans.{loans_of, IsUnlent}
-use Rattle.fm_rule_facts.specs.Views.{View, IsKnown, IsSound, given_of, state_in}
+use Rattle.fm_rule_facts.specs.{Hands.{Hand, slots_in}, Loans.{loans_of, IsUnlent}, Views.{View, IsKnown, IsSound, given_of, state_in}}
 
 -- The pass goes on by entries, of which these are its own, wholly after all that it had seen
 pub record Goes (old new : View) (own : List Entry) : Type 0 where

@@ -1,8 +1,7 @@
 -- A pass as a memory that tells its history.
 use Rattle.std.specs.Prelude.{false, Some, None}
-use Rattle.fm_base.specs.Histories.{made_by}
+use Rattle.fm_base.specs.{Histories.{made_by}, View.{Told}}
 use Rattle.fm_base.specs.View as memory
-use Rattle.fm_base.specs.View.{Told}
 use Rattle.fm_rule_facts.specs.Views.{View, limit_of, state_in}
 use Rattle.fm_rule_calls.specs.Kept.{rest_of}
 

@@ -3,20 +3,12 @@ use Rattle.std.proofs.Common.{◌≡◌, ℕ, ◌/◌, ◌<◌, true, List, [], 
 use mathlib.Core.Option.{some, some-injective}
 use lib.ListN.{get_elem?}
 use Rattle.fm_words.specs.declared.shape.Shape.{Shape}
-use Rattle.fm_base.specs.declared.caller.Caller.{Caller}
-use Rattle.fm_base.specs.Arenas.{State, has_arena, arena_of}
-use Rattle.fm_base.specs.Calls.{Entry}
-use Rattle.fm_base.specs.Histories.{state_after}
+use Rattle.fm_base.specs.{declared.caller.Caller.{Caller}, Arenas.{State, has_arena, arena_of}, Calls.{Entry}, Histories.{state_after}}
 use Rattle.fm_base.specs.Finds.{Find, is_slot, is_number, group_of}
-use Rattle.fm_rule_facts.specs.Hands.{nothing, HasSlot, no_number, HasNumberIn}
-use Rattle.fm_rule_facts.specs.Views.{View, In, OpenedBut, NoneLeft, IsNumberGone, prefix, limit_of}
-use Rattle.fm_rule_facts.specs.Facts.{Owns, Rule, IsUsed, used, wanted, full}
-use Rattle.fm_rule_facts.specs.Gone.{IsGone, FoundBy}
-use Rattle.fm_rule_facts.proofs.Callers.{whole_has, all_counted}
-use Rattle.fm_rule_facts.proofs.Looking.{wants_in}
-use Rattle.fm_rule_facts.proofs.Keeping.{seated_all}
-use Rattle.fm_base_machine.proofs.Allowing.{not_fresh}
-use Rattle.fm_base_machine.proofs.Putting.{one_caller}
+use Rattle.fm_rule_facts.specs.{Hands.{nothing, HasSlot, no_number, HasNumberIn}, Views.{View, In, OpenedBut, NoneLeft, IsNumberGone, prefix, limit_of}}
+use Rattle.fm_rule_facts.{specs.{Facts.{Owns, Rule, IsUsed, used, wanted, full}, Gone.{IsGone, FoundBy}}, proofs.Callers.{whole_has, all_counted}}
+use Rattle.fm_rule_facts.proofs.{Looking.{wants_in}, Keeping.{seated_all}}
+use Rattle.fm_base_machine.proofs.{Allowing.{not_fresh}, Putting.{one_caller}}
 
 module _ (z : Shape) (me : ℕ) (v : View) (l : v.live ≡ true) (ws : List ℕ) (vs : List View) (r : Rule z ws vs) (at : get_elem? vs me ≡ some v) where
   abbrev mine : Owns z r.history r.memory r.machine r.owners me v

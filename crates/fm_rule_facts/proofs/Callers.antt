@@ -1,19 +1,13 @@
 -- The callers that a pass has: its own, those that are gathered into it, and the one that it drew.
 use Rattle.std.proofs.Common.{◌≡◌, ◌≢◌, ℕ, ◌+◌, ◌<◌, ◌≤◌, Bool, true, false, cond, List, [], ◌∷◌, ◌++◌, length, sym, ap, ◌∙◌, subst, arith, inl, inr, ⊎_elim}
-use Rattle.std.proofs.lemmas.Bool.{cases_lt}
-use Rattle.std.proofs.lemmas.List.{append-nil}
+use Rattle.std.proofs.lemmas.{Bool.{cases_lt}, List.{append-nil}}
 use Rattle.fm_words.specs.declared.shape.Shape.{Shape}
-use Rattle.fm_base.specs.declared.caller.Caller.{Caller}
-use Rattle.fm_base.specs.Arenas.{are_one}
-use Rattle.fm_base.specs.Calls.{Entry}
-use Rattle.fm_base.specs.Histories.{made_by}
-use Rattle.fm_base.specs.Finds.{Gathered}
-use Rattle.fm_base_machine.specs.Functions.{Machine}
+use Rattle.fm_base.specs.{declared.caller.Caller.{Caller}, Arenas.{are_one}, Calls.{Entry}, Histories.{made_by}, Finds.{Gathered}}
+use Rattle.fm_base.proofs.Names.{are_one-self}
+use Rattle.fm_base_machine.{specs.Functions.{Machine}, proofs.Putting.{one_caller}}
 use Rattle.fm_rule_facts.specs.Views.{Met, View, In, HasCaller, KnowsCallers, all_gathered, brought}
 use Rattle.fm_rule_facts.specs.Facts.{Memory, Owners, WasDrawn, HasGathered, IsSilent, IsOnce, Owns}
 use Rattle.fm_rule_facts.proofs.Counting.{ranks, ranks_long, has_rank, in_ranks, ranks_apart, one_rank, at_most, at_least, all_below, Distinct}
-use Rattle.fm_base.proofs.Names.{are_one-self}
-use Rattle.fm_base_machine.proofs.Putting.{one_caller}
 
 -- ---- who made an entry
 

@@ -1,11 +1,8 @@
 -- How many callers a list of distinct ones has.
 use Rattle.std.proofs.Common.{◌≡◌, ◌≢◌, ℕ, zero, suc, ◌+◌, ◌<◌, ◌≤◌, List, [], ◌∷◌, ◌++◌, length, sym, refl, ap, ◌∙◌, subst, arith, inl, inr, ⊎_elim}
 use native.Mathlib.Decide.{ℕ_discrete}
-use Rattle.fm_base.specs.Finds.{Gathered}
-use Rattle.fm_rule_facts.specs.Views.{In}
-use Rattle.fm_base.specs.declared.caller.Caller.{Caller}
-use Rattle.fm_rule_facts.specs.Facts.{IsOnce, WasDrawn}
-use Rattle.fm_rule_facts.proofs.Keeping.{in_left, in_right, in_append}
+use Rattle.fm_base.specs.{Finds.{Gathered}, declared.caller.Caller.{Caller}}
+use Rattle.fm_rule_facts.{specs.{Views.{In}, Facts.{IsOnce, WasDrawn}}, proofs.Keeping.{in_left, in_right, in_append}}
 
 abbrev pub Distinct : List ℕ → Type 0
 Distinct [] = Unit {0}

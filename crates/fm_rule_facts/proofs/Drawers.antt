@@ -6,9 +6,7 @@ use native.Mathlib.Decide.{ℕ_discrete}
 use lib.ListN.{get_elem?}
 use Rattle.fm_words.specs.declared.shape.Shape.{Shape}
 use Rattle.fm_base.specs.declared.caller.Caller.{Caller}
-use Rattle.fm_rule_facts.specs.Views.{View, In, HasCaller, HasAllDrawn}
-use Rattle.fm_rule_facts.specs.Facts.{WasDrawn, HasDraw, Somewhere, Owns, Rule}
-use Rattle.fm_rule_facts.proofs.Founds.{find_within}
+use Rattle.fm_rule_facts.{specs.{Views.{View, In, HasCaller, HasAllDrawn}, Facts.{WasDrawn, HasDraw, Somewhere, Owns, Rule}}, proofs.Founds.{find_within}}
 use Rattle.fm_rule_facts.proofs.Callers.{all_now, counted_all}
 
 module _ (z : Shape) (ws : List ℕ) (vs : List View) (r : Rule z ws vs) (me : ℕ) (v : View) (at : get_elem? vs me ≡ some v) (l : v.live ≡ true)

@@ -1,16 +1,10 @@
 -- An arena that is over gives no more bytes, so its count says for good which of its words have a given byte.
 use Rattle.std.proofs.Common.{◌≡◌, ◌⊎◌, ℕ, ◌+◌, ◌*◌, ◌/◌, ◌%◌, ◌<◌, ◌≤◌, true, List, [], ◌∷◌, ◌++◌, refl, ap, ◌∙◌, subst, arith, inl, inr, mul_comm}
-use Rattle.std.specs.Prelude.{⊤, Contains}
-use Rattle.std.proofs.Math.Nat.{div-add-mod, mod-lt}
-use Rattle.fm_base.specs.declared.caller.Caller.{Caller}
-use Rattle.fm_base.specs.declared.arena_id.ArenaId.{ArenaId}
-use Rattle.fm_base.specs.Arenas.{State, Arena, has_arena, arena_of}
+use Rattle.std.{specs.Prelude.{⊤, Contains}, proofs.Math.Nat.{div-add-mod, mod-lt}}
+use Rattle.fm_base.specs.{declared.{caller.Caller.{Caller}, arena_id.ArenaId.{ArenaId}}, Arenas.{State, Arena, has_arena, arena_of}}
 use Rattle.fm_base.specs.Calls.{Call, Enter, Write, SwapIf, Add, Allocate, Leave, Hold, Unhold, Shut, End, Reply, Fine, Found, Given, Entry}
-use Rattle.fm_base.specs.Machine.{MayCall, Change, Opens, Alters, Rests, made, change_of, after}
-use Rattle.fm_base.specs.Histories.{IsLegal, state_after}
-use Rattle.fm_base.proofs.Lookup.{changed_lookup, arena_of-append}
-use Rattle.fm_base.proofs.Making.{state_after-append, IsLegal-split}
-use Rattle.fm_base.proofs.Growing.{IsOver, Grows-after}
+use Rattle.fm_base.specs.{Machine.{MayCall, Change, Opens, Alters, Rests, made, change_of, after}, Histories.{IsLegal, state_after}}
+use Rattle.fm_base.proofs.{Lookup.{changed_lookup, arena_of-append}, Making.{state_after-append, IsLegal-split}, Growing.{IsOver, Grows-after}}
 
 GivesNoMore : Arena → Arena → Type 0
 GivesNoMore a b = IsOver a → b.given ≡ a.given

@@ -4,16 +4,9 @@ use Rattle.std.proofs.lemmas.List.{append-nil}
 use mathlib.Core.Option.{some}
 use lib.ListN.{get_elem?}
 use Rattle.atomic_table.proofs.Lists.{at_set}
-use Rattle.fm_base.specs.declared.caller.Caller.{Caller}
-use Rattle.fm_base.specs.Calls.{Entry}
-use Rattle.fm_base.specs.Finds.{Find, FindStep, Gathered, is_draw, is_slot, is_page, is_number}
-use Rattle.fm_rule_facts.specs.Views.{View, In, HasFind, all_gathered, brought}
-use Rattle.fm_rule_facts.specs.Splits.{gather}
-use Rattle.fm_rule_facts.specs.Steps.{none_noted, note_of, note_draw}
-use Rattle.fm_rule_facts.specs.Hands.{drawn_by}
-use Rattle.fm_rule_facts.specs.Facts.{WasDrawn, IsWithin, IsCounted}
-use Rattle.fm_rule_facts.specs.Moves.{told}
-use Rattle.fm_rule_facts.proofs.Keeping.{in_left, in_append, all_gather}
+use Rattle.fm_base.specs.{declared.caller.Caller.{Caller}, Calls.{Entry}, Finds.{Find, FindStep, Gathered, is_draw, is_slot, is_page, is_number}}
+use Rattle.fm_rule_facts.specs.{Views.{View, In, HasFind, all_gathered, brought}, Splits.{gather}, Steps.{none_noted, note_of, note_draw}, Hands.{drawn_by}}
+use Rattle.fm_rule_facts.{specs.{Facts.{WasDrawn, IsWithin, IsCounted}, Moves.{told}}, proofs.Keeping.{in_left, in_append, all_gather}}
 
 -- ---- what a step notes
 

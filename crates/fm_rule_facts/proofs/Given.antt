@@ -2,16 +2,10 @@
 use Rattle.std.proofs.Common.{◌≡◌, ◌≢◌, ℕ, ◌*◌, ◌/◌, ◌<◌, Bool, true, false, List, [], sym, subst, inl, inr, refl, Option, Some, None}
 use Rattle.std.specs.Prelude.{Contains}
 use Rattle.fm_words.specs.declared.shape.Shape.{Shape}
-use Rattle.fm_base.specs.declared.caller.Caller.{Caller}
-use Rattle.fm_base.specs.declared.arena_id.ArenaId.{ArenaId}
-use Rattle.fm_base.specs.Arenas.{Life, Alive, Closing, Ended, State, has_arena, arena_of}
-use Rattle.fm_base.specs.Histories.{state_after}
-use Rattle.fm_base.proofs.Growing.{there_by_life}
+use Rattle.fm_base.specs.{declared.{caller.Caller.{Caller}, arena_id.ArenaId.{ArenaId}}, Arenas.{Life, Alive, Closing, Ended, State, has_arena, arena_of}}
+use Rattle.fm_base.{specs.Histories.{state_after}, proofs.Growing.{there_by_life}}
 use Rattle.fm_base_machine.specs.Functions.{stage_of}
-use Rattle.fm_rule_facts.specs.Loans.{loan_of, loans_of, HasPart}
-use Rattle.fm_rule_facts.specs.Views.{View, limit_of}
-use Rattle.fm_rule_facts.specs.Facts.{IsStanding, Rule}
-use Rattle.fm_rule_facts.proofs.Moving.{mapped_lent}
+use Rattle.fm_rule_facts.{specs.{Loans.{loan_of, loans_of, HasPart}, Views.{View, limit_of}, Facts.{IsStanding, Rule}}, proofs.Moving.{mapped_lent}}
 use Rattle.fm_rule_facts.proofs.Sessions.{standing_shown}
 
 -- an arena of the list that hasn't ended stands

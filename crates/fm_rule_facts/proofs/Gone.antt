@@ -1,21 +1,10 @@
 -- Finds of the word 0 of slot bits stay true over each step.
-use Rattle.std.proofs.Common.{◌≡◌, ◌⊎◌, ℕ, true, false, List, [], ◌++◌, length, sym, ap, ◌∙◌, subst, inl, inr, ⊎_elim, Option}
-use Rattle.std.proofs.lemmas.List.{append-nil}
+use Rattle.std.proofs.{Common.{◌≡◌, ◌⊎◌, ℕ, true, false, List, [], ◌++◌, length, sym, ap, ◌∙◌, subst, inl, inr, ⊎_elim, Option}, lemmas.List.{append-nil}}
 use Rattle.fm_words.specs.declared.shape.Shape.{Shape}
-use Rattle.fm_base.specs.declared.caller.Caller.{Caller}
-use Rattle.fm_base.specs.declared.arena_id.ArenaId.{ArenaId}
-use Rattle.fm_base.specs.Calls.{Entry}
-use Rattle.fm_base.specs.Finds.{Find, is_slot, is_page}
-use Rattle.fm_base_machine.specs.Functions.{Stage, Machine}
-use Rattle.fm_base_machine.specs.Steps.{moved_by}
-use Rattle.fm_rule_facts.specs.Views.{View, In, all_gathered}
-use Rattle.fm_rule_facts.specs.Memory.{Memory}
-use Rattle.fm_rule_facts.specs.Gone.{IsTakenBy, OpenedBy, IsGone, FoundBy, IsFounded}
-use Rattle.fm_rule_facts.specs.Splits.{gather}
-use Rattle.fm_rule_facts.specs.Steps.{note_draw}
-use Rattle.fm_rule_facts.specs.Moves.{told}
-use Rattle.fm_rule_facts.proofs.Frame.{still_known}
-use Rattle.fm_rule_facts.proofs.Keeping.{begins_on, in_append, all_gather}
+use Rattle.fm_base.specs.{declared.{caller.Caller.{Caller}, arena_id.ArenaId.{ArenaId}}, Calls.{Entry}, Finds.{Find, is_slot, is_page}}
+use Rattle.fm_base_machine.specs.{Functions.{Stage, Machine}, Steps.{moved_by}}
+use Rattle.fm_rule_facts.specs.{Views.{View, In, all_gathered}, Memory.{Memory}, Gone.{IsTakenBy, OpenedBy, IsGone, FoundBy, IsFounded}, Splits.{gather}}
+use Rattle.fm_rule_facts.{specs.{Steps.{note_draw}, Moves.{told}}, proofs.{Frame.{still_known}, Keeping.{begins_on, in_append, all_gather}}}
 
 -- what is noted has no find of slots or pages
 abbrev pub NoSlots : (ℕ → List Find) → Type 0

@@ -1,16 +1,11 @@
 -- The holds of passes beside those that the machine counts, for arenas that are automatic and for the others.
 use Rattle.std.proofs.Common.{◌≡◌, ◌≢◌, ℕ, ◌+◌, ◌<◌, Bool, true, false, if◌then◌else◌, List, [], ◌∷◌, sym, refl, ap, ◌∙◌, arith}
-use Rattle.fm_base.specs.declared.arena_id.ArenaId.{ArenaId}
-use Rattle.fm_base.specs.declared.kind.Kind.{Kind}
-use Rattle.fm_base.specs.declared.kind.Kind.TheVariants.{Global, Automatic, Confined, Shared}
-use Rattle.fm_base.specs.Arenas.{same_id}
+use Rattle.fm_base.specs.{declared.{arena_id.ArenaId.{ArenaId}, kind.Kind.{Kind, TheVariants.{Global, Automatic, Confined, Shared}}}, Arenas.{same_id}}
 use Rattle.fm_base.proofs.Names.{same_id-self}
-use Rattle.fm_base_machine.specs.Functions.{Stage, Fresh, Lives, Closes, Over, Machine, put_at}
-use Rattle.fm_base_machine.proofs.Putting.{at_cases, at_other, same_id-not}
+use Rattle.fm_base_machine.{specs.Functions.{Stage, Fresh, Lives, Closes, Over, Machine, put_at}, proofs.Putting.{at_cases, at_other, same_id-not}}
 use Rattle.fm_rule_facts.specs.Views.{View, In}
 use Rattle.fm_rule_facts.specs.Holds.{is_automatic, grips, with_grips, handles_with, released, one_if, how_many, holds_of, one_alive, all_holds}
-use Rattle.fm_rule_facts.specs.Moves.{KeepsHolds}
-use Rattle.fm_rule_facts.proofs.Summing.{one_less}
+use Rattle.fm_rule_facts.{specs.Moves.{KeepsHolds}, proofs.Summing.{one_less}}
 
 -- ---- kinds
 

@@ -1,16 +1,11 @@
 -- Words of bits for things of many numbers, and the pages whose bits one word has.
 use Rattle.std.proofs.Common.{◌≡◌, ◌≢◌, ℕ, zero, suc, ◌+◌, ◌-◌, ◌*◌, ◌/◌, ◌%◌, ◌^◌, ◌<◌, min, bit_or, Bool, true, false, List, sym, refl, ap, ◌∙◌, subst, arith}
+use Rattle.std.{specs.Int.{bit_at}, proofs.lemmas.Nat.Bits.{bit_at-lt, bit_at_or, bit_at-pow_same, bit_at-pow_other}}
 use mathlib.Core.Logic.{dite}
 use native.Mathlib.Decide.{ℕ_discrete}
-use Rattle.std.specs.Int.{bit_at}
-use Rattle.std.proofs.lemmas.Nat.Bits.{bit_at-lt, bit_at_or, bit_at-pow_same, bit_at-pow_other}
-use Rattle.fm_words.specs.declared.shape.Shape.{Shape}
-use Rattle.fm_words.specs.Places.{page_groups}
-use Rattle.fm_words.specs.Bits.{number_at, bit_of}
-use Rattle.fm_base_machine.specs.Functions.{put}
-use Rattle.fm_base_machine.proofs.Putting.{put_here, put_else}
-use Rattle.fm_rule_facts.specs.Loans.{Loan}
-use Rattle.fm_rule_facts.specs.Views.{is_lent, one_unless, unlent, unlent_from, unlent_in, pages_in}
+use Rattle.fm_words.specs.{declared.shape.Shape.{Shape}, Places.{page_groups}, Bits.{number_at, bit_of}}
+use Rattle.fm_base_machine.{specs.Functions.{put}, proofs.Putting.{put_here, put_else}}
+use Rattle.fm_rule_facts.specs.{Loans.{Loan}, Views.{is_lent, one_unless, unlent, unlent_from, unlent_in, pages_in}}
 
 -- ---- a word of bits is put
 

@@ -1,15 +1,10 @@
 -- A slot or a number in a hand stays there.
-use Rattle.std.proofs.Common.{◌≡◌, ℕ, ◌+◌, ◌<◌, ◌∙◌, Option, arith, refl, List, sym, subst, inl, inr, ⊎_elim}
-use Rattle.fm_base.specs.declared.caller.Caller.{Caller}
-use Rattle.std.specs.Int.{bit_at}
+use Rattle.std.{proofs.Common.{◌≡◌, ℕ, ◌+◌, ◌<◌, ◌∙◌, Option, arith, refl, List, sym, subst, inl, inr, ⊎_elim}, specs.Int.{bit_at}}
+use Rattle.fm_base.specs.{declared.caller.Caller.{Caller}, Calls.{Entry}, Finds.{Gathered}}
 use Rattle.fm_words.specs.declared.shape.Shape.{Shape}
-use Rattle.fm_rule_facts.specs.Hands.{Hand, nothing, taken, learnt, retired, HasSlot, IsTaker}
-use Rattle.fm_base.specs.Calls.{Entry}
-use Rattle.fm_base.specs.Finds.{Gathered}
+use Rattle.fm_rule_facts.specs.Hands.{Hand, nothing, taken, learnt, retired, HasSlot, IsTaker, Number, no_number, number_taken, number_learnt, number_drawn, number_left, number_joined, HasNumberIn}
+use Rattle.fm_rule_facts.specs.{Views.{View, In, all_gathered}, Facts.{Session, free, IsHeld, HasInHand, Memory, Owners, IsLoose, IsUndrawn, HasNumberInHand}}
 use Rattle.fm_base_machine.specs.Functions.{Machine}
-use Rattle.fm_rule_facts.specs.Hands.{Number, no_number, number_taken, number_learnt, number_drawn, number_left, number_joined, HasNumberIn}
-use Rattle.fm_rule_facts.specs.Views.{View, In, all_gathered}
-use Rattle.fm_rule_facts.specs.Facts.{Session, free, IsHeld, HasInHand, Memory, Owners, IsLoose, IsUndrawn, HasNumberInHand}
 
 module _ (z : Shape) (bits bits' : ℕ) (sessions sessions' : ℕ → Session) (holder holder' : ℕ → ℕ) (j : ℕ)
     (on : (s g : ℕ) → sessions s ≡ free g → bit_at bits s ≡ 0 → holder s ≡ j → (holder' s ≡ j) × (sessions' s ≡ free g) × (bit_at bits' s ≡ 0)) where

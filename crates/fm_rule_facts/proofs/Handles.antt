@@ -1,21 +1,11 @@
 -- After a step a pass's handles are still as many as its own entries took and didn't give back.
-use Rattle.std.proofs.Common.{◌≡◌, ℕ, ◌+◌, true, if◌then◌else◌, List, [], ◌∷◌, ◌++◌, refl, ap, sym, ◌∙◌, subst, arith}
-use Rattle.std.proofs.lemmas.List.Elements.{filter-append}
-use Rattle.fm_base.specs.declared.caller.Caller.{Caller}
-use Rattle.fm_base.specs.declared.arena_id.ArenaId.{ArenaId}
-use Rattle.fm_base.specs.declared.kind.Kind.TheVariants.{Automatic}
-use Rattle.fm_base.specs.Calls.{Entry}
-use Rattle.fm_base.specs.Finds.{Find}
+use Rattle.std.proofs.{Common.{◌≡◌, ℕ, ◌+◌, true, if◌then◌else◌, List, [], ◌∷◌, ◌++◌, refl, ap, sym, ◌∙◌, subst, arith}, lemmas.List.Elements.{filter-append}}
+use Rattle.fm_base.specs.{declared.{caller.Caller.{Caller}, arena_id.ArenaId.{ArenaId}, kind.Kind.TheVariants.{Automatic}}, Calls.{Entry}, Finds.{Find}}
 use Rattle.fm_base.specs.Histories.{made_by}
-use Rattle.fm_base_machine.specs.Functions.{Machine, moved}
-use Rattle.fm_base_machine.specs.Steps.{moved_by}
-use Rattle.fm_base_machine.specs.Handles.{one_alive, handles_of, all_taken, all_given, AreLeft}
+use Rattle.fm_base_machine.specs.{Functions.{Machine, moved}, Steps.{moved_by}, Handles.{one_alive, handles_of, all_taken, all_given, AreLeft}}
 use Rattle.fm_base_machine.proofs.Handling.{handled, counts_by}
-use Rattle.fm_rule_facts.specs.Views.{View, HasOwnHandles, how_many}
-use Rattle.fm_rule_facts.specs.Holds.{holds_of, all_holds}
-use Rattle.fm_rule_facts.specs.Moves.{MayMake, Same, KeepsHolds, told}
-use Rattle.fm_rule_facts.proofs.Frame.{made_by-own}
-use Rattle.fm_rule_facts.proofs.Gripping.{automatic, handles_are, held_now}
+use Rattle.fm_rule_facts.specs.{Views.{View, HasOwnHandles, how_many}, Holds.{holds_of, all_holds}, Moves.{MayMake, Same, KeepsHolds, told}}
+use Rattle.fm_rule_facts.proofs.{Frame.{made_by-own}, Gripping.{automatic, handles_are, held_now}}
 
 -- what two runs of entries take
 all_taken-append : (a : ArenaId) (xs ys : List Entry) → all_taken a (xs ++ ys) ≡ all_taken a xs + all_taken a ys

@@ -1,29 +1,20 @@
 -- A step keeps the rule, and tells its caller what others did.
 use Rattle.std.proofs.Common.{◌≡◌, ◌≢◌, ◌⊎◌, ℕ, zero, suc, true, List, [], ◌∷◌, ◌++◌, set, sym, refl, ap, ◌∙◌, subst, arith, inl, inr, ⊎_elim, append_assoc, Some}
-use Rattle.std.proofs.lemmas.List.{append-nil}
-use Rattle.std.proofs.lemmas.List.Elements.{filter-append}
+use Rattle.std.proofs.lemmas.List.{append-nil, Elements.{filter-append}}
 use mathlib.Core.Logic.{dite}
 use native.Mathlib.Decide.{ℕ_discrete}
 use mathlib.Core.Option.{some, some-injective, some-ne-none}
 use lib.ListN.{get_elem?}
 use Rattle.atomic_table.proofs.Lists.{set_else}
 use Rattle.fm_words.specs.declared.shape.Shape.{Shape}
-use Rattle.fm_base.specs.declared.caller.Caller.{Caller}
-use Rattle.fm_base.specs.Calls.{Entry}
-use Rattle.fm_base.specs.Histories.{made_by}
-use Rattle.fm_base.specs.Finds.{Gathered, Close, Sweep}
-use Rattle.fm_base_machine.specs.Functions.{Machine}
-use Rattle.fm_base_machine.specs.Steps.{moved_by}
-use Rattle.fm_rule_facts.specs.Views.{Met, View, In, all_gathered, brought, limit_of}
-use Rattle.fm_base.specs.declared.arena_id.ArenaId.{ArenaId}
-use Rattle.fm_rule_facts.specs.Parts.{Swept, unread, named, wiping}
+use Rattle.fm_base.specs.{declared.{caller.Caller.{Caller}, arena_id.ArenaId.{ArenaId}}, Calls.{Entry}, Histories.{made_by}, Finds.{Gathered, Close, Sweep}}
+use Rattle.fm_base_machine.specs.{Functions.{Machine}, Steps.{moved_by}}
+use Rattle.fm_rule_facts.specs.{Views.{Met, View, In, all_gathered, brought, limit_of}, Parts.{Swept, unread, named, wiping}}
 use Rattle.fm_rule_facts.specs.Facts.{Memory, Owners, IsStanding, IsAt, IsNext, HasSwept, HasPages, IsClosing, IsSweeping, IsGathered, IsSilent, Begins, Somewhere, Owns, Knows, WasDrawn, bit_of, next_of, IsLoose, IsUndrawn, HasNumberInHand}
 use Rattle.fm_rule_facts.specs.Moves.{MayMake, NoEnd, StaysEnded, Moved}
-use Rattle.fm_rule_facts.proofs.Frame.{others_stay, none_come, still_closing, still_over, still_given, made_by-other}
-use Rattle.fm_rule_facts.proofs.Sessions.{unstanding}
+use Rattle.fm_rule_facts.proofs.{Frame.{others_stay, none_come, still_closing, still_over, still_given, made_by-other}, Sessions.{unstanding}}
 use Rattle.fm_rule_facts.specs.Hands.{Number, no_number, number_taken, number_learnt, number_drawn, number_left, number_joined, most_draws}
-use Rattle.fm_rule_facts.proofs.Handing.{hand_on, took_on}
-use Rattle.fm_rule_facts.specs.Splits.{as_gathered, gather}
+use Rattle.fm_rule_facts.{proofs.Handing.{hand_on, took_on}, specs.Splits.{as_gathered, gather}}
 
 -- ---- lists
 

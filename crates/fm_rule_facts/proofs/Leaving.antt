@@ -1,14 +1,9 @@
 -- What a step leaves to others, where it leaves it as it is.
-use Rattle.std.proofs.Common.{◌≡◌, ◌≢◌, ◌⊎◌, ℕ, List, [], refl, inl, Option}
-use Rattle.std.specs.Int.{bit_at}
+use Rattle.std.{proofs.Common.{◌≡◌, ◌≢◌, ◌⊎◌, ℕ, List, [], refl, inl, Option}, specs.Int.{bit_at}}
 use Rattle.fm_words.specs.declared.shape.Shape.{Shape}
-use Rattle.fm_base.specs.declared.caller.Caller.{Caller}
-use Rattle.fm_base.specs.declared.arena_id.ArenaId.{ArenaId}
-use Rattle.fm_base.specs.Calls.{Entry}
+use Rattle.fm_base.specs.{declared.{caller.Caller.{Caller}, arena_id.ArenaId.{ArenaId}}, Calls.{Entry}}
 use Rattle.fm_base_machine.specs.Functions.{Stage, Closes, Over, Machine}
-use Rattle.fm_rule_facts.specs.Gone.{IsTakenBy, OpenedBy}
-use Rattle.fm_rule_facts.specs.Views.{limit_of}
-use Rattle.fm_rule_facts.specs.Facts.{Memory, free, shut, Berth, Owners}
+use Rattle.fm_rule_facts.specs.{Gone.{IsTakenBy, OpenedBy}, Views.{limit_of}, Facts.{Memory, free, shut, Berth, Owners}}
 use Rattle.fm_rule_facts.specs.Moves.{MayMake, NoEnd, StaysEnded, PagesMoved, CallersStay, NumbersMoved, Moved}
 
 pub callers_stay : {draw : ℕ} {who : ℕ → Caller} {rank seat : Caller → ℕ} → CallersStay draw who rank seat draw who rank seat

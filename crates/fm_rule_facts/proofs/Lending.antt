@@ -2,21 +2,14 @@
 use Rattle.std.proofs.Common.{◌≡◌, ◌≢◌, ◌⊎◌, ℕ, Bool, true, false, cond, filter, List, [], ◌∷◌, ◌++◌, sym, refl, ap, ◌∙◌, subst, inl, inr, ⊎_elim, arith, Option, Some}
 use Rattle.std.proofs.lemmas.List.Elements.{All-contains, All-contains_itself, All-filter, Contains-append_left, Contains-append_right, Contains-append_cases, Contains-push, Contains-push_cases}
 use Rattle.std.specs.Prelude.{Contains}
-use Rattle.fm_base.specs.declared.caller.Caller.{Caller}
-use Rattle.fm_base.specs.declared.arena_id.ArenaId.{ArenaId}
+use Rattle.fm_base.specs.{declared.{caller.Caller.{Caller}, arena_id.ArenaId.{ArenaId}}, Arenas.{Life, Alive, Closing, Ended, State, has_arena, arena_of}}
+use Rattle.fm_base.specs.{Calls.{Call, Open, Enter, Read, Write, SwapIf, Add, Allocate, Leave, Hold, Unhold, Shut, End, Lend, Back, Entry}, Machine.{after}}
+use Rattle.fm_base.{specs.Histories.{IsLegal, state_after}, proofs.Making.{state_after-append}}
 use Rattle.fm_words.specs.declared.shape.Shape.{Shape}
-use Rattle.fm_rule_facts.specs.Memory.{Session, IsShown}
-use Rattle.fm_rule_facts.specs.Pages.{IsBeyond, IsMapped}
-use Rattle.fm_base.specs.Arenas.{Life, Alive, Closing, Ended, State, has_arena, arena_of}
-use Rattle.fm_base.specs.Calls.{Call, Open, Enter, Read, Write, SwapIf, Add, Allocate, Leave, Hold, Unhold, Shut, End, Lend, Back, Entry}
-use Rattle.fm_base.specs.Machine.{after}
-use Rattle.fm_base.specs.Histories.{IsLegal, state_after}
-use Rattle.fm_rule_facts.specs.Loans.{Loan, loan_of, loans_by, loans_after, IsRightlyLentIn, IsRightlyLentFrom}
-use Rattle.fm_base.proofs.Making.{state_after-append}
-use Rattle.fm_base_machine.specs.Functions.{Fresh, Over, stage_of, Machine, Depicts, moved}
-use Rattle.fm_rule_facts.specs.Moves.{LendsBy, MayLend, MayMake}
+use Rattle.fm_rule_facts.specs.{Memory.{Session, IsShown}, Pages.{IsBeyond, IsMapped}}
+use Rattle.fm_rule_facts.specs.{Loans.{Loan, loan_of, loans_by, loans_after, IsRightlyLentIn, IsRightlyLentFrom}, Moves.{LendsBy, MayLend, MayMake}}
 use Rattle.fm_rule_facts.proofs.Frame.{legal_on}
-use Rattle.fm_base_machine.proofs.Allowing.{not_fresh}
+use Rattle.fm_base_machine.{specs.Functions.{Fresh, Over, stage_of, Machine, Depicts, moved}, proofs.Allowing.{not_fresh}}
 
 -- ---- histories put together
 

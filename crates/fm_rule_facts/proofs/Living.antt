@@ -1,19 +1,15 @@
 -- The facts of pages while their words are written and wiped, and over what happens to arenas.
 use Rattle.std.proofs.Common.{◌≡◌, ◌≢◌, ◌⊎◌, ℕ, ◌+◌, ◌*◌, ◌/◌, ◌%◌, ◌<◌, ◌≤◌, List, Option, Some, None, sym, refl, ap, ◌∙◌, subst, inl, inr, ⊎_elim, arith}
+use Rattle.std.proofs.Math.Nat.{div-add-mod}
 use mathlib.Core.Logic.{dite}
 use native.Mathlib.Decide.{ℕ_discrete}
-use Rattle.std.proofs.Math.Nat.{div-add-mod}
 use Rattle.fm_words.specs.declared.shape.Shape.{Shape}
 use Rattle.fm_base.specs.declared.arena_id.ArenaId.{ArenaId}
-use Rattle.fm_base_machine.specs.Functions.{Stage, Fresh, Lives, Closes, Over, put, put_at}
-use Rattle.fm_base_machine.proofs.Putting.{put_here, put_else, put_cases, at_cases}
-use Rattle.fm_rule_facts.specs.Loans.{Loan}
-use Rattle.fm_rule_facts.specs.Facts.{Session, free, live, shut, IsShown, IsStanding, Sessions}
+use Rattle.fm_base_machine.{specs.Functions.{Stage, Fresh, Lives, Closes, Over, put, put_at}, proofs.Putting.{put_here, put_else, put_cases, at_cases}}
+use Rattle.fm_rule_facts.specs.{Loans.{Loan}, Facts.{Session, free, live, shut, IsShown, IsStanding, Sessions}}
 use Rattle.fm_rule_facts.proofs.Sessions.{standing_known, unstanding, standing_shown, shown_one, one_standing}
-use Rattle.fm_rule_facts.specs.Berths.{Berth, loose, claimed, mapped, unmapped}
-use Rattle.fm_rule_facts.specs.Pages.{IsBlank, IsBeyond, IsMapped, IsUnmapped, Pages, Says}
-use Rattle.fm_rule_facts.proofs.Lending.{mapped_over}
-use Rattle.fm_rule_facts.proofs.Putting.{two_cases}
+use Rattle.fm_rule_facts.specs.{Berths.{Berth, loose, claimed, mapped, unmapped}, Pages.{IsBlank, IsBeyond, IsMapped, IsUnmapped, Pages, Says}}
+use Rattle.fm_rule_facts.proofs.{Lending.{mapped_over}, Putting.{two_cases}}
 
 module _ (z : Shape) (loans : List Loan) (bits : ℕ → ℕ) (maps : ℕ → ℕ → Option ℕ) (cells : ℕ → ℕ → ℕ) (berth : ℕ → Berth) (sessions : ℕ → Session)
     (life : ArenaId → Stage) (word : ArenaId → ℕ → ℕ) (given : ArenaId → ℕ)

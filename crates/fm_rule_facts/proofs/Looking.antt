@@ -4,16 +4,10 @@ use Rattle.std.proofs.lemmas.List.{append-nil}
 use mathlib.Core.Option.{some}
 use lib.ListN.{get_elem?}
 use Rattle.fm_words.specs.declared.shape.Shape.{Shape}
-use Rattle.fm_base.specs.declared.caller.Caller.{Caller}
-use Rattle.fm_base.specs.Calls.{Entry}
-use Rattle.fm_base.specs.Finds.{Find, Gathered, is_number}
-use Rattle.fm_rule_facts.specs.Hands.{number_taken, number_learnt, most_draws, HasNumberIn}
-use Rattle.fm_rule_facts.specs.Views.{View, In, prefix, all_gathered, brought}
-use Rattle.fm_rule_facts.specs.Splits.{gather}
+use Rattle.fm_base.specs.{declared.caller.Caller.{Caller}, Calls.{Entry}, Finds.{Find, Gathered, is_number}}
+use Rattle.fm_rule_facts.specs.{Hands.{number_taken, number_learnt, most_draws, HasNumberIn}, Views.{View, In, prefix, all_gathered, brought}, Splits.{gather}}
 use Rattle.fm_rule_facts.specs.Facts.{Memory, Owners, WasDrawn, Somewhere, WantsNumber, IsUsed, used, wanted, full, HasLooked, LookedBy, IsLooked, IsLoose, Rule}
-use Rattle.fm_rule_facts.specs.Moves.{told}
-use Rattle.fm_rule_facts.proofs.Handing.{hand_owner}
-use Rattle.fm_rule_facts.proofs.Keeping.{in_append, all_gather}
+use Rattle.fm_rule_facts.{specs.Moves.{told}, proofs.{Handing.{hand_owner}, Keeping.{in_append, all_gather}}}
 
 pub prefix-append : (k : ℕ) (xs ys : List Gathered) → k ≤ length xs → prefix k (xs ++ ys) ≡ prefix k xs
 prefix-append zero xs ys h = refl

@@ -1,23 +1,15 @@
 -- The facts of pages over the steps that move them.
 use Rattle.std.proofs.Common.{◌≡◌, ◌≢◌, ℕ, ◌/◌, ◌%◌, ◌<◌, List, ◌∷◌, Option, Some, None, sym, refl, ap, ◌∙◌, subst, inr, ⊎_elim, arith}
-use Rattle.std.specs.Prelude.{Contains}
+use Rattle.std.{specs.Prelude.{Contains}, proofs.{Math.Nat.{mod-lt}, lemmas.List.Elements.{All-weaker, All-contains, All-contains_itself}}}
 use mathlib.Core.Logic.{dite}
 use native.Mathlib.Decide.{ℕ_discrete}
-use Rattle.std.proofs.Math.Nat.{mod-lt}
-use Rattle.fm_words.specs.Bits.{bit_of}
-use Rattle.std.proofs.lemmas.List.Elements.{All-weaker, All-contains, All-contains_itself}
-use Rattle.fm_words.specs.declared.shape.Shape.{Shape}
-use Rattle.fm_base.specs.declared.arena_id.ArenaId.{ArenaId}
-use Rattle.fm_base.specs.Calls.{Lend}
-use Rattle.fm_base_machine.specs.Functions.{Stage, Lives, Closes, Over, put}
-use Rattle.fm_base_machine.proofs.Putting.{put_here, put_else, put_cases}
-use Rattle.fm_rule_facts.proofs.Putting.{two_cases}
-use Rattle.fm_rule_facts.specs.Loans.{Loan, loan_of, loans_by, IsFree, HasPart}
+use Rattle.fm_words.specs.{Bits.{bit_of}, declared.shape.Shape.{Shape}}
+use Rattle.fm_base.specs.{declared.arena_id.ArenaId.{ArenaId}, Calls.{Lend}}
+use Rattle.fm_base_machine.{specs.Functions.{Stage, Lives, Closes, Over, put}, proofs.Putting.{put_here, put_else, put_cases}}
+use Rattle.fm_rule_facts.{proofs.Putting.{two_cases}, specs.Loans.{Loan, loan_of, loans_by, IsFree, HasPart}}
 use Rattle.fm_rule_facts.specs.Facts.{Session, free, live, shut, IsShown, IsStanding, Sessions}
-use Rattle.fm_rule_facts.proofs.Lending.{loan_cases, first_loan, more_loans, mapped_over}
-use Rattle.fm_rule_facts.proofs.Sessions.{standing_shown, shown_one, ended_apart}
-use Rattle.fm_rule_facts.specs.Berths.{Berth, loose, claimed, mapped, unmapped, LentAt}
-use Rattle.fm_rule_facts.specs.Pages.{IsBlank, IsBeyond, IsMapped, IsUnmapped, Pages}
+use Rattle.fm_rule_facts.proofs.{Lending.{loan_cases, first_loan, more_loans, mapped_over}, Sessions.{standing_shown, shown_one, ended_apart}}
+use Rattle.fm_rule_facts.specs.{Berths.{Berth, loose, claimed, mapped, unmapped, LentAt}, Pages.{IsBlank, IsBeyond, IsMapped, IsUnmapped, Pages}}
 
 module _ (z : Shape) (loans : List Loan) (bits : ℕ → ℕ) (maps : ℕ → ℕ → Option ℕ) (cells : ℕ → ℕ → ℕ) (berth : ℕ → Berth) (sessions : ℕ → Session)
     (life : ArenaId → Stage) (word : ArenaId → ℕ → ℕ) (given : ArenaId → ℕ)

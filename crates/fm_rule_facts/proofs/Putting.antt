@@ -2,8 +2,7 @@
 use Rattle.std.proofs.Common.{◌≡◌, ℕ, sym, ap, ◌∙◌, subst}
 use mathlib.Core.Logic.{dite}
 use native.Mathlib.Decide.{ℕ_discrete}
-use Rattle.fm_base_machine.specs.Functions.{put}
-use Rattle.fm_base_machine.proofs.Putting.{put_here, put_else, put_cases}
+use Rattle.fm_base_machine.{specs.Functions.{put}, proofs.Putting.{put_here, put_else, put_cases}}
 
 -- a table of two numbers that was changed at one place
 pub two_cases : {A : Type 0} (f : ℕ → ℕ → A) (k i : ℕ) (x : A) (c j : ℕ) (P : A → Type 0) → (c ≡ k → j ≡ i → P x) → (¬ ((c ≡ k) × (j ≡ i)) → P (f c j))

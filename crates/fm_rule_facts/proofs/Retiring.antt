@@ -1,12 +1,9 @@
 -- The memory stays beside the machine while an ended arena is swept.
-use Rattle.std.proofs.Common.{◌≡◌, ◌≢◌, ℕ, ◌+◌, ◌<◌, ap, sym, ◌∙◌, inl, arith}
+use Rattle.std.{proofs.Common.{◌≡◌, ◌≢◌, ℕ, ◌+◌, ◌<◌, ap, sym, ◌∙◌, inl, arith}, specs.Int.{bit_at}}
 use Rattle.fm_words.specs.declared.shape.Shape.{Shape}
 use Rattle.fm_base.specs.declared.arena_id.ArenaId.{ArenaId}
-use Rattle.fm_base_machine.specs.Functions.{Fresh, Over, Machine, put}
-use Rattle.fm_base_machine.proofs.Putting.{put_else, put_cases}
-use Rattle.std.specs.Int.{bit_at}
-use Rattle.fm_rule_facts.specs.Views.{Fits}
-use Rattle.fm_rule_facts.specs.Facts.{Session, free, shut, Memory, World}
+use Rattle.fm_base_machine.{specs.Functions.{Fresh, Over, Machine, put}, proofs.Putting.{put_else, put_cases}}
+use Rattle.fm_rule_facts.specs.{Views.{Fits}, Facts.{Session, free, shut, Memory, World}}
 use Rattle.fm_rule_facts.proofs.Sessions.{ended_apart, sessions_retire, slots_retired, slots_given}
 
 module _ (z : Shape) (m : Memory) (t : Machine) (r : World z m t) where

@@ -1,20 +1,13 @@
 -- The facts of pages when a page is given back.
 use Rattle.std.proofs.Common.{◌≡◌, ◌≢◌, ℕ, ◌<◌, ◌==◌, Bool, true, not, filter, List, Option, Some, sym, ap, ◌∙◌, subst, eq-eqb, ne_eqb}
-use Rattle.std.specs.Prelude.{Contains}
+use Rattle.std.{specs.Prelude.{Contains}, proofs.lemmas.List.Elements.{All-contains, filter_passes}}
 use mathlib.Core.Logic.{dite}
 use native.Mathlib.Decide.{ℕ_discrete}
-use Rattle.fm_words.specs.Bits.{bit_of}
-use Rattle.std.proofs.lemmas.List.Elements.{All-contains, filter_passes}
-use Rattle.fm_words.specs.declared.shape.Shape.{Shape}
-use Rattle.fm_base.specs.declared.arena_id.ArenaId.{ArenaId}
-use Rattle.fm_base.specs.Calls.{Back}
-use Rattle.fm_base_machine.specs.Functions.{Stage, put}
-use Rattle.fm_base_machine.proofs.Putting.{put_here, put_else, put_cases}
-use Rattle.fm_rule_facts.specs.Loans.{Loan, loan_of, loans_by}
-use Rattle.fm_rule_facts.specs.Facts.{Session, Sessions}
-use Rattle.fm_rule_facts.proofs.Lending.{loan_kept, loan_was, mapped_over}
-use Rattle.fm_rule_facts.specs.Berths.{Berth, loose, claimed, mapped, unmapped, LentAt}
-use Rattle.fm_rule_facts.specs.Pages.{IsBlank, IsMapped, IsUnmapped, Pages}
+use Rattle.fm_words.specs.{Bits.{bit_of}, declared.shape.Shape.{Shape}}
+use Rattle.fm_base.specs.{declared.arena_id.ArenaId.{ArenaId}, Calls.{Back}}
+use Rattle.fm_base_machine.{specs.Functions.{Stage, put}, proofs.Putting.{put_here, put_else, put_cases}}
+use Rattle.fm_rule_facts.{specs.{Loans.{Loan, loan_of, loans_by}, Facts.{Session, Sessions}}, proofs.Lending.{loan_kept, loan_was, mapped_over}}
+use Rattle.fm_rule_facts.specs.{Berths.{Berth, loose, claimed, mapped, unmapped, LentAt}, Pages.{IsBlank, IsMapped, IsUnmapped, Pages}}
 
 module _ (z : Shape) (loans : List Loan) (bits : ℕ → ℕ) (maps : ℕ → ℕ → Option ℕ) (cells : ℕ → ℕ → ℕ) (berth : ℕ → Berth) (sessions : ℕ → Session)
     (life : ArenaId → Stage) (word : ArenaId → ℕ → ℕ) (given : ArenaId → ℕ)

@@ -1,36 +1,25 @@
 -- The rule after a step.
 use Rattle.std.proofs.Common.{◌≡◌, ◌≢◌, ℕ, ◌≤◌, true, false, List, [], ◌++◌, length, set, sym, refl, ap, ◌∙◌, subst, arith, inl, inr, ⊎_elim}
+use Rattle.std.specs.Int.{bit_at}
 use mathlib.Core.Option.{some}
 use lib.ListN.{get_elem?}
-use Rattle.atomic_table.proofs.Lists.{at_set}
+use Rattle.atomic_table.proofs.Lists.{at_set, set_else}
 use Rattle.fm_words.specs.declared.shape.Shape.{Shape}
-use Rattle.fm_base.specs.declared.caller.Caller.{Caller}
-use Rattle.fm_base.specs.Calls.{Entry}
-use Rattle.fm_base.specs.Finds.{Find, Gathered, is_number}
-use Rattle.fm_base_machine.specs.Functions.{Closes, Over, Machine}
-use Rattle.fm_base_machine.specs.Steps.{moved_by}
+use Rattle.fm_base.specs.{declared.caller.Caller.{Caller}, Calls.{Entry}, Finds.{Find, Gathered, is_number}}
+use Rattle.fm_base_machine.specs.{Functions.{Closes, Over, Machine}, Steps.{moved_by}}
 use Rattle.fm_rule_facts.specs.Views.{all_gathered, brought, View, In, limit_of}
 use Rattle.fm_rule_facts.specs.Facts.{Memory, Work, free, shut, Berth, loose, claimed, mapped, unmapped, IsAt, Pages, HasPage, Owners, Shows, World, HasDraw, HasClose, HasSweep, KeepsSlot, Somewhere, Knows, Rule, KeepsCaller, WantsNumber, IsUsed, wanted, IsLooked, LookedBy, KeepsNumber, WasDrawn, bit_of, IsSpent}
 use Rattle.fm_rule_facts.specs.Moves.{Moved, Same, KeepsHand, KeepsCloses, KeepsSweeps, KeepsSlots, KeepsPages, KeepsHolds, told, Gives, MayLend, NumbersOn}
-use Rattle.std.specs.Int.{bit_at}
-use Rattle.fm_rule_facts.specs.Hands.{number_drawn}
-use Rattle.fm_rule_facts.specs.Holds.{holds_of}
-use Rattle.fm_rule_facts.specs.Loans.{Loan, loans_of, loans_after}
-use Rattle.fm_rule_facts.proofs.Lending.{loans_after-append, lent-append, lent_on}
-use Rattle.fm_rule_facts.specs.Gone.{FoundBy, IsFounded}
+use Rattle.fm_rule_facts.specs.{Hands.{number_drawn}, Holds.{holds_of}, Loans.{Loan, loans_of, loans_after}}
+use Rattle.fm_rule_facts.{proofs.Lending.{loans_after-append, lent-append, lent_on}, specs.Gone.{FoundBy, IsFounded}}
+use Rattle.fm_rule_facts.proofs.{Looking.{wants_loose, looked_on, looked_told, none_looked}, Gone.{none_founded, found_on, founded_on, founded_told}}
+use Rattle.fm_rule_facts.proofs.{Frame.{legal_on}, Summing.{total-set}, Handles.{handles_told}}
+use Rattle.fm_rule_facts.proofs.Founds.{NoneDrawn, NoDraw, none_within, counted_later, counted_told, counted_set}
+use Rattle.fm_rule_facts.proofs.{Keeping.{set_there, in_left, stays_somewhere, silent_on, drawn_still, drawn_before, others_know}, Owning.{own_view, gives_by}}
+use Rattle.fm_rule_facts.proofs.Sounding.{sound_of}
 use mathlib.Core.Option.{some-injective}
 use mathlib.Core.Logic.{dite}
 use native.Mathlib.Decide.{ℕ_discrete}
-use Rattle.atomic_table.proofs.Lists.{set_else}
-use Rattle.fm_rule_facts.proofs.Looking.{wants_loose, looked_on, looked_told, none_looked}
-use Rattle.fm_rule_facts.proofs.Gone.{none_founded, found_on, founded_on, founded_told}
-use Rattle.fm_rule_facts.proofs.Frame.{legal_on}
-use Rattle.fm_rule_facts.proofs.Summing.{total-set}
-use Rattle.fm_rule_facts.proofs.Handles.{handles_told}
-use Rattle.fm_rule_facts.proofs.Founds.{NoneDrawn, NoDraw, none_within, counted_later, counted_told, counted_set}
-use Rattle.fm_rule_facts.proofs.Keeping.{set_there, in_left, stays_somewhere, silent_on, drawn_still, drawn_before, others_know}
-use Rattle.fm_rule_facts.proofs.Owning.{own_view, gives_by}
-use Rattle.fm_rule_facts.proofs.Sounding.{sound_of}
 
 -- ---- the rule
 

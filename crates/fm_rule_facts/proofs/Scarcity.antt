@@ -1,19 +1,12 @@
 -- How many blocks aren't lent, and how many parts of an arena have no block, before and after a loan.
 use Rattle.std.proofs.Common.{◌≡◌, ◌≢◌, ℕ, zero, suc, ◌+◌, ◌<◌, ◌≤◌, ◌==◌, ◌&&◌, Bool, true, false, if◌then◌else◌, List, [], ◌∷◌, All, sym, refl, ap, ◌∙◌, subst, ⊎_elim, arith, eq-eqb, ne_eqb}
-use Rattle.std.specs.Prelude.{Contains}
-use Rattle.std.proofs.lemmas.Bool.Decides.{nat_tests}
-use Rattle.std.proofs.lemmas.List.Elements.{All-head, All-tail}
+use Rattle.std.{specs.Prelude.{Contains}, proofs.lemmas.{Bool.Decides.{nat_tests}, List.Elements.{All-head, All-tail}}}
 use mathlib.Core.Logic.{dite}
 use native.Mathlib.Decide.{ℕ_discrete}
-use Rattle.fm_base.specs.declared.arena_id.ArenaId.{ArenaId}
-use Rattle.fm_base.specs.Arenas.{State, same_id}
-use Rattle.fm_base.specs.Calls.{Call, Lend, Entry}
-use Rattle.fm_base.specs.Machine.{after}
+use Rattle.fm_base.specs.{declared.arena_id.ArenaId.{ArenaId}, Arenas.{State, same_id}, Calls.{Call, Lend, Entry}, Machine.{after}}
 use Rattle.fm_base.proofs.Names.{same_id-self, same_id-true}
 use Rattle.fm_rule_facts.specs.Loans.{Loan, loan_of, loans_by, loans_after, IsFree, HasPart, IsRightlyLentIn, IsRightlyLentFrom}
-use Rattle.fm_rule_facts.specs.Views.{is_lent, one_unless, unlent}
-use Rattle.fm_rule_facts.specs.Scarcity.{has_part, lacking}
-use Rattle.fm_rule_facts.proofs.Lending.{loan_cases, first_loan, more_loans}
+use Rattle.fm_rule_facts.{specs.{Views.{is_lent, one_unless, unlent}, Scarcity.{has_part, lacking}}, proofs.Lending.{loan_cases, first_loan, more_loans}}
 
 module _ (p : ℕ) (a : ArenaId) (i : ℕ) (loans : List Loan) where
   abbrev now : List Loan

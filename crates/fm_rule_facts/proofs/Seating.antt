@@ -1,14 +1,10 @@
 -- What a pass says where others get another seat.
 use Rattle.std.proofs.Common.{◌≡◌, ℕ, true, List, sym, ◌∙◌, subst}
 use Rattle.fm_words.specs.declared.shape.Shape.{Shape}
-use Rattle.fm_base.specs.declared.caller.Caller.{Caller}
-use Rattle.fm_base.specs.Calls.{Entry}
-use Rattle.fm_base.specs.Finds.{Gathered}
+use Rattle.fm_base.specs.{declared.caller.Caller.{Caller}, Calls.{Entry}, Finds.{Gathered}}
 use Rattle.fm_base_machine.specs.Functions.{Machine}
-use Rattle.fm_rule_facts.specs.Views.{View}
-use Rattle.fm_rule_facts.specs.Facts.{Memory, Owners, WasDrawn, IsGathered, HasNumberInHand, Owns, Knows}
-use Rattle.fm_rule_facts.proofs.Handing.{hand_owners, hand_owner}
-use Rattle.fm_rule_facts.proofs.Working.{work_as}
+use Rattle.fm_rule_facts.specs.{Views.{View}, Facts.{Memory, Owners, WasDrawn, IsGathered, HasNumberInHand, Owns, Knows}}
+use Rattle.fm_rule_facts.proofs.{Handing.{hand_owners, hand_owner}, Working.{work_as}}
 
 module _ {z : Shape} {h : List Entry} {m : Memory} {t : Machine} {o : Owners} {j : ℕ} {u : View} where
   -- what a view knows stands where its pass has what it had

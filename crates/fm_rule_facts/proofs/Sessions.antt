@@ -1,15 +1,12 @@
 -- Session words stay beside the machine over each kind of entry.
-use Rattle.std.proofs.Common.{◌≡◌, ◌≢◌, ◌⊎◌, ℕ, ◌+◌, ◌<◌, ◌≤◌, sym, refl, ap, ◌∙◌, subst, arith, inl, inr, ⊎_elim}
+use Rattle.std.{proofs.Common.{◌≡◌, ◌≢◌, ◌⊎◌, ℕ, ◌+◌, ◌<◌, ◌≤◌, sym, refl, ap, ◌∙◌, subst, arith, inl, inr, ⊎_elim}, specs.Int.{bit_at}}
 use mathlib.Core.Logic.{dite}
 use native.Mathlib.Decide.{ℕ_discrete}
 use Rattle.fm_words.specs.declared.shape.Shape.{Shape}
-use Rattle.fm_base.specs.declared.caller.Caller.{Caller}
-use Rattle.fm_base.specs.declared.arena_id.ArenaId.{ArenaId}
+use Rattle.fm_base.specs.declared.{caller.Caller.{Caller}, arena_id.ArenaId.{ArenaId}}
 use Rattle.fm_base_machine.specs.Functions.{Stage, Fresh, Lives, Closes, Over, put, put_at}
 use Rattle.fm_base_machine.proofs.Putting.{put_here, put_else, at_here, at_other, put_cases, at_cases}
-use Rattle.std.specs.Int.{bit_at}
-use Rattle.fm_rule_facts.specs.Views.{Fits}
-use Rattle.fm_rule_facts.specs.Facts.{Session, free, live, shut, IsStanding, IsShown, Sessions, Slots}
+use Rattle.fm_rule_facts.specs.{Views.{Fits}, Facts.{Session, free, live, shut, IsStanding, IsShown, Sessions, Slots}}
 
 -- callers of one number and term are one
 pub caller_is : (c d : Caller) → c.number ≡ d.number → c.term ≡ d.term → c ≡ d

@@ -3,16 +3,12 @@ use Rattle.std.proofs.Common.{◌≡◌, ◌≢◌, ℕ, ◌<◌, List, length, 
 use mathlib.Core.Logic.{dite}
 use native.Mathlib.Decide.{ℕ_discrete}
 use lib.Seq.{set-get_or}
-use Rattle.fm_words.specs.declared.shape.Shape.{Shape}
-use Rattle.fm_words.specs.Shapes.{IsValid}
+use Rattle.fm_words.specs.{declared.shape.Shape.{Shape}, Shapes.{IsValid}}
 use Rattle.fm_words.specs.Places.{Place, IsPlace, at, front as front_place, draw as draw_place, slot_bits as bits_place, page_bits as page_bits_place, page_groups, mark, session, given as given_place, map, page_word, words as word_count, number_bits, term, groups}
-use Rattle.fm_base.specs.declared.arena_id.ArenaId.{ArenaId}
-use Rattle.fm_base_machine.specs.Functions.{put}
-use Rattle.fm_base_machine.proofs.Putting.{put_here, put_else}
-use Rattle.fm_rule_facts.proofs.Putting.{two_cases}
 use Rattle.fm_words.proofs.Tables.{at-within, at-apart}
-use Rattle.fm_rule_facts.specs.Words.{own_word}
-use Rattle.fm_rule_facts.specs.Facts.{Memory, Session, session_code, own_map, Shows}
+use Rattle.fm_base.specs.declared.arena_id.ArenaId.{ArenaId}
+use Rattle.fm_base_machine.{specs.Functions.{put}, proofs.Putting.{put_here, put_else}}
+use Rattle.fm_rule_facts.{proofs.Putting.{two_cases}, specs.{Words.{own_word}, Facts.{Memory, Session, session_code, own_map, Shows}}}
 
 -- ---- places
 

@@ -1,37 +1,19 @@
 -- A view that has seen the whole history is sound.
 use Rattle.std.proofs.Common.{◌≡◌, ◌≢◌, ℕ, ◌*◌, ◌/◌, ◌^◌, ◌<◌, ◌≤◌, Bool, true, false, List, [], ◌∷◌, sym, refl, ap, ◌∙◌, subst, arith, inl, inr, ⊎_elim, mul-le-mul_right, Some, None}
+use Rattle.std.{proofs.lemmas.Bool.{cases_lt}, specs.Prelude.{Contains}}
 use mathlib.Core.Option.{some, some-injective}
 use lib.ListN.{get_elem?}
-use Rattle.fm_words.specs.declared.shape.Shape.{Shape}
-use Rattle.fm_words.specs.Shapes.{IsValid}
-use Rattle.fm_base.specs.declared.caller.Caller.{Caller}
-use Rattle.fm_base.specs.declared.arena_id.ArenaId.{ArenaId}
-use Rattle.fm_base.specs.Arenas.{only_caller, Life, Alive, Closing, Ended, State, IsUnderWay, has_arena, arena_of}
-use Rattle.fm_base.specs.Calls.{Entry}
-use Rattle.fm_base.specs.Histories.{IsLegal, state_after, made_by}
-use Rattle.fm_base.specs.Finds.{Gathered, Sweep}
-use Rattle.std.proofs.lemmas.Bool.{cases_lt}
-use Rattle.fm_rule_facts.specs.Berths.{LentAt}
-use Rattle.fm_rule_facts.specs.Parts.{wiping}
-use Rattle.fm_base_machine.specs.Functions.{Fresh, Lives, Over, stage_of}
-use Rattle.fm_base_machine.proofs.Putting.{contains_first}
-use Rattle.fm_rule_facts.specs.Views.{FewLeft, brought, View, Fits, In, IsSound, IsKnown, limit_of, state_in}
+use Rattle.fm_words.specs.{declared.shape.Shape.{Shape}, Shapes.{IsValid}}
+use Rattle.fm_base.specs.declared.{caller.Caller.{Caller}, arena_id.ArenaId.{ArenaId}}
+use Rattle.fm_base.specs.{Arenas.{only_caller, Life, Alive, Closing, Ended, State, IsUnderWay, has_arena, arena_of}, Calls.{Entry}}
+use Rattle.fm_base.specs.{Histories.{IsLegal, state_after, made_by}, Finds.{Gathered, Sweep}}
+use Rattle.fm_rule_facts.specs.{Berths.{LentAt}, Parts.{wiping}, Views.{FewLeft, brought, View, Fits, In, IsSound, IsKnown, limit_of, state_in}}
 use Rattle.fm_rule_facts.specs.Facts.{Berth, loose, claimed, mapped, unmapped, IsAt, IsSweeping, IsWiped, HasSwept, HasPage, Owns, Rule, IsOnce, WasDrawn, IsDrawn, HasNumberInHand}
-use Rattle.std.specs.Prelude.{Contains}
-use Rattle.fm_rule_facts.proofs.Handing.{slot_below}
-use Rattle.fm_rule_facts.specs.Holds.{grips, holds_of}
-use Rattle.fm_rule_facts.specs.Loans.{Loan, loans_of, IsRightlyLent, loan_of, HasPart}
-use Rattle.fm_rule_facts.proofs.Lending.{over_now}
-use Rattle.fm_rule_facts.specs.Gone.{FoundBy}
-use Rattle.fm_rule_facts.proofs.Alone.{none_now, numbers_gone}
-use Rattle.fm_rule_facts.proofs.Given.{given_lent, mapped_part}
-use Rattle.fm_rule_facts.proofs.Callers.{all_now, few_gathered, whole_has, knows_callers}
-use Rattle.fm_rule_facts.proofs.Sessions.{unstanding}
-use Rattle.fm_rule_facts.proofs.Summing.{total-has, some_hold}
-use Rattle.fm_rule_facts.proofs.Gripping.{held_now, held_lives}
-use Rattle.fm_rule_facts.proofs.Founds.{find_within}
-use Rattle.fm_rule_facts.proofs.Keeping.{in_left}
-use Rattle.fm_base_machine.proofs.Allowing.{not_fresh}
+use Rattle.fm_rule_facts.{proofs.Handing.{slot_below}, specs.{Holds.{grips, holds_of}, Loans.{Loan, loans_of, IsRightlyLent, loan_of, HasPart}}}
+use Rattle.fm_rule_facts.{proofs.{Lending.{over_now}, Alone.{none_now, numbers_gone}, Given.{given_lent, mapped_part}}, specs.Gone.{FoundBy}}
+use Rattle.fm_rule_facts.proofs.{Callers.{all_now, few_gathered, whole_has, knows_callers}, Sessions.{unstanding}, Summing.{total-has, some_hold}}
+use Rattle.fm_rule_facts.proofs.{Gripping.{held_now, held_lives}, Founds.{find_within}, Keeping.{in_left}}
+use Rattle.fm_base_machine.{specs.Functions.{Fresh, Lives, Over, stage_of}, proofs.{Putting.{contains_first}, Allowing.{not_fresh}}}
 
 -- an arena of the list was opened
 pub opened_life : (b : Bool) (l : Life) → b ≡ true → stage_of b l ≢ Fresh

@@ -3,13 +3,9 @@ use Rattle.std.proofs.Common.{◌≡◌, ℕ, zero, suc, ◌+◌, ◌-◌, ◌<�
 use mathlib.Core.Logic.{dite}
 use mathlib.Core.Option.{some, some-injective, some-ne-none}
 use lib.ListN.{get_elem?}
-use Rattle.fm_base.specs.declared.arena_id.ArenaId.{ArenaId}
-use Rattle.fm_base.specs.Arenas.{same_id}
-use Rattle.fm_base.proofs.Names.{same_id-true, same_id-self}
-use Rattle.fm_base_machine.specs.Functions.{put_at}
-use Rattle.fm_base_machine.proofs.Putting.{at_cases, one_arena, same_id-not}
-use Rattle.fm_rule_facts.specs.Views.{View, In}
-use Rattle.fm_rule_facts.specs.Holds.{released, one_if, how_many, total}
+use Rattle.fm_base.{specs.{declared.arena_id.ArenaId.{ArenaId}, Arenas.{same_id}}, proofs.Names.{same_id-true, same_id-self}}
+use Rattle.fm_base_machine.{specs.Functions.{put_at}, proofs.Putting.{at_cases, one_arena, same_id-not}}
+use Rattle.fm_rule_facts.specs.{Views.{View, In}, Holds.{released, one_if, how_many, total}}
 
 -- ---- sums
 

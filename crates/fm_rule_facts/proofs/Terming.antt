@@ -1,17 +1,12 @@
 -- An entry's term is below its number's, or a live pass has that caller, or its number is to be returned, or that was its last term.
-use Rattle.std.proofs.Common.{◌≡◌, ◌≢◌, ◌⊎◌, ℕ, ◌/◌, ◌%◌, ◌<◌, true, List, [], sym, ap, ◌∙◌, subst, arith, inl, inr, ⊎_elim}
+use Rattle.std.proofs.{Common.{◌≡◌, ◌≢◌, ◌⊎◌, ℕ, ◌/◌, ◌%◌, ◌<◌, true, List, [], sym, ap, ◌∙◌, subst, arith, inl, inr, ⊎_elim}, lemmas.Bool.{cases_lt}}
+use Rattle.std.proofs.lemmas.Nat.Bits.{bit_at-lt}
 use mathlib.Core.Logic.{dite}
 use native.Mathlib.Decide.{ℕ_discrete}
-use Rattle.std.proofs.lemmas.Bool.{cases_lt}
-use Rattle.std.proofs.lemmas.Nat.Bits.{bit_at-lt}
 use Rattle.fm_words.specs.declared.shape.Shape.{Shape}
-use Rattle.fm_base.specs.declared.caller.Caller.{Caller}
-use Rattle.fm_base.specs.Calls.{Entry}
-use Rattle.fm_base.specs.Histories.{made_by}
-use Rattle.fm_rule_facts.specs.Hands.{Number, no_number, number_taken, number_learnt, number_drawn, number_left, number_joined, HasNumberIn}
-use Rattle.fm_rule_facts.specs.Views.{View, In}
-use Rattle.fm_rule_facts.specs.Facts.{WasDrawn, bit_of, next_of, IsSpent, Somewhere, KeepsNumber, HasNumberInHand, Rule}
-use Rattle.fm_rule_facts.proofs.Sessions.{caller_is}
+use Rattle.fm_base.specs.{declared.caller.Caller.{Caller}, Calls.{Entry}, Histories.{made_by}}
+use Rattle.fm_rule_facts.specs.{Hands.{Number, no_number, number_taken, number_learnt, number_drawn, number_left, number_joined, HasNumberIn}, Views.{View, In}}
+use Rattle.fm_rule_facts.{specs.Facts.{WasDrawn, bit_of, next_of, IsSpent, Somewhere, KeepsNumber, HasNumberInHand, Rule}, proofs.Sessions.{caller_is}}
 use Rattle.fm_rule_facts.proofs.Callers.{made_in, drawn_or}
 
 -- the caller is a live pass's, or is gathered into one that is to return its number

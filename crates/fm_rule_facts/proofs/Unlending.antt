@@ -1,12 +1,7 @@
 -- No words are lent to an arena that has ended and whose words were taken back.
-use Rattle.std.proofs.Common.{◌≡◌, ℕ, ◌==◌, true, List, [], ◌∷◌, ◌++◌, sym, ap, ◌∙◌, subst, not, ⊎_elim}
-use Rattle.std.specs.Prelude.{Contains}
-use Rattle.fm_base.specs.declared.arena_id.ArenaId.{ArenaId}
-use Rattle.fm_base.specs.Arenas.{State, Ended, has_arena, arena_of}
-use Rattle.fm_base.specs.Calls.{Call, Lend, Back, Entry}
-use Rattle.fm_base.specs.Machine.{after}
-use Rattle.fm_base.specs.Histories.{IsLegal, state_after}
-use Rattle.fm_base.proofs.Growing.{IsOver, Grows-after, Grows-state_after}
+use Rattle.std.{proofs.Common.{◌≡◌, ℕ, ◌==◌, true, List, [], ◌∷◌, ◌++◌, sym, ap, ◌∙◌, subst, not, ⊎_elim}, specs.Prelude.{Contains}}
+use Rattle.fm_base.specs.{declared.arena_id.ArenaId.{ArenaId}, Arenas.{State, Ended, has_arena, arena_of}, Calls.{Call, Lend, Back, Entry}, Machine.{after}}
+use Rattle.fm_base.{specs.Histories.{IsLegal, state_after}, proofs.Growing.{IsOver, Grows-after, Grows-state_after}}
 use Rattle.fm_base.proofs.Making.{state_after-append, IsLegal-split}
 use Rattle.fm_rule_facts.specs.Loans.{Loan, loan_of, loans_by, loans_after, loans_of, IsUnlent, IsRightlyLent, IsRightlyLentIn, IsRightlyLentFrom}
 use Rattle.fm_rule_facts.proofs.Lending.{loan_cases, loan_was, loans_after-append}

@@ -4,13 +4,9 @@ use Rattle.std.proofs.lemmas.List.{length-append}
 use mathlib.Core.Logic.{dite}
 use native.Mathlib.Decide.{ℕ_discrete}
 use Rattle.fm_words.specs.Places.{groups}
-use Rattle.fm_base.specs.declared.caller.Caller.{Caller}
-use Rattle.fm_base.specs.Finds.{Find, Gathered, is_number, group_of}
-use Rattle.fm_rule_facts.specs.Hands.{no_number, last_term, most_draws}
-use Rattle.fm_rule_facts.specs.Views.{View, In, HasCaller, IsSound, prefix}
-use Rattle.fm_rule_facts.proofs.Counting.{ranks, ranks_long, in_ranks, at_least}
-use Rattle.fm_rule_facts.proofs.Keeping.{in_append, in_left, in_right}
-use Rattle.fm_rule_facts.proofs.Looking.{prefix-append, prefix-all}
+use Rattle.fm_base.specs.{declared.caller.Caller.{Caller}, Finds.{Find, Gathered, is_number, group_of}}
+use Rattle.fm_rule_facts.specs.{Hands.{no_number, last_term, most_draws}, Views.{View, In, HasCaller, IsSound, prefix}}
+use Rattle.fm_rule_facts.proofs.{Counting.{ranks, ranks_long, in_ranks, at_least}, Keeping.{in_append, in_left, in_right}, Looking.{prefix-append, prefix-all}}
 
 -- those that were of their number's last term
 abbrev pub of_last_term : List Gathered → List Gathered

@@ -1,14 +1,9 @@
 -- What a pass has under way is so still where it isn't touched.
 use Rattle.std.proofs.Common.{◌≡◌, ℕ, Bool, true, List, Option, None, inl, refl}
 use Rattle.fm_words.specs.declared.shape.Shape.{Shape}
-use Rattle.fm_base.specs.declared.caller.Caller.{Caller}
-use Rattle.fm_base.specs.Calls.{Entry}
-use Rattle.fm_base.specs.Finds.{Find, Gathered}
+use Rattle.fm_base.specs.{declared.caller.Caller.{Caller}, Calls.{Entry}, Finds.{Find, Gathered}}
 use Rattle.fm_base_machine.specs.Functions.{Machine}
-use Rattle.fm_rule_facts.specs.Hands.{Hand, IsTaker, Number}
-use Rattle.fm_rule_facts.specs.Views.{Met, View}
-use Rattle.fm_rule_facts.specs.Facts.{Memory, Owners, HasInHand, Work}
-use Rattle.fm_rule_facts.specs.Splits.{view_of}
+use Rattle.fm_rule_facts.specs.{Hands.{Hand, IsTaker, Number}, Views.{Met, View}, Facts.{Memory, Owners, HasInHand, Work}, Splits.{view_of}}
 
 -- callers, numbers and what was seen are no part of the work, which goes on with this slot in the hand
 pub work_with : {z : Shape} {m : Memory} {t : Machine} {o : Owners} {j : ℕ} {v : View} {draw bits : ℕ} {numbers terms : ℕ → ℕ} {who : ℕ → Caller}

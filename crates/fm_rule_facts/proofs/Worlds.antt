@@ -1,13 +1,10 @@
 -- The memory stays beside the machine over each kind of entry.
-use Rattle.std.proofs.Common.{◌≡◌, ◌≢◌, ℕ, ◌<◌, ◌≤◌, Option, Some, None, sym, refl, ap, ◌∙◌, subst, inl, inr, ⊎_elim}
+use Rattle.std.{proofs.Common.{◌≡◌, ◌≢◌, ℕ, ◌<◌, ◌≤◌, Option, Some, None, sym, refl, ap, ◌∙◌, subst, inl, inr, ⊎_elim}, specs.Int.{bit_at}}
 use Rattle.fm_words.specs.declared.shape.Shape.{Shape}
-use Rattle.fm_base.specs.declared.caller.Caller.{Caller}
-use Rattle.fm_base.specs.declared.arena_id.ArenaId.{ArenaId}
+use Rattle.fm_base.specs.declared.{caller.Caller.{Caller}, arena_id.ArenaId.{ArenaId}}
 use Rattle.fm_base_machine.specs.Functions.{Stage, Fresh, Lives, Closes, Over, Machine, put, put_at, put_by}
 use Rattle.fm_base_machine.proofs.Putting.{put_here, put_else, put_cases, at_cases, by_cases}
-use Rattle.std.specs.Int.{bit_at}
-use Rattle.fm_rule_facts.specs.Views.{Fits}
-use Rattle.fm_rule_facts.specs.Facts.{Session, free, live, shut, Memory, IsStanding, IsMarked, Counts, Givens, World}
+use Rattle.fm_rule_facts.specs.{Views.{Fits}, Facts.{Session, free, live, shut, Memory, IsStanding, IsMarked, Counts, Givens, World}}
 use Rattle.fm_rule_facts.proofs.Sessions.{caller_is, standing_known, one_standing, free_apart, sessions_shut, sessions_end, open_new, sessions_open, slots_used}
 
 -- ---- holds, given bytes and words

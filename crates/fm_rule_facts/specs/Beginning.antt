@@ -1,7 +1,6 @@
 -- The memory of a new pool.
 use Rattle.std.specs.Prelude.{ℕ, None}
-use Rattle.fm_words.specs.declared.shape.Shape.{Shape}
-use Rattle.fm_words.specs.Bits.{ones}
+use Rattle.fm_words.specs.{declared.shape.Shape.{Shape}, Bits.{ones}}
 use Rattle.fm_rule_facts.specs.Memory.{Memory, free}
 
 -- with these slot bits, page bits and number bits

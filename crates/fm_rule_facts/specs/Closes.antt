@@ -1,9 +1,6 @@
 -- Closes that were begun and not finished, sweeps of arenas that ended, and what a visit of a mark does to them.
 use Rattle.std.specs.Prelude.{ℕ, ◌+◌, ◌==◌, Bool, true, false, if◌then◌else◌, List, [], ◌∷◌, Option, Some, None}
-use Rattle.fm_base.specs.declared.caller.Caller.{Caller}
-use Rattle.fm_base.specs.declared.arena_id.ArenaId.{ArenaId}
-use Rattle.fm_base.specs.Arenas.{same_id}
-use Rattle.fm_base.specs.Calls.{End, Reply, Fine, Entry, entry_of}
+use Rattle.fm_base.specs.{declared.{caller.Caller.{Caller}, arena_id.ArenaId.{ArenaId}}, Arenas.{same_id}, Calls.{End, Reply, Fine, Entry, entry_of}}
 use Rattle.fm_base.specs.Finds.{Stretch, Walk, Close, Sweep}
 use Rattle.fm_words.specs.declared.shape.Shape.{Shape}
 use Rattle.fm_rule_facts.specs.Words.{mark_of}

@@ -1,28 +1,20 @@
 -- The facts that a pool keeps between any two steps: of its words, of the history, and of all views.
-use Rattle.std.specs.Prelude.{◌≡◌, ◌≢◌, ◌⊎◌, ℕ, ◌+◌, ◌<◌, ◌≤◌, true, List, [], ◌∷◌, Option, Some, None, ◌/◌, length}
+use Rattle.std.specs.{Prelude.{◌≡◌, ◌≢◌, ◌⊎◌, ℕ, ◌+◌, ◌<◌, ◌≤◌, true, List, [], ◌∷◌, Option, Some, None, ◌/◌, length}, Int.{bit_at}}
 use mathlib.Core.Option.{some}
 use lib.ListN.{get_elem?}
-use Rattle.fm_words.specs.declared.shape.Shape.{Shape}
-use Rattle.fm_words.specs.Shapes.{IsValid}
-use Rattle.fm_base.specs.declared.caller.Caller.{Caller}
-use Rattle.fm_base.specs.declared.arena_id.ArenaId.{ArenaId}
-use Rattle.fm_base.specs.Calls.{Entry}
-use Rattle.fm_base.specs.Histories.{IsLegal, state_after, made_by}
+use Rattle.fm_words.specs.{declared.shape.Shape.{Shape}, Shapes.{IsValid}}
+use Rattle.fm_base.specs.{declared.{caller.Caller.{Caller}, arena_id.ArenaId.{ArenaId}}, Calls.{Entry}, Histories.{IsLegal, state_after, made_by}}
+use Rattle.fm_base.specs.{Finds.{Find, Gathered, Close, Sweep, is_draw, is_number, group_of}, Arenas.{only_caller}}
 use Rattle.fm_rule_facts.specs.Loans.{loans_of, IsRightlyLent}
-use Rattle.fm_base.specs.Finds.{Find, Gathered, Close, Sweep, is_draw, is_number, group_of}
-use Rattle.fm_base_machine.specs.Functions.{Stage, Fresh, Lives, Closes, Over, Machine, Depicts}
-use Rattle.std.specs.Int.{bit_at}
 use Rattle.fm_rule_facts.specs.Hands.{Hand, nothing, taken, learnt, retired, HasSlot, IsTaker, Number, no_number, number_taken, number_learnt, number_drawn, number_left, number_joined, HasNumberIn, last_term, most_draws}
-use Rattle.fm_rule_facts.specs.Views.{Met, View, Fits, In, HasOwnHandles, all_gathered, limit_of, prefix}
-use Rattle.fm_base.specs.Arenas.{only_caller}
+use Rattle.fm_rule_facts.specs.{Views.{Met, View, Fits, In, HasOwnHandles, all_gathered, limit_of, prefix}, Parts.{Mapping, Swept, unread, named, wiping}}
+use Rattle.fm_rule_facts.specs.{Gone.{IsFounded}, Holds.{holds_of, total, all_holds}}
+use Rattle.fm_base_machine.specs.Functions.{Stage, Fresh, Lives, Closes, Over, Machine, Depicts}
 pub use Rattle.fm_rule_facts.specs.Views.{IsOnce, Begins}
 pub use Rattle.fm_rule_facts.specs.Memory.{Session, free, live, shut, Memory, session_code, own_map, Shows, IsStanding, IsShown}
 pub use Rattle.fm_rule_facts.specs.Berths.{Berth, loose, claimed, mapped, unmapped, IsAt}
 pub use Rattle.fm_rule_facts.specs.Pages.{Pages}
 pub use Rattle.fm_words.specs.Bits.{bit_of}
-use Rattle.fm_rule_facts.specs.Parts.{Mapping, Swept, unread, named, wiping}
-use Rattle.fm_rule_facts.specs.Gone.{IsFounded}
-use Rattle.fm_rule_facts.specs.Holds.{holds_of, total, all_holds}
 
 -- ---- the memory beside the machine
 

@@ -1,16 +1,10 @@
 -- What a find of the word 0 of slot bits says of each slot ever after.
-use Rattle.std.specs.Prelude.{◌≡◌, ◌≢◌, ◌⊎◌, ℕ, ◌<◌, true, List, [], length, Option, Some}
-use Rattle.std.specs.Int.{bit_at}
+use Rattle.std.specs.{Prelude.{◌≡◌, ◌≢◌, ◌⊎◌, ℕ, ◌<◌, true, List, [], length, Option, Some}, Int.{bit_at}}
 use Rattle.fm_words.specs.declared.shape.Shape.{Shape}
-use Rattle.fm_base.specs.declared.caller.Caller.{Caller}
-use Rattle.fm_base.specs.declared.arena_id.ArenaId.{ArenaId}
-use Rattle.fm_base.specs.Arenas.{has_arena, owner_of}
-use Rattle.fm_base.specs.Calls.{Entry}
-use Rattle.fm_base.specs.Histories.{state_after}
+use Rattle.fm_base.specs.{declared.{caller.Caller.{Caller}, arena_id.ArenaId.{ArenaId}}, Arenas.{has_arena, owner_of}, Calls.{Entry}, Histories.{state_after}}
 use Rattle.fm_base.specs.Finds.{Find, Gathered, is_slot, is_page}
 use Rattle.fm_base_machine.specs.Functions.{Stage, Fresh}
-use Rattle.fm_rule_facts.specs.Views.{View, In, Begins, IsBusyIn, FewLeft, all_gathered, limit_of}
-use Rattle.fm_rule_facts.specs.Memory.{Session, free, Memory}
+use Rattle.fm_rule_facts.specs.{Views.{View, In, Begins, IsBusyIn, FewLeft, all_gathered, limit_of}, Memory.{Session, free, Memory}}
 
 -- the caller took the slot to open an arena there, and hasn't yet
 pub record IsTakenBy (z : Shape) (bits : ℕ) (sessions : ℕ → Session) (takers : ℕ → Option Caller) (s : ℕ) (k : Caller) : Type 0 where

@@ -1,13 +1,7 @@
 -- How a handle of an automatic arena is given back.
 use Rattle.std.specs.Prelude.{ℕ, ◌-◌, ◌==◌, Bool, true, false, List, [], ◌∷◌, Option, Some, None}
-use Rattle.fm_base.specs.declared.caller.Caller.{Caller}
-use Rattle.fm_base.specs.declared.arena_id.ArenaId.{ArenaId}
-use Rattle.fm_base.specs.Calls.{Unhold, Shut, Fine, Entry, entry_of}
-use Rattle.fm_base.specs.Finds.{Close}
-use Rattle.fm_rule_facts.specs.Views.{View}
-use Rattle.fm_rule_facts.specs.Words.{alive_holds, closing_word}
-use Rattle.fm_rule_facts.specs.Holds.{released}
-use Rattle.fm_rule_facts.specs.Closes.{walk_of}
+use Rattle.fm_base.specs.{declared.{caller.Caller.{Caller}, arena_id.ArenaId.{ArenaId}}, Calls.{Unhold, Shut, Fine, Entry, entry_of}, Finds.{Close}}
+use Rattle.fm_rule_facts.specs.{Views.{View}, Words.{alive_holds, closing_word}, Holds.{released}, Closes.{walk_of}}
 
 -- what comes of it
 pub data Giving : Type 0 where

@@ -1,7 +1,6 @@
 -- The slot that a pass has in its hand.
-use Rattle.std.specs.Prelude.{◌≡◌, ℕ, ◌==◌, Bool, true, false, if◌then◌else◌, List, [], ◌∷◌, Option, Some, None}
+use Rattle.std.specs.{Prelude.{◌≡◌, ℕ, ◌==◌, Bool, true, false, if◌then◌else◌, List, [], ◌∷◌, Option, Some, None}, Int.{bit_at}}
 use Rattle.fm_base.specs.declared.caller.Caller.{Caller}
-use Rattle.std.specs.Int.{bit_at}
 
 pub data Hand : Type 0 where
   nothing : Hand

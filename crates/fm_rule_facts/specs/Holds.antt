@@ -1,8 +1,6 @@
 -- The holds that passes have; those of an automatic arena are its handles.
 use Rattle.std.specs.Prelude.{ℕ, ◌+◌, Bool, true, if◌then◌else◌, List, [], ◌∷◌}
-use Rattle.fm_base.specs.declared.arena_id.ArenaId.{ArenaId}
-use Rattle.fm_base.specs.Arenas.{same_id}
-use Rattle.fm_base.specs.Calls.{Reply, Fine}
+use Rattle.fm_base.specs.{declared.arena_id.ArenaId.{ArenaId}, Arenas.{same_id}, Calls.{Reply, Fine}}
 use Rattle.fm_base_machine.specs.Functions.{Machine}
 pub use Rattle.fm_base_machine.specs.Handles.{one_if, one_alive}
 use Rattle.fm_rule_facts.specs.Views.{View}

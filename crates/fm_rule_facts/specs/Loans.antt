@@ -1,9 +1,7 @@
 -- Blocks of a pool's words that are lent to arenas as their parts.
 use Rattle.std.specs.Prelude.{◌≡◌, ◌≢◌, ℕ, ◌/◌, ◌==◌, true, List, [], ◌∷◌, filter, not, Contains, All, ⊤}
-use Rattle.fm_base.specs.declared.arena_id.ArenaId.{ArenaId}
-use Rattle.fm_base.specs.Arenas.{State, Ended, has_arena, arena_of}
-use Rattle.fm_base.specs.Calls.{Call, Read, Write, SwapIf, Add, Lend, Back, Entry}
-use Rattle.fm_base.specs.Machine.{after}
+use Rattle.fm_base.specs.{declared.arena_id.ArenaId.{ArenaId}, Arenas.{State, Ended, has_arena, arena_of}}
+use Rattle.fm_base.specs.{Calls.{Call, Read, Write, SwapIf, Add, Lend, Back, Entry}, Machine.{after}}
 
 pub record Loan : Type 0 where
   pub block : ℕ

@@ -1,26 +1,18 @@
 -- What one step changes, and what the rule allows.
 use Rattle.std.specs.Prelude.{◌*◌, ◌/◌, ◌≡◌, ◌≢◌, ◌⊎◌, ℕ, ◌+◌, ◌<◌, ◌≤◌, true, List, [], ◌∷◌, ◌++◌, length, slice_index, slice_set, Contains, Some, None, ⊤, Option}
+use Rattle.std.specs.Int.{bit_at}
 use mathlib.Core.Option.{some}
 use lib.ListN.{get_elem?}
 use Rattle.fm_words.specs.declared.shape.Shape.{Shape}
-use Rattle.fm_base.specs.declared.caller.Caller.{Caller}
-use Rattle.fm_base.specs.declared.arena_id.ArenaId.{ArenaId}
-use Rattle.fm_base.specs.Calls.{Call, Read, Write, SwapIf, Add, End, Lend, Back, Entry}
-use Rattle.fm_base.specs.Histories.{made_by}
-use Rattle.fm_rule_facts.specs.Loans.{loans_of, Loan, loan_of, loans_by, IsFree, HasPart}
-use Rattle.fm_base.specs.Finds.{Find, Gathered, is_draw}
-use Rattle.fm_base_machine.specs.Functions.{Fresh, Closes, Over, Machine, moved, MayBy, reply_by, Stage}
-use Rattle.std.specs.Int.{bit_at}
-use Rattle.fm_rule_facts.specs.Hands.{nothing, number_drawn, HasNumberIn, last_term, most_draws}
+use Rattle.fm_base.specs.{declared.{caller.Caller.{Caller}, arena_id.ArenaId.{ArenaId}}, Calls.{Call, Read, Write, SwapIf, Add, End, Lend, Back, Entry}}
+use Rattle.fm_base.specs.{Histories.{made_by}, Finds.{Find, Gathered, is_draw}}
+use Rattle.fm_rule_facts.specs.{Loans.{loans_of, Loan, loan_of, loans_by, IsFree, HasPart}, Hands.{nothing, number_drawn, HasNumberIn, last_term, most_draws}}
 use Rattle.fm_rule_facts.specs.declared.step.Step.{Step}
 use Rattle.fm_rule_facts.specs.declared.step.Step.TheVariants.{Visits, Draws, Holds, Backs, TakesSlot, ReadsMap, Maps, Allocates, SweepsGiven, SweepsMap, LearnsTerm}
-use Rattle.fm_rule_facts.specs.Views.{Met, View, In, IsSound, IsBusy, all_gathered, HasFind, HasAllDrawn, given_of, limit_of}
-use Rattle.fm_rule_facts.specs.Steps.{part, entries, noted}
-use Rattle.fm_rule_facts.specs.Words.{own_word, alive_holds}
-use Rattle.fm_rule_facts.specs.Holds.{grips, holds_of, all_holds}
-use Rattle.fm_rule_facts.specs.Gone.{IsTakenBy, OpenedBy}
-use Rattle.fm_base_machine.specs.Steps.{moved_by}
+use Rattle.fm_rule_facts.specs.{Views.{Met, View, In, IsSound, IsBusy, all_gathered, HasFind, HasAllDrawn, given_of, limit_of}, Steps.{part, entries, noted}}
+use Rattle.fm_rule_facts.specs.{Words.{own_word, alive_holds}, Holds.{grips, holds_of, all_holds}, Gone.{IsTakenBy, OpenedBy}}
 use Rattle.fm_rule_facts.specs.Facts.{Memory, free, shut, IsStanding, IsAt, HasPage, Owners, HasClose, HasSweep, KeepsSlot, Begins, Rule, bit_of, KeepsNumber, WantsNumber, IsSpent, IsFreeNumber, HasNumberInHand, Berth}
+use Rattle.fm_base_machine.specs.{Functions.{Fresh, Closes, Over, Machine, moved, MayBy, reply_by, Stage}, Steps.{moved_by}}
 
 -- entries of one caller that the functions allow
 abbrev pub MayMake : ℕ → Machine → Caller → List Entry → Type 0

@@ -1,12 +1,9 @@
 -- Pages beside the machine: where each one is, and what its words say.
 use Rattle.std.specs.Prelude.{◌≡◌, ◌≢◌, ℕ, ◌*◌, ◌/◌, ◌%◌, ◌<◌, ◌≤◌, List, Contains, Option, Some, None}
-use Rattle.fm_words.specs.Bits.{bit_of}
-use Rattle.fm_words.specs.declared.shape.Shape.{Shape}
+use Rattle.fm_words.specs.{Bits.{bit_of}, declared.shape.Shape.{Shape}}
 use Rattle.fm_base.specs.declared.arena_id.ArenaId.{ArenaId}
 use Rattle.fm_base_machine.specs.Functions.{Stage, Fresh, Over}
-use Rattle.fm_rule_facts.specs.Loans.{Loan, loan_of}
-use Rattle.fm_rule_facts.specs.Memory.{Session, free, IsShown, IsStanding}
-use Rattle.fm_rule_facts.specs.Berths.{Berth, loose, claimed, mapped, unmapped, LentAt}
+use Rattle.fm_rule_facts.specs.{Loans.{Loan, loan_of}, Memory.{Session, free, IsShown, IsStanding}, Berths.{Berth, loose, claimed, mapped, unmapped, LentAt}}
 
 -- the page's words are 0
 abbrev pub IsBlank : Shape → (ℕ → ℕ → ℕ) → ℕ → Type 0

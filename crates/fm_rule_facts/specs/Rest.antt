@@ -1,17 +1,10 @@
 -- What the words of a pool at rest show of its history.
-use Rattle.std.specs.Prelude.{◌≡◌, ◌≢◌, ◌⊎◌, ℕ, ◌*◌, ◌/◌, ◌%◌, ◌<◌, ◌≤◌, true, List, [], Contains, slice_index}
-use Rattle.std.specs.Int.{bit_at}
-use Rattle.fm_words.specs.declared.shape.Shape.{Shape}
-use Rattle.fm_words.specs.declared.session.Session.{Session}
-use Rattle.fm_words.specs.Places.{at, slot_bits, session, given as given_place, map, page_word}
-use Rattle.fm_words.specs.Maps.{map_word}
-use Rattle.fm_words.specs.Sessions.{session_of, free as is_free, alive as is_alive, closing as is_closing}
-use Rattle.fm_base.specs.declared.arena_id.ArenaId.{ArenaId}
-use Rattle.fm_base.specs.Arenas.{State, Alive, Ended, has_arena, arena_of, word_in, kind_number}
-use Rattle.fm_base.specs.Calls.{Entry}
+use Rattle.std.specs.{Prelude.{◌≡◌, ◌≢◌, ◌⊎◌, ℕ, ◌*◌, ◌/◌, ◌%◌, ◌<◌, ◌≤◌, true, List, [], Contains, slice_index}, Int.{bit_at}}
+use Rattle.fm_words.specs.{declared.{shape.Shape.{Shape}, session.Session.{Session}}, Places.{at, slot_bits, session, given as given_place, map, page_word}}
+use Rattle.fm_words.specs.{Maps.{map_word}, Sessions.{session_of, free as is_free, alive as is_alive, closing as is_closing}}
+use Rattle.fm_base.specs.{declared.arena_id.ArenaId.{ArenaId}, Arenas.{State, Alive, Ended, has_arena, arena_of, word_in, kind_number}, Calls.{Entry}}
 use Rattle.fm_base.specs.Histories.{state_after}
-use Rattle.fm_rule_facts.specs.Loans.{loan_of, loans_of, IsFree, HasPart}
-use Rattle.fm_rule_facts.specs.Views.{Fits, span, limit_of}
+use Rattle.fm_rule_facts.specs.{Loans.{loan_of, loans_of, IsFree, HasPart}, Views.{Fits, span, limit_of}}
 
 -- the arena that the session of slot k names was opened
 pub record IsNamed (s : State) (k : ℕ) (i : Session) (a : ArenaId) : Type 0 where

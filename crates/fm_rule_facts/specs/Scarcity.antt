@@ -1,12 +1,8 @@
 -- Where a pool has too few pages for an allocation.
-use Rattle.std.specs.Prelude.{◌<◌, ◌≤◌, ◌+◌, ◌-◌, ◌*◌, ◌/◌, ◌==◌, ◌&&◌, ℕ, Bool, true, false, if◌then◌else◌, List, [], ◌∷◌}
-use Rattle.std.proofs.Common.{zero, suc}
+use Rattle.std.{specs.Prelude.{◌<◌, ◌≤◌, ◌+◌, ◌-◌, ◌*◌, ◌/◌, ◌==◌, ◌&&◌, ℕ, Bool, true, false, if◌then◌else◌, List, [], ◌∷◌}, proofs.Common.{zero, suc}}
 use Rattle.fm_words.specs.declared.shape.Shape.{Shape}
-use Rattle.fm_base.specs.declared.arena_id.ArenaId.{ArenaId}
-use Rattle.fm_base.specs.Arenas.{same_id}
-use Rattle.fm_base.specs.Machine.{rounded_up}
-use Rattle.fm_rule_facts.specs.Loans.{Loan, loans_of}
-use Rattle.fm_rule_facts.specs.Views.{View, given_of, limit_of, one_unless, unlent}
+use Rattle.fm_base.specs.{declared.arena_id.ArenaId.{ArenaId}, Arenas.{same_id}, Machine.{rounded_up}}
+use Rattle.fm_rule_facts.specs.{Loans.{Loan, loans_of}, Views.{View, given_of, limit_of, one_unless, unlent}}
 
 -- the arena has a block as this part
 abbrev pub has_part : List Loan → ArenaId → ℕ → Bool

@@ -1,13 +1,9 @@
 -- The first view, and how views are cut in two and put together.
 use Rattle.std.specs.Prelude.{◌≡◌, Bool, true, false, List, [], ◌∷◌, None}
 use Rattle.fm_words.specs.declared.shape.Shape.{Shape}
-use Rattle.fm_base.specs.Arenas.{only_caller}
-use Rattle.fm_base.specs.Calls.{Entry}
-use Rattle.fm_base.specs.Finds.{Gathered}
+use Rattle.fm_base.specs.{Arenas.{only_caller}, Calls.{Entry}, Finds.{Gathered}, declared.caller.Caller.{Caller}}
 use Rattle.fm_rule_facts.specs.Hands.{nothing, Number, no_number, number_taken, number_learnt, number_drawn, number_left, number_joined, number_of_joined}
-use Rattle.fm_rule_facts.specs.Parts.{unread}
-use Rattle.fm_base.specs.declared.caller.Caller.{Caller}
-use Rattle.fm_rule_facts.specs.Views.{View}
+use Rattle.fm_rule_facts.specs.{Parts.{unread}, Views.{View}}
 
 abbrev pub view_of : Shape → Bool → List Entry → View
 view_of z live seen = record {

@@ -1,10 +1,8 @@
 -- The steps of a pass: what each does to its view, and its entries.
 use Rattle.std.specs.Prelude.{◌≡◌, ℕ, ◌+◌, ◌*◌, ◌/◌, ◌%◌, ◌^◌, ◌<◌, ◌≤◌, nat_le, ◌==◌, ◌&&◌, Bool, true, false, if◌then◌else◌, List, [], ◌∷◌, ◌++◌, length, All, Option, Some, None}
-use Rattle.fm_base.specs.declared.caller.Caller.{Caller}
-use Rattle.fm_base.specs.declared.arena_id.ArenaId.{ArenaId}
+use Rattle.fm_base.specs.declared.{caller.Caller.{Caller}, arena_id.ArenaId.{ArenaId}}
 use Rattle.fm_base.specs.Calls.{Call, Open, Enter, Read, Write, SwapIf, Add, Allocate, Leave, Hold, Unhold, Shut, Lend, Back, Reply, Fine, Found, Entry, entry_of}
-use Rattle.fm_base.specs.Machine.{allocate_reply, rounded_up}
-use Rattle.fm_base.specs.Histories.{made_by}
+use Rattle.fm_base.specs.{Machine.{allocate_reply, rounded_up}, Histories.{made_by}}
 use Rattle.fm_base.specs.Finds.{Find, FindStep, Draws as Drawing, Visits as Visiting, TakesSlot as Taking, TakesPage as Claiming, Maps as Mapping, TakesNumber as TakingNumber}
 pub use Rattle.fm_words.specs.Bits.{number_at}
 use Rattle.fm_words.specs.Places.{at, page_word}
@@ -12,10 +10,8 @@ use Rattle.fm_rule_facts.specs.Hands.{nothing, learnt, slots_in, takes, hand_tak
 use Rattle.fm_rule_facts.specs.declared.step.Step.{Step}
 use Rattle.fm_rule_facts.specs.declared.step.Step.TheVariants.{Draws, Marks, Checks, Loads, Stores, SwapsIf, Adds, Allocates, Holds, Unholds, Backs, Unmarks, Shuts, Visits, TakesSlot, LearnsGeneration, Opens, Claims, Maps, ReadsMap, SweepsGiven, Unmaps, SweepsMap, Wipes, GivesPage, ReturnsPage, ResetsGiven, Retires, GivesSlot, Looks, TakesNumber, LearnsTerm, RaisesTerm, GivesNumber}
 use Rattle.fm_rule_facts.specs.Parts.{mapping_of, unread, wiping, reads_after, reads_mapped, pages_mapped, pages_taken, swept_read}
-use Rattle.fm_rule_facts.specs.Views.{View, In, IsSound, given_of, limit_of}
-use Rattle.fm_rule_facts.specs.Words.{alive_holds, enter_found, inside_found, shut_found, hold_found}
-use Rattle.fm_rule_facts.specs.Holds.{grips, with_grips, holds_after, handles_with, released}
-use Rattle.fm_rule_facts.specs.Handles.{giving, given_back, giving_entries}
+use Rattle.fm_rule_facts.specs.{Views.{View, In, IsSound, given_of, limit_of}, Words.{alive_holds, enter_found, inside_found, shut_found, hold_found}}
+use Rattle.fm_rule_facts.specs.{Holds.{grips, with_grips, holds_after, handles_with, released}, Handles.{giving, given_back, giving_entries}}
 use Rattle.fm_rule_facts.specs.Closes.{begun, advanced, dropped, visit_found, closes_after, sweeps_after, visit_entries}
 
 -- ---- what a step does

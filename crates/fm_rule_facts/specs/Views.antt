@@ -1,20 +1,12 @@
 -- What contracts see of a pass.
 use Rattle.std.specs.Prelude.{◌≡◌, ◌≢◌, ◌⊎◌, ℕ, ◌+◌, ◌-◌, min, ◌*◌, ◌/◌, ◌<◌, ◌≤◌, ◌^◌, ◌==◌, Bool, true, false, if◌then◌else◌, List, [], ◌∷◌, ◌++◌, length, Contains, Option, Some, zero, suc}
-use Rattle.fm_words.specs.declared.shape.Shape.{Shape}
-use Rattle.fm_words.specs.Shapes.{IsValid}
-use Rattle.fm_words.specs.Bits.{number_at}
-use Rattle.fm_base.specs.declared.caller.Caller.{Caller}
-use Rattle.fm_base.specs.declared.arena_id.ArenaId.{ArenaId}
-use Rattle.fm_base.specs.declared.kind.Kind.{Kind}
-use Rattle.fm_base.specs.declared.kind.Kind.TheVariants.{Automatic}
-use Rattle.fm_base.specs.Arenas.{State, Alive, Ended, IsUnderWay, has_arena, arena_of, owner_of, same_id, only_caller}
-use Rattle.fm_base.specs.Calls.{Entry}
-use Rattle.fm_base.specs.Histories.{IsLegal, state_after, made_by}
+use Rattle.fm_words.specs.{declared.shape.Shape.{Shape}, Shapes.{IsValid}, Bits.{number_at}}
+use Rattle.fm_base.specs.declared.{caller.Caller.{Caller}, arena_id.ArenaId.{ArenaId}, kind.Kind.{Kind, TheVariants.{Automatic}}}
+use Rattle.fm_base.specs.{Arenas.{State, Alive, Ended, IsUnderWay, has_arena, arena_of, owner_of, same_id, only_caller}, Calls.{Entry}}
+use Rattle.fm_base.specs.{Histories.{IsLegal, state_after, made_by}, Finds.{Find, Gathered, Close, Sweep, is_draw, is_slot, is_page, is_number, group_of}}
 use Rattle.fm_base_machine.specs.Handles.{AreLeft, one_if}
 use Rattle.fm_rule_facts.specs.Loans.{Loan, loan_of, loans_of, HasPart, IsRightlyLent}
-use Rattle.fm_base.specs.Finds.{Find, Gathered, Close, Sweep, is_draw, is_slot, is_page, is_number, group_of}
-use Rattle.fm_rule_facts.specs.Hands.{Hand, nothing, HasSlot, Number, no_number, number_drawn, last_term, most_draws}
-use Rattle.fm_rule_facts.specs.Parts.{Mapping, Swept, wiping}
+use Rattle.fm_rule_facts.specs.{Hands.{Hand, nothing, HasSlot, Number, no_number, number_drawn, last_term, most_draws}, Parts.{Mapping, Swept, wiping}}
 
 -- what another had seen that a pass has met, and the callers that it brought
 pub record Met : Type 0 where

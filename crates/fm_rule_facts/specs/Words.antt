@@ -1,11 +1,7 @@
 -- What session and mark words show of an arena.
 use Rattle.std.specs.Prelude.{ℕ, ◌+◌, ◌-◌, ◌%◌, ◌^◌, ◌==◌, if◌then◌else◌, Option, Some, None}
-use Rattle.fm_base.specs.declared.arena_id.ArenaId.{ArenaId}
-use Rattle.fm_base.specs.Arenas.{kind_number}
-use Rattle.fm_base.specs.Calls.{Reply, Fine, Closed, Held, TooManyHolds}
-use Rattle.fm_base.specs.Machine.{most_holds}
-use Rattle.fm_words.specs.Marks.{mark_word}
-use Rattle.fm_words.specs.Sessions.{alive, closing, free_session, session_word}
+use Rattle.fm_base.specs.{declared.arena_id.ArenaId.{ArenaId}, Arenas.{kind_number}, Calls.{Reply, Fine, Closed, Held, TooManyHolds}, Machine.{most_holds}}
+use Rattle.fm_words.specs.{Marks.{mark_word}, Sessions.{alive, closing, free_session, session_word}}
 
 -- the session word of an arena that is alive and has so many holds
 unfoldable pub alive_word : ArenaId → ℕ → ℕ

@@ -2,27 +2,16 @@
 use Rattle.std.proofs.Common.{◌≡◌, ℕ, true, List, [], ◌∷◌, get_or, refl, ◌∙◌, Option, Some, None}
 use mathlib.Core.Option.{some}
 use lib.ListN.{get_elem?}
-use Rattle.fm_words.specs.declared.shape.Shape.{Shape}
-use Rattle.fm_words.specs.Places.{at as place_at, mark, session}
-use Rattle.fm_base.specs.declared.arena_id.ArenaId.{ArenaId}
-use Rattle.fm_base.specs.Arenas.{MayUse}
-use Rattle.fm_base.specs.Calls.{Enter, Leave, Fine, Closed, entry_of, Reply, Entry}
-use Rattle.fm_base_machine.specs.Functions.{put, put_by, moved, enter_stage}
-use Rattle.fm_base_machine.proofs.Putting.{put_here, put_else, by_here}
-use Rattle.fm_rule_facts.specs.declared.step.Step.TheVariants.{Marks, Checks, Unmarks, Looks}
-use Rattle.fm_rule_facts.specs.Views.{View, IsKnown}
-use Rattle.fm_rule_facts.specs.Words.{mark_of, alive_holds, enter_found, inside_found}
-use Rattle.fm_rule_facts.specs.Steps.{part, entries, noted, acted, none_noted}
-use Rattle.fm_rule_facts.specs.Facts.{Memory, Rule, World}
-use Rattle.fm_rule_facts.specs.Moves.{MayStep, MayStore}
-use Rattle.fm_rule_facts.proofs.Worlds.{world_mark, world_enter, world_leave}
-use Rattle.fm_rule_facts.proofs.Shown.{shows_same, shows_mark}
-use Rattle.fm_rule_steps.proofs.Reading.{Says, says, enter_says}
-use Rattle.fm_rule_facts.proofs.Founds.{no_draw}
-use Rattle.fm_rule_steps.proofs.Quiet.{looks_on}
-use Rattle.fm_rule_steps.proofs.Knowing.{own, low, known_now}
-use Rattle.fm_rule_steps.proofs.Plain.{Made, plain, Calls, no_calls, all_left}
+use Rattle.fm_words.specs.{declared.shape.Shape.{Shape}, Places.{at as place_at, mark, session}}
+use Rattle.fm_base.specs.{declared.arena_id.ArenaId.{ArenaId}, Arenas.{MayUse}, Calls.{Enter, Leave, Fine, Closed, entry_of, Reply, Entry}}
 use Rattle.fm_base.specs.declared.caller.Caller.{Caller}
+use Rattle.fm_base_machine.{specs.Functions.{put, put_by, moved, enter_stage}, proofs.Putting.{put_here, put_else, by_here}}
+use Rattle.fm_rule_facts.specs.{declared.step.Step.TheVariants.{Marks, Checks, Unmarks, Looks}, Views.{View, IsKnown}}
+use Rattle.fm_rule_facts.specs.{Words.{mark_of, alive_holds, enter_found, inside_found}, Steps.{part, entries, noted, acted, none_noted}}
+use Rattle.fm_rule_facts.{specs.{Facts.{Memory, Rule, World}, Moves.{MayStep, MayStore}}, proofs.Worlds.{world_mark, world_enter, world_leave}}
+use Rattle.fm_rule_facts.proofs.{Shown.{shows_same, shows_mark}, Founds.{no_draw}}
+use Rattle.fm_rule_steps.proofs.{Reading.{Says, says, enter_says}, Quiet.{looks_on}, Knowing.{own, low, known_now}}
+use Rattle.fm_rule_steps.proofs.Plain.{Made, plain, Calls, no_calls, all_left}
 
 module _ (z : Shape) (me : ℕ) (v : View) (l : v.live ≡ true) where
   -- the mark goes up

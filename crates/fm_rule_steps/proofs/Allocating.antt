@@ -1,37 +1,19 @@
 -- The step that gives bytes of the arena that the pass is inside.
 use Rattle.std.proofs.Common.{◌≡◌, ◌≢◌, ℕ, ◌+◌, ◌*◌, ◌/◌, ◌<◌, ◌==◌, nat_le, Bool, true, false, if◌then◌else◌, List, [], ◌∷◌, get_or, set, sym, refl, ap, ◌∙◌, subst, arith, Option, Some, None, ne_eqb, inl, inr, ◌≤◌}
+use Rattle.std.proofs.lemmas.Bool.{cases_lt}
 use mathlib.Core.Option.{some}
 use lib.ListN.{get_elem?}
 use lib.Seq.{set-get_or}
-use Rattle.std.proofs.lemmas.Bool.{cases_lt}
-use Rattle.fm_base.specs.Arenas.{arena_of}
-use Rattle.fm_base.specs.Histories.{state_after}
-use Rattle.fm_rule_facts.specs.Views.{given_of, View, limit_of, In}
-use Rattle.fm_rule_facts.proofs.Keeping.{set_there}
-use prog.Atomic.{either}
-use Rattle.fm_words.specs.declared.shape.Shape.{Shape}
-use Rattle.fm_words.specs.Places.{at as place_at, given as given_place}
-use Rattle.fm_base.specs.declared.arena_id.ArenaId.{ArenaId}
-use Rattle.fm_base.specs.Calls.{Entry, Allocate, Given, NoRoom, entry_of}
-use Rattle.fm_base.specs.Machine.{IsPower, rounded_up, allocate_reply}
-use Rattle.fm_base_machine.specs.Functions.{put, put_at}
-use Rattle.fm_base_machine.proofs.Putting.{put_else}
-use Rattle.fm_rule_facts.specs.declared.step.Step.TheVariants.{Allocates}
-use Rattle.fm_rule_facts.specs.Loans.{loans_of}
-use Rattle.fm_rule_facts.specs.Steps.{part, entries, noted, acted, none_noted, where_found, given_next}
-use Rattle.fm_rule_facts.specs.Facts.{IsStanding, Shows, Rule}
-use Rattle.fm_rule_facts.specs.Parts.{mapping_of}
-use Rattle.fm_rule_facts.proofs.Living.{pages_given}
-use Rattle.fm_rule_facts.specs.Moves.{MayStep}
-use Rattle.fm_rule_facts.proofs.Sessions.{standing_known}
-use Rattle.fm_rule_facts.proofs.Worlds.{world_given}
+use Rattle.fm_base.specs.{Arenas.{arena_of}, Histories.{state_after}, declared.arena_id.ArenaId.{ArenaId}, Calls.{Entry, Allocate, Given, NoRoom, entry_of}}
+use Rattle.fm_base.{specs.Machine.{IsPower, rounded_up, allocate_reply}, proofs.Growing.{le-rounded_up, power_pos}}
+use Rattle.fm_rule_facts.{specs.{Views.{given_of, View, limit_of, In}, declared.step.Step.TheVariants.{Allocates}}, proofs.Keeping.{set_there}}
+use Rattle.fm_rule_facts.specs.{Loans.{loans_of}, Steps.{part, entries, noted, acted, none_noted, where_found, given_next}, Facts.{IsStanding, Shows, Rule}}
+use Rattle.fm_rule_facts.{specs.{Parts.{mapping_of}, Moves.{MayStep}}, proofs.{Living.{pages_given}, Sessions.{standing_known}, Worlds.{world_given}}}
 use Rattle.fm_rule_facts.proofs.Shown.{shows_same, shows_given}
-use Rattle.fm_rule_steps.proofs.Reading.{eqb_true}
-use Rattle.fm_rule_steps.proofs.Quiet.{looks_on}
-use Rattle.fm_rule_steps.proofs.Knowing.{own}
-use Rattle.fm_rule_steps.proofs.Plain.{Made, words_left}
-use Rattle.fm_base.proofs.Growing.{le-rounded_up, power_pos}
-use Rattle.fm_rule_steps.proofs.Reaching.{here, stands, fit, apart, act}
+use prog.Atomic.{either}
+use Rattle.fm_words.specs.{declared.shape.Shape.{Shape}, Places.{at as place_at, given as given_place}}
+use Rattle.fm_base_machine.{specs.Functions.{put, put_at}, proofs.Putting.{put_else}}
+use Rattle.fm_rule_steps.proofs.{Reading.{eqb_true}, Quiet.{looks_on}, Knowing.{own}, Plain.{Made, words_left}, Reaching.{here, stands, fit, apart, act}}
 
 module _ (z : Shape) (me : ℕ) (v : View) (l : v.live ≡ true) (a : ArenaId) (ins : v.inside ≡ Some a) where
   -- every part that has a byte below the new count was read or mapped by the pass

@@ -3,29 +3,16 @@ use Rattle.std.proofs.Common.{◌≡◌, ◌≢◌, ℕ, ◌+◌, ◌-◌, ◌%�
 use mathlib.Core.Option.{some}
 use lib.ListN.{get_elem?}
 use prog.Atomic.{either}
-use Rattle.fm_words.specs.declared.shape.Shape.{Shape}
-use Rattle.fm_words.specs.Places.{at as place_at, session}
-use Rattle.fm_words.specs.Sessions.{session_word}
-use Rattle.fm_base.specs.declared.arena_id.ArenaId.{ArenaId}
-use Rattle.fm_base.specs.declared.kind.Kind.TheVariants.{Global, Automatic, Confined}
-use Rattle.fm_base.specs.Arenas.{MayUse}
+use Rattle.fm_words.specs.{declared.shape.Shape.{Shape}, Places.{at as place_at, session}, Sessions.{session_word}}
+use Rattle.fm_base.specs.{declared.{arena_id.ArenaId.{ArenaId}, kind.Kind.TheVariants.{Global, Automatic, Confined}}, Arenas.{MayUse}}
 use Rattle.fm_base.specs.Calls.{Unhold, Fine, entry_of}
 use Rattle.fm_base_machine.specs.Functions.{Lives}
-use Rattle.fm_rule_facts.specs.declared.step.Step.TheVariants.{Backs}
-use Rattle.fm_rule_facts.specs.Views.{View, Fits, In, IsKnown}
-use Rattle.fm_rule_facts.specs.Words.{alive_word, alive_holds}
-use Rattle.fm_rule_facts.specs.Holds.{grips, released}
-use Rattle.fm_rule_facts.specs.Handles.{Kept, last_if, giving_by, giving, given_back, giving_entries, word_given, back_word}
-use Rattle.fm_rule_facts.specs.Steps.{part, entries, noted, none_noted}
-use Rattle.fm_rule_facts.specs.Facts.{Rule}
-use Rattle.fm_rule_facts.specs.Moves.{MayStep}
+use Rattle.fm_rule_facts.specs.{declared.step.Step.TheVariants.{Backs}, Views.{View, Fits, In, IsKnown}, Words.{alive_word, alive_holds}}
+use Rattle.fm_rule_facts.specs.{Holds.{grips, released}, Handles.{Kept, last_if, giving_by, giving, given_back, giving_entries, word_given, back_word}}
+use Rattle.fm_rule_facts.specs.{Steps.{part, entries, noted, none_noted}, Facts.{Rule}, Moves.{MayStep}}
 use Rattle.fm_rule_facts.proofs.Gripping.{handles_are, with_handles, last_handle}
-use Rattle.fm_rule_steps.proofs.Reading.{Says, says, alive_read, eqb_true, eqb_false}
-use Rattle.fm_rule_steps.proofs.Quiet.{looks_on}
-use Rattle.fm_rule_steps.proofs.Knowing.{known_now}
-use Rattle.fm_rule_steps.proofs.Plain.{Made}
-use Rattle.fm_rule_steps.proofs.Holding.{known_lives, shows_alive, its_alive, drops, less_word}
-use Rattle.fm_rule_steps.proofs.Shutting.{shuts}
+use Rattle.fm_rule_steps.proofs.{Reading.{Says, says, alive_read, eqb_true, eqb_false}, Quiet.{looks_on}, Knowing.{known_now}, Plain.{Made}}
+use Rattle.fm_rule_steps.proofs.{Holding.{known_lives, shows_alive, its_alive, drops, less_word}, Shutting.{shuts}}
 
 -- a session word with a hold less
 one_less : (a : ArenaId) (n : ℕ) → 0 < n → alive_word a n - 1 ≡ alive_word a (n - 1)

@@ -1,23 +1,13 @@
 -- What words that show a history say of one arena.
 use Rattle.std.proofs.Common.{◌≡◌, ◌≢◌, ℕ, ◌%◌, ◌^◌, ◌<◌, ◌≤◌, ◌==◌, Bool, true, false, if◌then◌else◌, List, [], get_or, sym, refl, ap, ◌∙◌, subst, arith, inl, inr, ⊎_elim, Some, None}
 use Rattle.std.proofs.lemmas.Bool.{cases_lt}
-use Rattle.fm_words.specs.declared.shape.Shape.{Shape}
-use Rattle.fm_words.specs.declared.session.Session.{Session as Decoded}
-use Rattle.fm_words.specs.Shapes.{IsValid}
-use Rattle.fm_words.specs.Places.{at as place_at, session, given as given_place}
-use Rattle.fm_words.specs.Sessions.{session_of, session_word, free, alive, closing}
+use Rattle.fm_words.specs.{declared.{shape.Shape.{Shape}, session.Session.{Session as Decoded}}, Shapes.{IsValid}}
+use Rattle.fm_words.specs.{Places.{at as place_at, session, given as given_place}, Sessions.{session_of, session_word, free, alive, closing}}
 use Rattle.fm_words.proofs.Sessions.{session_word-session_of}
-use Rattle.fm_base.specs.declared.arena_id.ArenaId.{ArenaId}
-use Rattle.fm_base.specs.Arenas.{Alive, Ended, State, arena_of, kind_number, has_arena}
-use Rattle.fm_base.specs.Calls.{Entry}
-use Rattle.fm_base.specs.Histories.{state_after}
-use Rattle.fm_base.proofs.Growing.{there_by_life}
-use Rattle.fm_base.proofs.Names.{kind_same}
-use Rattle.fm_rule_facts.specs.Views.{Fits, limit_of}
-use Rattle.fm_rule_facts.specs.Words.{alive_word, alive_holds}
-use Rattle.fm_rule_facts.specs.Rest.{ShowsSlot, ShowsHistory, ShowsArena}
-use Rattle.fm_rule_steps.proofs.Reading.{alive_read, reads_alive}
-use Rattle.fm_rule_steps.proofs.Decoding.{alive_session, live_read}
+use Rattle.fm_base.specs.{declared.arena_id.ArenaId.{ArenaId}, Arenas.{Alive, Ended, State, arena_of, kind_number, has_arena}, Calls.{Entry}}
+use Rattle.fm_base.{specs.Histories.{state_after}, proofs.{Growing.{there_by_life}, Names.{kind_same}}}
+use Rattle.fm_rule_facts.specs.{Views.{Fits, limit_of}, Words.{alive_word, alive_holds}, Rest.{ShowsSlot, ShowsHistory, ShowsArena}}
+use Rattle.fm_rule_steps.proofs.{Reading.{alive_read, reads_alive}, Decoding.{alive_session, live_read}}
 
 -- names of the same fields are one
 one_name : (a b : ArenaId) → a.slot ≡ b.slot → a.generation ≡ b.generation → a.owner ≡ b.owner → a.term ≡ b.term → kind_number a.kind ≡ kind_number b.kind

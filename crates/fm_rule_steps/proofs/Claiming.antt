@@ -1,38 +1,19 @@
 -- The steps that claim a page by its bit, and give back one that wasn't mapped.
 use Rattle.std.proofs.Common.{◌≡◌, ◌≢◌, ◌⊎◌, ℕ, ◌^◌, ◌<◌, ◌==◌, Bool, true, false, if◌then◌else◌, List, [], ◌∷◌, length, get_or, bit_or, sym, refl, ap, ◌∙◌, subst, inl, inr, ⊎_elim, ◌/◌, ◌%◌}
+use Rattle.std.specs.{Int.{bit_at}, Prelude.{◌&&◌}}
 use mathlib.Core.Option.{some}
 use lib.ListN.{get_elem?}
 use prog.Atomic.{either}
-use Rattle.std.specs.Int.{bit_at}
-use Rattle.fm_words.specs.declared.shape.Shape.{Shape}
-use Rattle.fm_words.specs.Bits.{IsWithout}
-use Rattle.fm_words.specs.Places.{at as place_at, page_bits as bits_place, page_groups}
-use Rattle.fm_rule_facts.proofs.Groups.{bit_here, bit_else, bit_was, set_here, set_else, page_group, group_of_page}
-use Rattle.fm_words.specs.Bits.{number_at, bit_of}
-use Rattle.fm_base.specs.Finds.{Find, TakesPage as Claiming, is_slot, group_of}
-use Rattle.fm_base_machine.specs.Functions.{put}
-use Rattle.std.specs.Prelude.{◌&&◌}
-use Rattle.fm_rule_facts.specs.Hands.{slots_in}
-use Rattle.fm_base_machine.proofs.Putting.{put_here, put_else, put_cases}
-use Rattle.fm_rule_facts.specs.declared.step.Step.TheVariants.{Claims, GivesPage}
-use Rattle.fm_rule_facts.specs.Loans.{loans_of}
-use Rattle.fm_rule_facts.specs.Gone.{FoundBy}
-use Rattle.fm_rule_facts.specs.Parts.{pages_taken}
-use Rattle.fm_rule_facts.specs.Views.{View, In}
+use Rattle.fm_words.specs.{declared.shape.Shape.{Shape}, Bits.{IsWithout, number_at, bit_of}, Places.{at as place_at, page_bits as bits_place, page_groups}}
+use Rattle.fm_rule_facts.{proofs.Groups.{bit_here, bit_else, bit_was, set_here, set_else, page_group, group_of_page}, specs.Hands.{slots_in}}
+use Rattle.fm_rule_facts.specs.{declared.step.Step.TheVariants.{Claims, GivesPage}, Loans.{loans_of}, Gone.{FoundBy}, Parts.{pages_taken}, Views.{View, In}}
 use Rattle.fm_rule_facts.specs.Steps.{part, entries, noted, none_noted, note_of, is_clear, is_empty}
-use Rattle.fm_rule_facts.specs.Facts.{Berth, loose, claimed, unmapped, IsAt, HasPage, Owns, Rule}
-use Rattle.fm_rule_facts.specs.Moves.{MayStep}
-use Rattle.fm_rule_facts.proofs.Founds.{note_none_drawn, note_no_number}
-use Rattle.fm_rule_facts.proofs.Moving.{pages_take}
-use Rattle.fm_rule_facts.proofs.Returning.{pages_give}
-use Rattle.fm_rule_facts.proofs.Shown.{shows_page_bits}
-use Rattle.fm_rule_facts.proofs.Ruling.{page_by, AreLooked, unlooked}
-use Rattle.fm_rule_steps.proofs.Reading.{by_bit}
-use Rattle.fm_rule_steps.proofs.Knowing.{own}
-use Rattle.fm_rule_steps.proofs.Plain.{Made}
-use Rattle.fm_rule_steps.proofs.Scarce.{few_left}
-use Rattle.fm_rule_facts.proofs.Gone.{NoSlots, none_founded}
-use Rattle.fm_rule_steps.proofs.Paging.{paged, swept_still, pages_read}
+use Rattle.fm_rule_facts.specs.{Facts.{Berth, loose, claimed, unmapped, IsAt, HasPage, Owns, Rule}, Moves.{MayStep}}
+use Rattle.fm_rule_facts.proofs.{Founds.{note_none_drawn, note_no_number}, Moving.{pages_take}, Returning.{pages_give}, Shown.{shows_page_bits}}
+use Rattle.fm_rule_facts.proofs.{Ruling.{page_by, AreLooked, unlooked}, Gone.{NoSlots, none_founded}}
+use Rattle.fm_base.specs.Finds.{Find, TakesPage as Claiming, is_slot, group_of}
+use Rattle.fm_base_machine.{specs.Functions.{put}, proofs.Putting.{put_here, put_else, put_cases}}
+use Rattle.fm_rule_steps.proofs.{Reading.{by_bit}, Knowing.{own}, Plain.{Made}, Scarce.{few_left}, Paging.{paged, swept_still, pages_read}}
 
 -- a clear pass is known to be whole
 pub whole_clear : (v : View) → is_clear v ≡ true → v.whole ≡ true

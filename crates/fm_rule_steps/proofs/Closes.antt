@@ -1,12 +1,7 @@
 -- Lists of closes and of sweeps after one of them was begun, has passed one more, or is over.
 use Rattle.std.proofs.Common.{◌≡◌, ◌≢◌, ◌⊎◌, ℕ, Bool, true, false, if◌then◌else◌, List, [], ◌∷◌, sym, refl, ap, ◌∙◌, subst, inl, inr, Some}
-use Rattle.fm_base.specs.declared.arena_id.ArenaId.{ArenaId}
-use Rattle.fm_base.specs.Arenas.{same_id}
-use Rattle.fm_base.specs.Finds.{Stretch, Walk}
-use Rattle.fm_base.proofs.Names.{same_id-true, same_id-self}
-use Rattle.fm_rule_facts.specs.Views.{In}
-use Rattle.fm_rule_facts.specs.Closes.{passed_of, advanced, dropped, one_more}
-use Rattle.fm_rule_facts.specs.Facts.{IsOnce}
+use Rattle.fm_base.{specs.{declared.arena_id.ArenaId.{ArenaId}, Arenas.{same_id}, Finds.{Stretch, Walk}}, proofs.Names.{same_id-true, same_id-self}}
+use Rattle.fm_rule_facts.specs.{Views.{In}, Closes.{passed_of, advanced, dropped, one_more}, Facts.{IsOnce}}
 
 module _ {over : Stretch} where
   abbrev pub ByArena : List (Walk over) → Type 0

@@ -4,31 +4,18 @@ use mathlib.Core.Option.{some}
 use mathlib.Core.Logic.{dite}
 use native.Mathlib.Decide.{ℕ_discrete}
 use lib.ListN.{get_elem?}
-use Rattle.fm_words.specs.declared.shape.Shape.{Shape}
-use Rattle.fm_words.specs.Places.{at as place_at, draw as draw_place}
-use Rattle.fm_base.specs.Calls.{Entry}
-use Rattle.fm_base.specs.Finds.{Find, Gathered, is_number}
-use Rattle.fm_base_machine.specs.Functions.{put, put_by}
-use Rattle.fm_base_machine.proofs.Putting.{put_here, put_else, by_here, by_else, one_caller}
-use Rattle.fm_rule_facts.specs.Views.{View, In, all_gathered}
-use Rattle.fm_rule_facts.specs.Holds.{holds_of}
+use Rattle.fm_words.specs.{declared.shape.Shape.{Shape}, Places.{at as place_at, draw as draw_place}}
+use Rattle.fm_base.specs.{Calls.{Entry}, Finds.{Find, Gathered, is_number}, declared.caller.Caller.{Caller}}
+use Rattle.fm_base_machine.{specs.Functions.{put, put_by}, proofs.Putting.{put_here, put_else, by_here, by_else, one_caller}}
+use Rattle.fm_rule_facts.specs.{Views.{View, In, all_gathered}, Holds.{holds_of}}
 use Rattle.fm_rule_facts.specs.Facts.{Memory, Owners, HasDraw, HasClose, HasSweep, KeepsSlot, DrewIn, IsDrawn, Somewhere, Owns, Knows, Rule, HasPage, WantsNumber, IsUsed, used, wanted, IsLooked, WasDrawn, bit_of, next_of, IsUndrawn, IsSpent, IsCounted, HasNumberInHand, KeepsCaller, KeepsNumber}
-use Rattle.fm_base.specs.declared.caller.Caller.{Caller}
-use Rattle.fm_rule_facts.specs.Hands.{number_learnt, number_drawn, HasNumberIn, most_draws}
-use Rattle.fm_rule_facts.proofs.Looking.{looked_on, looked_told, none_looked, wants_in}
+use Rattle.fm_rule_facts.{specs.Hands.{number_learnt, number_drawn, HasNumberIn, most_draws}, proofs.Looking.{looked_on, looked_told, none_looked, wants_in}}
+use Rattle.fm_rule_facts.{specs.{Moves.{told}, Gone.{IsFounded}}, proofs.{Ruling.{page_like}, Gone.{NoSlots, none_founded, founded_same, founded_told}}}
+use Rattle.fm_rule_facts.proofs.Founds.{AreWithin, counted_later, counted_told, counted_set}
+use Rattle.fm_rule_facts.proofs.{Keeping.{set_there, in_left, in_right, stays_somewhere, gathered_all}, Summing.{total-set}, Shown.{shows_draw}}
 use Rattle.atomic_table.proofs.Lists.{set_else}
 use mathlib.Core.Option.{some-injective}
-use Rattle.fm_rule_facts.specs.Moves.{told}
-use Rattle.fm_rule_facts.specs.Gone.{IsFounded}
-use Rattle.fm_rule_facts.proofs.Ruling.{page_like}
-use Rattle.fm_rule_facts.proofs.Gone.{NoSlots, none_founded, founded_same, founded_told}
-use Rattle.fm_rule_facts.proofs.Founds.{AreWithin, counted_later, counted_told, counted_set}
-use Rattle.fm_rule_facts.proofs.Keeping.{set_there, in_left, in_right, stays_somewhere, gathered_all}
-use Rattle.fm_rule_facts.proofs.Summing.{total-set}
-use Rattle.fm_rule_facts.proofs.Shown.{shows_draw}
-use Rattle.fm_rule_steps.proofs.Knowing.{own}
-use Rattle.fm_rule_steps.proofs.Drawn.{knows, other_knows}
-use Rattle.fm_rule_steps.proofs.Splitting.{views_set}
+use Rattle.fm_rule_steps.proofs.{Knowing.{own}, Drawn.{knows, other_knows}, Splitting.{views_set}}
 
 module _ (z : Shape) (me : ℕ) (v : View) (l : v.live ≡ true) (lone : v.met ≡ []) (ws : List ℕ) (vs : List View) (r : Rule z ws vs)
     (at : get_elem? vs me ≡ some v) where

@@ -1,21 +1,13 @@
 -- The words of sessions, read back.
 use Rattle.std.proofs.Common.{◌≡◌, ◌≢◌, ℕ, suc, ◌+◌, ◌-◌, ◌<◌, ◌≤◌, ◌==◌, Bool, true, false, if◌then◌else◌, ap, ◌∙◌, arith, inl, inr, eq-eqb, ne_eqb, ◌/◌, ◌%◌, Some, List, get_or, sym, refl}
-use Rattle.fm_words.specs.declared.session.Session.{Session as Decoded}
-use Rattle.fm_words.specs.Sessions.{session_of, free_session, alive, closing}
-use Rattle.fm_words.proofs.Sessions.{session_of-session_word}
-use Rattle.fm_base.specs.declared.arena_id.ArenaId.{ArenaId}
-use Rattle.fm_base.specs.Arenas.{kind_number}
+use Rattle.std.{proofs.{Math.Nat.{mod-lt}, lemmas.List.Elements.{All-contains}}, specs.Prelude.{Contains}}
+use Rattle.fm_words.specs.{declared.session.Session.{Session as Decoded}, Sessions.{session_of, free_session, alive, closing}}
+use Rattle.fm_words.{proofs.Sessions.{session_of-session_word}, specs.{declared.shape.Shape.{Shape}, Places.{at as place_at, page_word}}}
+use Rattle.fm_base.specs.{declared.arena_id.ArenaId.{ArenaId}, Arenas.{kind_number}}
 use Rattle.fm_base_machine.specs.Functions.{Stage, Lives, Closes}
-use Rattle.fm_rule_facts.specs.Words.{kept, free_word, alive_word, closing_word}
-use Rattle.fm_rule_facts.specs.Facts.{IsStanding, Berth, loose, claimed, mapped, unmapped, Rule}
+use Rattle.fm_rule_facts.specs.{Words.{kept, free_word, alive_word, closing_word}, Facts.{IsStanding, Berth, loose, claimed, mapped, unmapped, Rule}}
+use Rattle.fm_rule_facts.specs.{Views.{View}, Loans.{Loan, loan_of, loans_of, IsFree}}
 use Rattle.fm_rule_steps.proofs.Reading.{kind_below}
-use Rattle.std.proofs.Math.Nat.{mod-lt}
-use Rattle.std.proofs.lemmas.List.Elements.{All-contains}
-use Rattle.std.specs.Prelude.{Contains}
-use Rattle.fm_words.specs.declared.shape.Shape.{Shape}
-use Rattle.fm_words.specs.Places.{at as place_at, page_word}
-use Rattle.fm_rule_facts.specs.Views.{View}
-use Rattle.fm_rule_facts.specs.Loans.{Loan, loan_of, loans_of, IsFree}
 
 pub kept_else : (n g : ℕ) → g ≢ n → kept n g ≡ g
 unfolding kept

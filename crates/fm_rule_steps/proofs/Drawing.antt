@@ -4,39 +4,23 @@ use Rattle.std.proofs.lemmas.List.{append-nil}
 use mathlib.Core.Option.{some}
 use lib.ListN.{get_elem?}
 use prog.Atomic.{either}
-use Rattle.fm_words.specs.declared.shape.Shape.{Shape}
-use Rattle.fm_words.specs.Places.{at as place_at, draw as draw_place}
-use Rattle.fm_base.specs.declared.caller.Caller.{Caller}
-use Rattle.fm_base.specs.Calls.{Entry}
-use Rattle.fm_base.specs.Histories.{made_by}
-use Rattle.fm_base.specs.Finds.{Find, Gathered, Draws as Drawing, is_number}
+use Rattle.fm_words.specs.{declared.shape.Shape.{Shape}, Places.{at as place_at, draw as draw_place}}
+use Rattle.fm_base.specs.{declared.caller.Caller.{Caller}, Calls.{Entry}, Histories.{made_by}, Finds.{Find, Gathered, Draws as Drawing, is_number}}
 use mathlib.Core.Option.{some-injective}
 use mathlib.Core.Logic.{dite}
 use native.Mathlib.Decide.{ℕ_discrete}
 use Rattle.atomic_table.proofs.Lists.{set_else}
-use Rattle.fm_rule_facts.proofs.Looking.{looked_told, none_looked}
-use Rattle.fm_rule_facts.specs.declared.step.Step.TheVariants.{Draws}
+use Rattle.fm_rule_facts.{proofs.Looking.{looked_told, none_looked}, specs.declared.step.Step.TheVariants.{Draws}}
 use Rattle.fm_rule_facts.specs.Hands.{Number, no_number, number_learnt, number_drawn, number_left, HasNumberIn, drawn_by, number_after, most_draws}
-use Rattle.fm_rule_facts.specs.Views.{View, In, all_gathered}
-use Rattle.fm_rule_facts.specs.Holds.{holds_of}
+use Rattle.fm_rule_facts.specs.{Views.{View, In, all_gathered}, Holds.{holds_of}}
 use Rattle.fm_rule_facts.specs.Steps.{part, entries, noted, draws, note_draw, is_clear, draw_next, CanDraw, can_draw, can_look}
 use Rattle.fm_rule_facts.specs.Facts.{HasGathered, HasDraw, HasClose, HasSweep, KeepsSlot, DrewIn, Owns, Knows, Rule, HasPage, WasDrawn, IsUndrawn, HasNumberInHand, KeepsCaller, KeepsNumber, WantsNumber, IsUsed, wanted, full, IsLooked, Somewhere}
-use Rattle.fm_rule_facts.specs.Moves.{told, Gives, LearnsCount, MayStep}
-use Rattle.fm_rule_facts.specs.Gone.{IsFounded}
-use Rattle.fm_rule_facts.proofs.Ruling.{page_like}
-use Rattle.fm_rule_facts.proofs.Sounding.{sound_of}
+use Rattle.fm_rule_facts.{specs.{Moves.{told, Gives, LearnsCount, MayStep}, Gone.{IsFounded}}, proofs.{Ruling.{page_like}, Sounding.{sound_of}}}
 use Rattle.fm_rule_facts.proofs.Gone.{NoSlots, draw_no_slots, none_founded, founded_told}
-use Rattle.fm_rule_facts.proofs.Founds.{AreWithin, looked_within, drew_within, counted_told, counted_set, find_within}
-use Rattle.fm_rule_facts.proofs.Drawers.{complete_counted}
-use Rattle.fm_rule_facts.proofs.Keeping.{none_added, silent_since, set_there, in_left, stays_somewhere}
-use Rattle.fm_rule_facts.proofs.Summing.{total-set}
-use Rattle.fm_rule_facts.proofs.Callers.{counted, all_counted}
+use Rattle.fm_rule_facts.proofs.{Founds.{AreWithin, looked_within, drew_within, counted_told, counted_set, find_within}, Drawers.{complete_counted}}
+use Rattle.fm_rule_facts.proofs.{Keeping.{none_added, silent_since, set_there, in_left, stays_somewhere}, Summing.{total-set}, Callers.{counted, all_counted}}
 use lib.Seq.{set-get_or}
-use Rattle.fm_rule_steps.proofs.Reading.{eqb_true, eqb_false}
-use Rattle.fm_rule_steps.proofs.Knowing.{own}
-use Rattle.fm_rule_steps.proofs.Plain.{Made}
-use Rattle.fm_rule_steps.proofs.Counting.{drew, drew_history, now, who', rank'}
-use Rattle.fm_rule_steps.proofs.Drawn.{knows}
+use Rattle.fm_rule_steps.proofs.{Reading.{eqb_true, eqb_false}, Knowing.{own}, Plain.{Made}, Counting.{drew, drew_history, now, who', rank'}, Drawn.{knows}}
 use Rattle.fm_rule_steps.proofs.Splitting.{with_owners, views_set}
 
 both : (a b : Bool) → (a && b) ≡ true → b ≡ true

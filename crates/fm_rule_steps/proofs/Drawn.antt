@@ -1,22 +1,15 @@
 -- What views say once a caller was drawn.
-use Rattle.std.proofs.Common.{◌≡◌, ◌≢◌, ◌⊎◌, ℕ, Bool, true, List, [], ◌++◌, sym, refl, ap, ◌∙◌, subst, inl, inr, ⊎_elim}
-use Rattle.std.proofs.lemmas.List.{append-nil}
+use Rattle.std.proofs.{Common.{◌≡◌, ◌≢◌, ◌⊎◌, ℕ, Bool, true, List, [], ◌++◌, sym, refl, ap, ◌∙◌, subst, inl, inr, ⊎_elim}, lemmas.List.{append-nil}}
 use mathlib.Core.Option.{some}
 use lib.ListN.{get_elem?}
 use Rattle.fm_words.specs.declared.shape.Shape.{Shape}
-use Rattle.fm_base.specs.Histories.{made_by}
-use Rattle.fm_base.specs.Finds.{Find, Gathered}
+use Rattle.fm_base.specs.{Histories.{made_by}, Finds.{Find, Gathered}, declared.caller.Caller.{Caller}}
 use Rattle.fm_rule_facts.specs.Views.{View, In, all_gathered}
 use Rattle.fm_rule_facts.specs.Facts.{Memory, Owners, Begins, HasGathered, IsOnce, Owns, Knows, Rule, WasDrawn, next_of, IsUndrawn, HasNumberInHand}
-use Rattle.fm_base.specs.declared.caller.Caller.{Caller}
 use Rattle.fm_rule_facts.specs.Hands.{Number, no_number, number_taken, number_learnt, number_drawn, number_left, number_joined, HasNumberIn, most_draws}
-use Rattle.fm_rule_facts.proofs.Handing.{hand_view}
-use Rattle.fm_rule_facts.specs.Moves.{told}
-use Rattle.fm_rule_facts.proofs.Keeping.{gathered_all, seated_all}
-use Rattle.fm_rule_facts.proofs.Handles.{handles_still}
+use Rattle.fm_rule_facts.{proofs.{Handing.{hand_view}, Keeping.{gathered_all, seated_all}, Handles.{handles_still}}, specs.Moves.{told}}
+use Rattle.fm_rule_facts.proofs.{Seating.{knows_as, owns_seats}, Working.{work_as}}
 use Rattle.fm_rule_steps.proofs.Knowing.{own}
-use Rattle.fm_rule_facts.proofs.Seating.{knows_as, owns_seats}
-use Rattle.fm_rule_facts.proofs.Working.{work_as}
 
 module _ (z : Shape) (me : ℕ) (v : View) (l : v.live ≡ true) (lone : v.met ≡ []) (ws : List ℕ) (vs : List View) (r : Rule z ws vs)
     (at : get_elem? vs me ≡ some v) where

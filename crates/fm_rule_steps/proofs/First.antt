@@ -1,36 +1,19 @@
 -- The rule of a new pool.
 use Rattle.std.proofs.Common.{◌≡◌, ◌≢◌, ℕ, zero, suc, ◌+◌, ◌-◌, ◌<◌, Bool, if◌then◌else◌, List, [], ◌∷◌, length, set, get_or, replicate, None, sym, refl, ap, ◌∙◌, subst, arith, inl, inr, ⊎_elim, ne_eqb, length-set, get_or-set_other, get_or-set_same, ◌≤◌}
+use Rattle.std.{specs.Int.{bit_at}, proofs.lemmas.{Nat.Bits.{bit_at_ones, bit_at_ones_above}, Bool.{cases_lt}}}
 use mathlib.Core.Option.{some, some-injective, some-ne-none}
 use lib.ListN.{get_elem?, length-replicate}
-use Rattle.fm_words.specs.declared.shape.Shape.{Shape}
-use Rattle.fm_words.specs.Shapes.{IsValid}
+use Rattle.fm_words.specs.{declared.shape.Shape.{Shape}, Shapes.{IsValid}}
 use Rattle.fm_words.specs.Places.{page_bits as page_bits_place, page_groups, map, page_word, at as place_at, front, slot_bits, mark, session, given as given_place, words as word_count, number_bits, term, groups}
-use Rattle.fm_words.specs.Sessions.{session_word}
-use Rattle.fm_rule_facts.specs.Words.{kept, free_word}
-use Rattle.fm_base_machine.specs.Steps.{opening}
-use Rattle.fm_base_machine.proofs.Depicting.{always}
-use Rattle.std.specs.Int.{bit_at}
-use Rattle.std.proofs.lemmas.Nat.Bits.{bit_at_ones, bit_at_ones_above}
-use Rattle.std.proofs.lemmas.Bool.{cases_lt}
-use Rattle.fm_words.specs.Bits.{ones}
-use Rattle.fm_rule_facts.specs.Views.{View, IsSound, limit_of}
-use Rattle.fm_rule_facts.specs.Splits.{first_view}
-use Rattle.fm_rule_facts.specs.Beginning.{blank, first_memory}
+use Rattle.fm_words.specs.{Sessions.{session_word}, Bits.{ones}}
+use Rattle.fm_rule_facts.specs.{Words.{kept, free_word}, Views.{View, IsSound, limit_of}, Splits.{first_view}, Beginning.{blank, first_memory}}
 use Rattle.fm_rule_facts.specs.Facts.{Owners, Shows, Knows, loose, Rule, IsCounted, WasDrawn, bit_of, IsLooked}
-use Rattle.fm_rule_facts.proofs.Shown.{shows_page_bits, shows_bits, shows_numbers}
-use Rattle.fm_base.specs.declared.caller.Caller.{Caller}
-use Rattle.fm_base.specs.Arenas.{only_caller, are_one}
-use Rattle.fm_base_machine.specs.Functions.{put}
-use Rattle.fm_base.proofs.Names.{are_one-self}
+use Rattle.fm_rule_facts.{proofs.{Shown.{shows_page_bits, shows_bits, shows_numbers}, Looking.{looked_bare}, Gone.{founded_bare}}, specs.Gone.{IsFounded}}
+use Rattle.fm_rule_facts.proofs.{Founds.{counted_bare}, Sounding.{sound_of}, Gripping.{none_held, none_counted}, Working.{no_work}}
+use Rattle.fm_base_machine.{specs.{Steps.{opening}, Functions.{put}}, proofs.Depicting.{always}}
+use Rattle.fm_base.{specs.{declared.caller.Caller.{Caller}, Arenas.{only_caller, are_one}}, proofs.Names.{are_one-self}}
 use mathlib.Core.Logic.{dite}
 use native.Mathlib.Decide.{ℕ_discrete}
-use Rattle.fm_rule_facts.proofs.Looking.{looked_bare}
-use Rattle.fm_rule_facts.specs.Gone.{IsFounded}
-use Rattle.fm_rule_facts.proofs.Gone.{founded_bare}
-use Rattle.fm_rule_facts.proofs.Founds.{counted_bare}
-use Rattle.fm_rule_facts.proofs.Sounding.{sound_of}
-use Rattle.fm_rule_facts.proofs.Gripping.{none_held, none_counted}
-use Rattle.fm_rule_facts.proofs.Working.{no_work}
 
 -- ---- the words
 

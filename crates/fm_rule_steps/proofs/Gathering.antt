@@ -6,29 +6,16 @@ use native.Mathlib.Decide.{ℕ_discrete}
 use lib.ListN.{get_elem?}
 use Rattle.atomic_table.proofs.Lists.{set_else}
 use Rattle.fm_words.specs.declared.shape.Shape.{Shape}
-use Rattle.fm_base.specs.Calls.{Entry}
-use Rattle.fm_base.specs.Finds.{Gathered}
+use Rattle.fm_base.specs.{Calls.{Entry}, Finds.{Gathered}, declared.caller.Caller.{Caller}}
 use Rattle.fm_rule_facts.specs.Views.{Met, View, In, all_gathered, brought}
-use Rattle.fm_base.specs.declared.caller.Caller.{Caller}
 use Rattle.fm_rule_facts.specs.Hands.{HasSlot, Number, no_number, number_joined, number_of_joined, HasNumberIn, last_term}
-use Rattle.fm_rule_facts.specs.Facts.{WantsNumber, IsLooked, wanted}
-use Rattle.fm_rule_facts.proofs.Looking.{looked_bare, looked_gather, wants_in}
-use Rattle.fm_rule_steps.proofs.Reading.{eqb_true, eqb_false}
-use Rattle.fm_rule_facts.specs.Holds.{holds_of}
-use Rattle.fm_rule_facts.specs.Splits.{gather, as_gathered, nothing_seen, IsAtRest}
-use Rattle.fm_rule_facts.specs.Facts.{Owners, HasDraw, HasClose, HasSweep, KeepsSlot, IsGathered, IsOnce, Begins, Somewhere, Owns, Knows, Rule, IsCounted, HasPage, WasDrawn, KeepsCaller, KeepsNumber, IsSpent, HasNumberInHand}
-use Rattle.fm_rule_facts.specs.Gone.{IsFounded}
-use Rattle.fm_rule_facts.proofs.Ruling.{page_like}
-use Rattle.fm_rule_facts.proofs.Gone.{founded_bare, founded_gather}
-use Rattle.fm_rule_facts.proofs.Founds.{counted_bare, counted_gather}
-use Rattle.fm_rule_facts.proofs.Keeping.{set_there, stays_somewhere, gathered_all}
-use Rattle.fm_rule_facts.proofs.Counting.{between}
-use Rattle.fm_rule_facts.proofs.Summing.{total-set}
-use Rattle.fm_rule_facts.proofs.Gripping.{none_held}
-use Rattle.fm_rule_steps.proofs.Joining.{all_w, comes_both, caller_on, caller_comes, number_on, draw_on, draw_comes, no_page}
+use Rattle.fm_rule_facts.specs.Facts.{WantsNumber, IsLooked, wanted, Owners, HasDraw, HasClose, HasSweep, KeepsSlot, IsGathered, IsOnce, Begins, Somewhere, Owns, Knows, Rule, IsCounted, HasPage, WasDrawn, KeepsCaller, KeepsNumber, IsSpent, HasNumberInHand}
+use Rattle.fm_rule_facts.{proofs.Looking.{looked_bare, looked_gather, wants_in}, specs.{Holds.{holds_of}, Splits.{gather, as_gathered, nothing_seen, IsAtRest}}}
+use Rattle.fm_rule_facts.{specs.Gone.{IsFounded}, proofs.{Ruling.{page_like}, Gone.{founded_bare, founded_gather}, Founds.{counted_bare, counted_gather}}}
+use Rattle.fm_rule_facts.proofs.{Keeping.{set_there, stays_somewhere, gathered_all}, Counting.{between}, Summing.{total-set}, Gripping.{none_held}}
+use Rattle.fm_rule_facts.proofs.{Seating.{knows_seats}, Working.{work_as}}
+use Rattle.fm_rule_steps.proofs.{Reading.{eqb_true, eqb_false}, Joining.{all_w, comes_both, caller_on, caller_comes, number_on, draw_on, draw_comes, no_page}}
 use Rattle.fm_rule_steps.proofs.Splitting.{with_owners, views_set, there_before}
-use Rattle.fm_rule_facts.proofs.Seating.{knows_seats}
-use Rattle.fm_rule_facts.proofs.Working.{work_as}
 
 module _ (z : Shape) (ws : List ℕ) (vs : List View) (r : Rule z ws vs) (id : ℕ) (v : View) (other : ℕ) (w : View) (at : get_elem? vs id ≡ some v)
     (ne : ¬ (other ≡ id)) (at' : get_elem? (set vs id (gather v w)) other ≡ some w) (l : v.live ≡ true) (free : v.number ≡ no_number)

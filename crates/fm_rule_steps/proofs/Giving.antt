@@ -1,28 +1,16 @@
 -- The step that gives a slot back.
 use Rattle.std.proofs.Common.{◌≡◌, ◌≢◌, ℕ, ◌+◌, ◌^◌, true, List, [], bit_or, get_or, set, sym, refl, ap, ◌∙◌, subst, arith, inl, inr, Some, None}
+use Rattle.std.{specs.Int.{bit_at}, proofs.lemmas.Nat.Bits.{bit_at-lt, bit_at_or, bit_at-pow_same, bit_at-pow_other}}
 use mathlib.Core.Option.{some}
 use mathlib.Core.Logic.{dite}
 use native.Mathlib.Decide.{ℕ_discrete}
 use lib.ListN.{get_elem?}
-use Rattle.std.specs.Int.{bit_at}
-use Rattle.std.proofs.lemmas.Nat.Bits.{bit_at-lt, bit_at_or, bit_at-pow_same, bit_at-pow_other}
-use Rattle.fm_words.specs.declared.shape.Shape.{Shape}
-use Rattle.fm_words.specs.Places.{at as place_at, slot_bits as bits_place}
-use Rattle.fm_rule_facts.specs.declared.step.Step.TheVariants.{GivesSlot}
-use Rattle.fm_rule_facts.specs.Hands.{nothing, retired, HasSlot, IsTaker}
-use Rattle.fm_rule_facts.specs.Views.{View}
-use Rattle.fm_rule_facts.specs.Steps.{part, entries, noted, none_noted}
-use Rattle.fm_rule_facts.specs.Facts.{Memory, HasInHand, KeepsSlot, Owns, Rule}
-use Rattle.fm_rule_facts.specs.Moves.{Moved, Same, MayStep}
-use Rattle.fm_rule_facts.proofs.Founds.{no_draw}
-use Rattle.fm_rule_facts.proofs.Retiring.{world_give}
-use Rattle.fm_rule_facts.proofs.Shown.{shows_bits}
-use Rattle.fm_rule_facts.proofs.Ruling.{page_like, keeps}
-use Rattle.fm_rule_steps.proofs.Knowing.{own}
-use Rattle.fm_rule_steps.proofs.Staying.{same_but, sweeps_still, numbers_stay, number_stays}
-use Rattle.fm_rule_steps.proofs.Plain.{Made}
-use Rattle.fm_rule_facts.proofs.Leaving.{bits_moved}
+use Rattle.fm_words.specs.{declared.shape.Shape.{Shape}, Places.{at as place_at, slot_bits as bits_place}}
+use Rattle.fm_rule_facts.specs.{declared.step.Step.TheVariants.{GivesSlot}, Hands.{nothing, retired, HasSlot, IsTaker}, Views.{View}}
+use Rattle.fm_rule_facts.specs.{Steps.{part, entries, noted, none_noted}, Facts.{Memory, HasInHand, KeepsSlot, Owns, Rule}, Moves.{Moved, Same, MayStep}}
+use Rattle.fm_rule_facts.proofs.{Founds.{no_draw}, Retiring.{world_give}, Shown.{shows_bits}, Ruling.{page_like, keeps}, Leaving.{bits_moved}}
 use Rattle.fm_rule_facts.proofs.Working.{work_with}
+use Rattle.fm_rule_steps.proofs.{Knowing.{own}, Staying.{same_but, sweeps_still, numbers_stay, number_stays}, Plain.{Made}}
 
 module _ (z : Shape) (me : ℕ) (v : View) (l : v.live ≡ true) (s : ℕ) (hand : v.hand ≡ retired s) (ws : List ℕ) (vs : List View) (r : Rule z ws vs)
     (at : get_elem? vs me ≡ some v) where

@@ -6,29 +6,14 @@ use mathlib.Core.Logic.{dite}
 use native.Mathlib.Decide.{ℕ_discrete}
 use lib.ListN.{get_elem?}
 use Rattle.fm_words.specs.declared.shape.Shape.{Shape}
-use Rattle.fm_base.specs.declared.caller.Caller.{Caller}
-use Rattle.fm_base.specs.Calls.{Entry}
-use Rattle.fm_base.specs.Histories.{made_by}
-use Rattle.fm_base.specs.Finds.{Gathered}
-use Rattle.fm_base_machine.specs.Handles.{AreLeft}
-use Rattle.fm_base_machine.specs.Functions.{put, put_by}
-use Rattle.fm_base_machine.proofs.Putting.{put_here, put_else, by_here, by_else, one_caller}
-use Rattle.fm_rule_facts.specs.Views.{Met, View, In, all_gathered, brought}
-use Rattle.fm_rule_facts.specs.Holds.{holds_of}
-use Rattle.fm_rule_facts.specs.Splits.{drawn_left, drawn_right, caller_or}
+use Rattle.fm_base.specs.{declared.caller.Caller.{Caller}, Calls.{Entry}, Histories.{made_by}, Finds.{Gathered}}
+use Rattle.fm_base_machine.{specs.{Handles.{AreLeft}, Functions.{put, put_by}}, proofs.Putting.{put_here, put_else, by_here, by_else, one_caller}}
+use Rattle.fm_rule_facts.specs.{Views.{Met, View, In, all_gathered, brought}, Holds.{holds_of}, Splits.{drawn_left, drawn_right, caller_or}}
 use Rattle.fm_rule_facts.specs.Facts.{Owners, HasDraw, HasClose, HasSweep, KeepsSlot, IsGathered, IsDrawn, Somewhere, Owns, Knows, Rule, IsCounted, HasPage, WantsNumber, IsLooked, wanted, HasNumberInHand, WasDrawn, bit_of, KeepsCaller, KeepsNumber}
-use Rattle.fm_rule_facts.specs.Hands.{number_taken, number_learnt, number_drawn, HasNumberIn}
-use Rattle.fm_rule_facts.proofs.Looking.{looked_bare}
-use Rattle.fm_rule_facts.specs.Gone.{IsFounded}
-use Rattle.fm_rule_facts.proofs.Ruling.{page_like}
-use Rattle.fm_rule_facts.proofs.Gone.{founded_bare}
-use Rattle.fm_rule_facts.proofs.Founds.{counted_bare}
-use Rattle.fm_rule_facts.proofs.Keeping.{stays_somewhere, in_left, in_right}
-use Rattle.fm_rule_facts.proofs.Summing.{total-set, total-snoc}
-use Rattle.fm_rule_facts.proofs.Gripping.{none_held}
+use Rattle.fm_rule_facts.{specs.{Hands.{number_taken, number_learnt, number_drawn, HasNumberIn}, Gone.{IsFounded}}, proofs.Looking.{looked_bare}}
+use Rattle.fm_rule_facts.proofs.{Ruling.{page_like}, Gone.{founded_bare}, Founds.{counted_bare}, Keeping.{stays_somewhere, in_left, in_right}}
+use Rattle.fm_rule_facts.proofs.{Summing.{total-set, total-snoc}, Gripping.{none_held}, Seating.{knows_seats}, Working.{work_as, no_work}}
 use Rattle.fm_rule_steps.proofs.Splitting.{with_owners, views_set, views_on, on_longer}
-use Rattle.fm_rule_facts.proofs.Seating.{knows_seats}
-use Rattle.fm_rule_facts.proofs.Working.{work_as, no_work}
 
 at_last : {A : Type 0} (l : List A) (a : A) → get_elem? (l ++ a ∷ []) (length l) ≡ some a
 at_last [] a = refl

@@ -3,32 +3,19 @@ use Rattle.std.proofs.Common.{◌≡◌, ◌≢◌, ℕ, ◌+◌, ◌-◌, ◌%�
 use mathlib.Core.Option.{some}
 use lib.ListN.{get_elem?}
 use prog.Atomic.{either}
-use Rattle.fm_words.specs.declared.shape.Shape.{Shape}
-use Rattle.fm_words.specs.Places.{at as place_at, session}
-use Rattle.fm_words.specs.Sessions.{session_word}
-use Rattle.fm_base.specs.declared.arena_id.ArenaId.{ArenaId}
-use Rattle.fm_base.specs.declared.kind.Kind.TheVariants.{Automatic}
-use Rattle.fm_base.specs.Arenas.{MayUse}
-use Rattle.fm_base.specs.Calls.{Call, Hold, Unhold, Reply, Fine, Closed, TooManyHolds, Entry, entry_of}
-use Rattle.fm_base.specs.Machine.{most_holds}
+use Rattle.fm_words.specs.{declared.shape.Shape.{Shape}, Places.{at as place_at, session}, Sessions.{session_word}}
+use Rattle.fm_base.specs.{declared.{arena_id.ArenaId.{ArenaId}, kind.Kind.TheVariants.{Automatic}}, Arenas.{MayUse}}
+use Rattle.fm_base.specs.{Calls.{Call, Hold, Unhold, Reply, Fine, Closed, TooManyHolds, Entry, entry_of}, Machine.{most_holds}}
 use Rattle.fm_base_machine.specs.Functions.{Stage, Fresh, Lives, Closes, Over, Machine, put, moved, hold_stage, put_at, MayBy, reply_by}
-use Rattle.fm_rule_facts.specs.declared.step.Step.TheVariants.{Holds, Unholds}
-use Rattle.fm_rule_facts.specs.Views.{View, Fits, In, IsKnown, limit_of}
+use Rattle.fm_rule_facts.specs.{declared.step.Step.TheVariants.{Holds, Unholds}, Views.{View, Fits, In, IsKnown, limit_of}}
 use Rattle.fm_rule_facts.specs.Words.{alive_word, alive_holds, hold_found, held_by, held_word}
-use Rattle.fm_rule_facts.specs.Holds.{grips, with_grips, holds_after, released, holds_of, how_many}
-use Rattle.fm_rule_facts.specs.Steps.{part, entries, noted, none_noted, where_found}
-use Rattle.fm_rule_facts.specs.Facts.{session_code, Shows, Owns, Rule}
-use Rattle.fm_rule_facts.specs.Moves.{MayStep, Ends, LendsBy}
-use Rattle.fm_rule_facts.proofs.Worlds.{world_count}
-use Rattle.fm_rule_facts.proofs.Shown.{shows_count}
+use Rattle.fm_rule_facts.specs.{Holds.{grips, with_grips, holds_after, released, holds_of, how_many}, Steps.{part, entries, noted, none_noted, where_found}}
+use Rattle.fm_rule_facts.{specs.{Facts.{session_code, Shows, Owns, Rule}, Moves.{MayStep, Ends, LendsBy}}, proofs.{Worlds.{world_count}, Shown.{shows_count}}}
 use Rattle.fm_rule_facts.proofs.Summing.{total-has, one_more_hold, some_hold, one_hold_less}
-use Rattle.fm_rule_facts.proofs.Gripping.{holds_are, with_holds, with_same, held_now, held_lives, none_besides, keeps_grips}
-use Rattle.fm_rule_steps.proofs.Reading.{kind_below, Says, says, hold_says, eqb_true, eqb_false}
-use Rattle.fm_rule_facts.proofs.Founds.{no_draw}
-use Rattle.fm_rule_steps.proofs.Quiet.{answers_on, looks_on}
-use Rattle.fm_rule_steps.proofs.Knowing.{own, known_now}
-use Rattle.fm_rule_steps.proofs.Plain.{Made, plain, all_left}
+use Rattle.fm_rule_facts.proofs.{Gripping.{holds_are, with_holds, with_same, held_now, held_lives, none_besides, keeps_grips}, Founds.{no_draw}}
 use Rattle.fm_rule_facts.specs.Loans.{loans_by, loans_of}
+use Rattle.fm_rule_steps.proofs.{Reading.{kind_below, Says, says, hold_says, eqb_true, eqb_false}, Quiet.{answers_on, looks_on}, Knowing.{own, known_now}}
+use Rattle.fm_rule_steps.proofs.Plain.{Made, plain, all_left}
 
 -- one hold more in a session word
 more_word : (a : ArenaId) (n : ℕ) → alive_word a n + 1 ≡ alive_word a (n + 1)

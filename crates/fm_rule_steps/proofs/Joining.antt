@@ -1,13 +1,9 @@
 -- Whom a pass has that another was gathered into.
-use Rattle.std.proofs.Common.{◌≡◌, ℕ, List, ◌∷◌, ◌++◌, sym, refl, ap, ◌∙◌, subst, inl, inr, ⊎_elim}
-use Rattle.std.proofs.lemmas.List.{append-nil}
+use Rattle.std.proofs.{Common.{◌≡◌, ℕ, List, ◌∷◌, ◌++◌, sym, refl, ap, ◌∙◌, subst, inl, inr, ⊎_elim}, lemmas.List.{append-nil}}
 use Rattle.fm_words.specs.declared.shape.Shape.{Shape}
-use Rattle.fm_base.specs.Calls.{Entry}
-use Rattle.fm_base.specs.Finds.{Gathered}
+use Rattle.fm_base.specs.{Calls.{Entry}, Finds.{Gathered}, declared.caller.Caller.{Caller}}
 use Rattle.fm_base_machine.specs.Functions.{Machine}
-use Rattle.fm_rule_facts.specs.Views.{Met, View, In, all_gathered, brought}
-use Rattle.fm_rule_facts.specs.Splits.{gather, as_gathered, IsAtRest}
-use Rattle.fm_base.specs.declared.caller.Caller.{Caller}
+use Rattle.fm_rule_facts.specs.{Views.{Met, View, In, all_gathered, brought}, Splits.{gather, as_gathered, IsAtRest}}
 use Rattle.fm_rule_facts.specs.Hands.{no_number, number_drawn, HasNumberIn}
 use Rattle.fm_rule_facts.specs.Facts.{Owners, KeepsCaller, KeepsNumber, HasDraw, Owns, Berth, loose, claimed, mapped, unmapped, IsWiped, HasSwept, HasPage, Memory}
 use Rattle.fm_rule_facts.proofs.Keeping.{in_left, in_right, in_append}

@@ -3,21 +3,11 @@ use Rattle.std.proofs.Common.{◌≡◌, ◌≢◌, ℕ, ◌<◌, ◌≤◌, tru
 use mathlib.Core.Option.{some}
 use lib.ListN.{get_elem?}
 use Rattle.fm_words.specs.declared.shape.Shape.{Shape}
-use Rattle.fm_base.specs.declared.arena_id.ArenaId.{ArenaId}
-use Rattle.fm_base.specs.Arenas.{State, has_arena, arena_of}
-use Rattle.fm_base.specs.Calls.{Entry}
-use Rattle.fm_base.specs.Histories.{state_after, IsLegal}
-use Rattle.fm_base_machine.specs.Functions.{Fresh}
-use Rattle.fm_rule_facts.specs.Views.{View, In, IsKnown, IsOver, given_of, limit_of}
-use Rattle.fm_rule_facts.specs.Facts.{Owners, IsClosing, Owns, Rule}
-use Rattle.fm_base.proofs.Making.{state_after-append, IsLegal-split}
-use Rattle.fm_base.proofs.Growing.{Grows-state_after}
-use Rattle.fm_rule_facts.proofs.Ending.{given_later}
-use Rattle.fm_rule_facts.proofs.Sounding.{opened_life}
-use Rattle.fm_base.specs.Finds.{Close}
-use Rattle.fm_base_machine.specs.Steps.{moved_by}
-use Rattle.fm_rule_facts.specs.Moves.{MayMake, NoEnd}
-use Rattle.fm_rule_facts.proofs.Keeping.{closing_on}
+use Rattle.fm_base.specs.{declared.arena_id.ArenaId.{ArenaId}, Arenas.{State, has_arena, arena_of}, Calls.{Entry}, Histories.{state_after, IsLegal}}
+use Rattle.fm_base.{proofs.{Making.{state_after-append, IsLegal-split}, Growing.{Grows-state_after}}, specs.Finds.{Close}}
+use Rattle.fm_base_machine.specs.{Functions.{Fresh}, Steps.{moved_by}}
+use Rattle.fm_rule_facts.{specs.{Views.{View, In, IsKnown, IsOver, given_of, limit_of}, Facts.{Owners, IsClosing, Owns, Rule}}, proofs.Ending.{given_later}}
+use Rattle.fm_rule_facts.{proofs.{Sounding.{opened_life}, Keeping.{closing_on}}, specs.Moves.{MayMake, NoEnd}}
 
 module _ (z : Shape) (ws : List ℕ) (vs : List View) (r : Rule z ws vs) (me : ℕ) (v : View) (at : get_elem? vs me ≡ some v) (l : v.live ≡ true) where
   abbrev pub own : Owns z r.history r.memory r.machine r.owners me v

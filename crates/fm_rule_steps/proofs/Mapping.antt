@@ -4,33 +4,16 @@ use mathlib.Core.Option.{some}
 use lib.ListN.{get_elem?}
 use lib.Seq.{set-get_or}
 use prog.Atomic.{either}
-use Rattle.fm_words.specs.declared.shape.Shape.{Shape}
-use Rattle.fm_words.specs.Maps.{map_word}
-use Rattle.fm_words.specs.Places.{at as place_at, map}
-use Rattle.fm_base.specs.declared.arena_id.ArenaId.{ArenaId}
-use Rattle.fm_base.specs.Calls.{Entry, Lend, Fine, entry_of}
-use Rattle.fm_base.specs.Finds.{Find, Maps as Mapped}
-use Rattle.fm_base_machine.specs.Functions.{Over, put}
-use Rattle.fm_base_machine.proofs.Putting.{put_here, put_else, put_cases}
-use Rattle.fm_rule_facts.specs.declared.step.Step.TheVariants.{Maps, ReadsMap}
-use Rattle.fm_rule_facts.specs.Loans.{loans_of, HasPart}
-use Rattle.fm_rule_facts.specs.Gone.{FoundBy}
-use Rattle.fm_rule_facts.specs.Parts.{Mapping, mapping_of}
-use Rattle.fm_rule_facts.specs.Views.{View, In}
-use Rattle.fm_rule_facts.specs.Steps.{part, entries, noted, none_noted, note_of, where_found}
-use Rattle.fm_rule_facts.specs.Facts.{own_map, shut, IsStanding, Berth, claimed, mapped, unmapped, IsAt, HasPage, Owns, Rule}
-use Rattle.fm_rule_facts.specs.Moves.{LearnsMap, MayStep}
-use Rattle.fm_rule_facts.proofs.Founds.{NoneDrawn, NoDraw, no_draw, note_no_draw}
-use Rattle.fm_rule_facts.proofs.Sessions.{standing_known, ended_apart, unstanding}
-use Rattle.fm_rule_facts.proofs.Moving.{pages_map, no_part, claimed_free, read_mapped}
-use Rattle.fm_rule_facts.proofs.Shown.{shows_map}
-use Rattle.fm_rule_facts.proofs.Ruling.{page_by}
-use Rattle.fm_rule_facts.proofs.Keeping.{set_there}
-use Rattle.fm_rule_steps.proofs.Reading.{eqb_true, eqb_false, none_read, says_none, says_page, says_low}
-use Rattle.fm_rule_steps.proofs.Knowing.{own, given_now}
-use Rattle.fm_rule_steps.proofs.Plain.{Made}
-use Rattle.fm_rule_facts.proofs.Gone.{none_founded}
-use Rattle.fm_rule_facts.proofs.Ruling.{AreLooked, unlooked}
+use Rattle.fm_words.specs.{declared.shape.Shape.{Shape}, Maps.{map_word}, Places.{at as place_at, map}}
+use Rattle.fm_base.specs.{declared.arena_id.ArenaId.{ArenaId}, Calls.{Entry, Lend, Fine, entry_of}, Finds.{Find, Maps as Mapped}}
+use Rattle.fm_base_machine.{specs.Functions.{Over, put}, proofs.Putting.{put_here, put_else, put_cases}}
+use Rattle.fm_rule_facts.specs.{declared.step.Step.TheVariants.{Maps, ReadsMap}, Loans.{loans_of, HasPart}, Gone.{FoundBy}, Parts.{Mapping, mapping_of}}
+use Rattle.fm_rule_facts.specs.{Views.{View, In}, Steps.{part, entries, noted, none_noted, note_of, where_found}}
+use Rattle.fm_rule_facts.specs.{Facts.{own_map, shut, IsStanding, Berth, claimed, mapped, unmapped, IsAt, HasPage, Owns, Rule}, Moves.{LearnsMap, MayStep}}
+use Rattle.fm_rule_facts.proofs.{Founds.{NoneDrawn, NoDraw, no_draw, note_no_draw}, Sessions.{standing_known, ended_apart, unstanding}}
+use Rattle.fm_rule_facts.proofs.{Moving.{pages_map, no_part, claimed_free, read_mapped}, Shown.{shows_map}, Ruling.{page_by, AreLooked, unlooked}}
+use Rattle.fm_rule_facts.proofs.{Keeping.{set_there}, Gone.{none_founded}}
+use Rattle.fm_rule_steps.proofs.{Reading.{eqb_true, eqb_false, none_read, says_none, says_page, says_low}, Knowing.{own, given_now}, Plain.{Made}}
 use Rattle.fm_rule_steps.proofs.Paging.{paged, swept_still, pages_read}
 
 module _ (z : Shape) (me : ℕ) (v : View) (l : v.live ≡ true) (ws : List ℕ) (vs : List View) (r : Rule z ws vs) (at : get_elem? vs me ≡ some v) where

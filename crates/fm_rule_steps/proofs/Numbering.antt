@@ -1,36 +1,22 @@
 -- The steps that learn the term of a number in the hand, raise it, and give the number back.
 use Rattle.std.proofs.Common.{◌≡◌, ◌≢◌, ℕ, ◌+◌, ◌^◌, ◌<◌, ◌≤◌, true, List, [], ◌++◌, length, bit_or, set, get_or, sym, refl, ap, ◌∙◌, subst, arith, inl, inr, ⊎_elim, Some, None}
+use Rattle.std.specs.Int.{bit_at}
 use mathlib.Core.Option.{some}
 use mathlib.Core.Logic.{dite}
 use native.Mathlib.Decide.{ℕ_discrete}
 use lib.ListN.{get_elem?}
-use Rattle.std.specs.Int.{bit_at}
-use Rattle.fm_words.specs.declared.shape.Shape.{Shape}
-use Rattle.fm_words.specs.Places.{at as place_at, groups, number_bits, term}
-use Rattle.fm_base.specs.declared.caller.Caller.{Caller}
-use Rattle.fm_base.specs.declared.arena_id.ArenaId.{ArenaId}
-use Rattle.fm_base.specs.Finds.{Find}
-use Rattle.fm_base_machine.specs.Functions.{put}
-use Rattle.fm_base_machine.proofs.Putting.{put_here, put_else}
+use Rattle.fm_words.specs.{declared.shape.Shape.{Shape}, Places.{at as place_at, groups, number_bits, term}}
+use Rattle.fm_base.specs.{declared.{caller.Caller.{Caller}, arena_id.ArenaId.{ArenaId}}, Finds.{Find}}
+use Rattle.fm_base_machine.{specs.Functions.{put}, proofs.Putting.{put_here, put_else}}
 use Rattle.fm_rule_facts.specs.declared.step.Step.TheVariants.{LearnsTerm, RaisesTerm, GivesNumber}
 use Rattle.fm_rule_facts.specs.Hands.{Number, no_number, number_taken, number_learnt, number_drawn, number_left, number_joined, HasNumberIn, last_term}
-use Rattle.fm_rule_facts.specs.Views.{View}
-use Rattle.fm_rule_facts.specs.Steps.{part, entries, noted, none_noted, number_at}
+use Rattle.fm_rule_facts.specs.{Views.{View}, Steps.{part, entries, noted, none_noted, number_at}}
 use Rattle.fm_rule_facts.specs.Facts.{Memory, Owners, WasDrawn, bit_of, next_of, IsUndrawn, IsMarked, IsJoined, KeepsNumber, HasNumberInHand, Shows, World, Owns, Rule}
 use Rattle.fm_rule_facts.specs.Moves.{Moved, Same, NumbersOn, KeepsHand, MayStep, MayStore, NumbersMoved}
-use Rattle.fm_rule_facts.proofs.Groups.{bit_here, bit_else, or_here, or_else}
-use Rattle.fm_rule_facts.proofs.Looking.{wants_in}
-use Rattle.fm_rule_facts.proofs.Gone.{NoSlots, none_founded}
-use Rattle.fm_rule_facts.proofs.Founds.{NoneDrawn}
-use Rattle.fm_rule_facts.proofs.Keeping.{gathered_all}
-use Rattle.fm_rule_facts.proofs.Sessions.{caller_is}
-use Rattle.fm_rule_facts.proofs.Shown.{shows_same, shows_numbers, shows_term}
-use Rattle.fm_rule_facts.proofs.Ruling.{AreLooked, page_like, keeps_with}
-use Rattle.fm_rule_steps.proofs.Knowing.{own}
-use Rattle.fm_rule_steps.proofs.Staying.{slots_still, sweeps_still}
-use Rattle.fm_rule_steps.proofs.Plain.{Made}
-use Rattle.fm_rule_facts.proofs.Leaving.{callers_stay, numbers_left, pages_left}
-use Rattle.fm_rule_facts.proofs.Working.{work_as}
+use Rattle.fm_rule_facts.proofs.{Groups.{bit_here, bit_else, or_here, or_else}, Looking.{wants_in}, Gone.{NoSlots, none_founded}, Founds.{NoneDrawn}}
+use Rattle.fm_rule_facts.proofs.{Keeping.{gathered_all}, Sessions.{caller_is}, Shown.{shows_same, shows_numbers, shows_term}}
+use Rattle.fm_rule_facts.proofs.{Ruling.{AreLooked, page_like, keeps_with}, Leaving.{callers_stay, numbers_left, pages_left}, Working.{work_as}}
+use Rattle.fm_rule_steps.proofs.{Knowing.{own}, Staying.{slots_still, sweeps_still}, Plain.{Made}}
 
 module _ (z : Shape) (me : ℕ) (v : View) (l : v.live ≡ true) (ws : List ℕ) (vs : List View) (r : Rule z ws vs) (at : get_elem? vs me ≡ some v) where
   abbrev mine : Owns z r.history r.memory r.machine r.owners me v

@@ -1,41 +1,21 @@
 -- The step that opens an arena.
-use Rattle.std.proofs.Common.{◌≡◌, ◌≢◌, ◌⊎◌, ℕ, true, List, set, sym, refl, ap, ◌∙◌, subst, arith, inl, inr, Some, ◌∷◌, []}
+use Rattle.std.{proofs.Common.{◌≡◌, ◌≢◌, ◌⊎◌, ℕ, true, List, set, sym, refl, ap, ◌∙◌, subst, arith, inl, inr, Some, ◌∷◌, []}, specs.Int.{bit_at}}
 use mathlib.Core.Option.{some}
 use lib.ListN.{get_elem?}
-use Rattle.fm_words.specs.declared.shape.Shape.{Shape}
-use Rattle.fm_words.specs.Places.{at as place_at, session}
-use Rattle.fm_base.specs.declared.caller.Caller.{Caller}
-use Rattle.fm_base.specs.declared.arena_id.ArenaId.{ArenaId}
-use Rattle.fm_base.specs.Arenas.{owner_of}
-use Rattle.fm_base.specs.Calls.{Entry, Open, Fine, entry_of}
-use Rattle.fm_base_machine.specs.Functions.{Fresh, Lives, Closes, Over, put, put_at}
-use Rattle.fm_base_machine.specs.Steps.{moved_by}
+use Rattle.fm_words.specs.{declared.shape.Shape.{Shape}, Places.{at as place_at, session}}
+use Rattle.fm_base.specs.{declared.{caller.Caller.{Caller}, arena_id.ArenaId.{ArenaId}}, Arenas.{owner_of}, Calls.{Entry, Open, Fine, entry_of}}
+use Rattle.fm_base_machine.specs.{Functions.{Fresh, Lives, Closes, Over, put, put_at}, Steps.{moved_by}}
 use Rattle.fm_base_machine.proofs.Putting.{put_else, put_cases, at_here, at_cases}
-use Rattle.std.specs.Int.{bit_at}
-use Rattle.fm_rule_facts.specs.Hands.{nothing, learnt, HasSlot, IsTaker}
-use Rattle.fm_rule_facts.specs.Gone.{IsTakenBy, OpenedBy}
+use Rattle.fm_rule_facts.specs.{Hands.{nothing, learnt, HasSlot, IsTaker}, Gone.{IsTakenBy, OpenedBy}, declared.step.Step.TheVariants.{Opens}}
+use Rattle.fm_rule_facts.specs.{Views.{View, Fits, limit_of}, Words.{alive_word}, Steps.{part, entries, noted, none_noted}}
+use Rattle.fm_rule_facts.specs.Facts.{Memory, free, live, shut, IsHeld, HasInHand, HasClose, HasSweep, KeepsSlot, Owns, Rule}
+use Rattle.fm_rule_facts.{specs.Moves.{MayMake, StaysEnded, Moved, Same, KeepsSweeps, KeepsSlots, MayStore}, proofs.Keeping.{closing_on, sweeping_on}}
+use Rattle.fm_rule_facts.{proofs.{Founds.{no_draw}, Sessions.{open_new}, Worlds.{world_open}, Living.{pages_open}}, specs.Loans.{loans_of}}
+use Rattle.fm_rule_facts.{proofs.{Ruling.{page_like, keeps}, Shown.{shows_session}, Gripping.{opened_handles}}, specs.Holds.{handles_with, one_alive}}
+use Rattle.fm_rule_facts.proofs.Leaving.{callers_stay, numbers_left, pages_left}
 use mathlib.Core.Logic.{dite}
 use native.Mathlib.Decide.{ℕ_discrete}
-use Rattle.fm_rule_facts.specs.declared.step.Step.TheVariants.{Opens}
-use Rattle.fm_rule_facts.specs.Views.{View, Fits, limit_of}
-use Rattle.fm_rule_facts.specs.Words.{alive_word}
-use Rattle.fm_rule_facts.specs.Steps.{part, entries, noted, none_noted}
-use Rattle.fm_rule_facts.specs.Facts.{Memory, free, live, shut, IsHeld, HasInHand, HasClose, HasSweep, KeepsSlot, Owns, Rule}
-use Rattle.fm_rule_facts.specs.Moves.{MayMake, StaysEnded, Moved, Same, KeepsSweeps, KeepsSlots, MayStore}
-use Rattle.fm_rule_facts.proofs.Keeping.{closing_on, sweeping_on}
-use Rattle.fm_rule_facts.proofs.Founds.{no_draw}
-use Rattle.fm_rule_facts.proofs.Sessions.{open_new}
-use Rattle.fm_rule_facts.proofs.Worlds.{world_open}
-use Rattle.fm_rule_facts.specs.Loans.{loans_of}
-use Rattle.fm_rule_facts.proofs.Living.{pages_open}
-use Rattle.fm_rule_facts.proofs.Ruling.{page_like, keeps}
-use Rattle.fm_rule_facts.proofs.Shown.{shows_session}
-use Rattle.fm_rule_facts.specs.Holds.{handles_with, one_alive}
-use Rattle.fm_rule_facts.proofs.Gripping.{opened_handles}
-use Rattle.fm_rule_steps.proofs.Knowing.{own, low}
-use Rattle.fm_rule_steps.proofs.Staying.{same_but, numbers_stay, number_stays}
-use Rattle.fm_rule_steps.proofs.Plain.{Made}
-use Rattle.fm_rule_facts.proofs.Leaving.{callers_stay, numbers_left, pages_left}
+use Rattle.fm_rule_steps.proofs.{Knowing.{own, low}, Staying.{same_but, numbers_stay, number_stays}, Plain.{Made}}
 
 module _ (z : Shape) (me : ℕ) (v : View) (l : v.live ≡ true) (a : ArenaId) (hand : v.hand ≡ learnt a.slot a.generation) (owner : owner_of a ≡ v.caller)
     (ws : List ℕ) (vs : List View) (r : Rule z ws vs) (at : get_elem? vs me ≡ some v) where

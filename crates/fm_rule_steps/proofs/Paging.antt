@@ -3,26 +3,14 @@ use Rattle.std.proofs.Common.{◌≡◌, ℕ, ◌+◌, true, List, length, set, 
 use mathlib.Core.Option.{some}
 use lib.ListN.{get_elem?}
 use Rattle.fm_words.specs.declared.shape.Shape.{Shape}
-use Rattle.fm_base.specs.declared.arena_id.ArenaId.{ArenaId}
-use Rattle.fm_base.specs.Calls.{Entry}
-use Rattle.fm_base.specs.Finds.{Find}
-use Rattle.fm_base_machine.specs.Functions.{Over, Machine}
-use Rattle.fm_base_machine.specs.Steps.{moved_by}
-use Rattle.fm_rule_facts.specs.Holds.{holds_of, all_holds}
-use Rattle.fm_rule_facts.specs.Loans.{loans_of}
-use Rattle.fm_rule_facts.specs.Gone.{FoundBy}
-use Rattle.fm_rule_facts.specs.Parts.{Mapping, Swept, unread, named, wiping}
-use Rattle.fm_rule_facts.specs.Views.{View, In, limit_of}
-use Rattle.fm_rule_facts.specs.Facts.{Memory, Owners, shut, Berth, unmapped, IsNext, HasSwept, HasPages, World, Shows, Owns, Rule}
-use Rattle.fm_rule_facts.specs.Moves.{MayMake, NoEnd, StaysEnded, Moved, Same, PagesMoved, KeepsPages, MayLend}
-use Rattle.fm_rule_facts.proofs.Founds.{NoneDrawn}
-use Rattle.fm_rule_facts.proofs.Ruling.{PagesAfter, AreLooked, keeps_with, page_like}
-use Rattle.fm_rule_facts.proofs.Keeping.{sweeping_on}
-use Rattle.fm_rule_steps.proofs.Knowing.{own, closes_still}
-use Rattle.fm_rule_steps.proofs.Staying.{same_but, numbers_stay, number_stays}
-use Rattle.fm_rule_steps.proofs.Plain.{Made}
-use Rattle.fm_rule_facts.proofs.Leaving.{berths_moved, pages_left}
+use Rattle.fm_base.specs.{declared.arena_id.ArenaId.{ArenaId}, Calls.{Entry}, Finds.{Find}}
+use Rattle.fm_base_machine.specs.{Functions.{Over, Machine}, Steps.{moved_by}}
+use Rattle.fm_rule_facts.specs.{Holds.{holds_of, all_holds}, Loans.{loans_of}, Gone.{FoundBy}, Parts.{Mapping, Swept, unread, named, wiping}}
+use Rattle.fm_rule_facts.specs.{Views.{View, In, limit_of}, Facts.{Memory, Owners, shut, Berth, unmapped, IsNext, HasSwept, HasPages, World, Shows, Owns, Rule}}
+use Rattle.fm_rule_facts.{specs.Moves.{MayMake, NoEnd, StaysEnded, Moved, Same, PagesMoved, KeepsPages, MayLend}, proofs.Founds.{NoneDrawn}}
+use Rattle.fm_rule_facts.proofs.{Ruling.{PagesAfter, AreLooked, keeps_with, page_like}, Keeping.{sweeping_on}, Leaving.{berths_moved, pages_left}}
 use Rattle.fm_rule_facts.proofs.Shown.{shows_same}
+use Rattle.fm_rule_steps.proofs.{Knowing.{own, closes_still}, Staying.{same_but, numbers_stay, number_stays}, Plain.{Made}}
 
 module _ (z : Shape) (me : ℕ) (v : View) (l : v.live ≡ true) (ws : List ℕ) (vs : List View) (r : Rule z ws vs) (at : get_elem? vs me ≡ some v) where
   abbrev mine : Owns z r.history r.memory r.machine r.owners me v

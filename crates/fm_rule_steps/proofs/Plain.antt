@@ -1,29 +1,17 @@
 -- Steps that leave closes and hands as they are.
-use Rattle.std.proofs.Common.{◌≡◌, ◌≢◌, ℕ, true, List, length, set, sym, refl, ap, ◌∙◌, subst, inl, inr, Some, ◌/◌, ◌%◌, [], Option}
+use Rattle.std.{proofs.Common.{◌≡◌, ◌≢◌, ℕ, true, List, length, set, sym, refl, ap, ◌∙◌, subst, inl, inr, Some, ◌/◌, ◌%◌, [], Option}, specs.Int.{bit_at}}
 use mathlib.Core.Option.{some}
 use lib.ListN.{get_elem?}
 use Rattle.fm_words.specs.declared.shape.Shape.{Shape}
-use Rattle.fm_base.specs.declared.caller.Caller.{Caller}
-use Rattle.fm_base.specs.declared.arena_id.ArenaId.{ArenaId}
-use Rattle.fm_base.specs.Calls.{Entry}
-use Rattle.fm_base.specs.Finds.{Find, Close, Sweep}
-use Rattle.fm_base_machine.specs.Functions.{Closes, Over, Machine}
-use Rattle.fm_base_machine.specs.Steps.{moved_by}
-use Rattle.std.specs.Int.{bit_at}
-use Rattle.fm_rule_facts.specs.Hands.{Hand, IsTaker, Number}
-use Rattle.fm_rule_facts.specs.Views.{View, In, limit_of}
+use Rattle.fm_base.specs.{declared.{caller.Caller.{Caller}, arena_id.ArenaId.{ArenaId}}, Calls.{Entry}, Finds.{Find, Close, Sweep}}
+use Rattle.fm_base_machine.specs.{Functions.{Closes, Over, Machine}, Steps.{moved_by}}
+use Rattle.fm_rule_facts.specs.{Hands.{Hand, IsTaker, Number}, Views.{View, In, limit_of}}
 use Rattle.fm_rule_facts.specs.Facts.{Memory, free, shut, Shows, World, IsOnce, Owners, HasInHand, HasClose, Owns, Rule, IsAt, IsLone, HasSwept, HasPages, Work, Session, Pages}
 use Rattle.fm_rule_facts.specs.Moves.{MayMake, NoEnd, StaysEnded, Moved, Same, KeepsCloses, KeepsSlots, KeepsHolds, Gives, MayLend, PagesMoved}
-use Rattle.fm_rule_facts.proofs.Keeping.{closing_on, sweeping_on}
-use Rattle.fm_rule_facts.proofs.Frame.{was_over}
-use Rattle.fm_rule_facts.proofs.Founds.{NoneDrawn, NoDraw}
-use Rattle.fm_rule_facts.specs.Gone.{FoundBy}
-use Rattle.fm_rule_facts.proofs.Gone.{none_founded}
-use Rattle.fm_rule_facts.specs.Loans.{loans_of, Loan, loans_after}
-use Rattle.fm_rule_facts.specs.Parts.{Mapping, Swept, unread, named, wiping}
+use Rattle.fm_rule_facts.{proofs.{Keeping.{closing_on, sweeping_on}, Frame.{was_over}, Founds.{NoneDrawn, NoDraw}, Gone.{none_founded}}, specs.Gone.{FoundBy}}
+use Rattle.fm_rule_facts.specs.{Loans.{loans_of, Loan, loans_after}, Parts.{Mapping, Swept, unread, named, wiping}}
 use Rattle.fm_rule_facts.proofs.Ruling.{AreLooked, unlooked, keeps_with}
-use Rattle.fm_rule_steps.proofs.Knowing.{own}
-use Rattle.fm_rule_steps.proofs.Staying.{hand_still, sweeps_still, pages_there, slots_still, numbers_stay, number_stays, same_but}
+use Rattle.fm_rule_steps.proofs.{Knowing.{own}, Staying.{hand_still, sweeps_still, pages_there, slots_still, numbers_stay, number_stays, same_but}}
 
 module _ (z : Shape) (ws : List ℕ) (vs : List View) (r : Rule z ws vs) (me : ℕ) (v : View) (at : get_elem? vs me ≡ some v) (l : v.live ≡ true) where
   abbrev mine : Owns z r.history r.memory r.machine r.owners me v

@@ -3,22 +3,12 @@ use Rattle.std.proofs.Common.{◌≡◌, ℕ, List, [], length, get_or, refl, tr
 use mathlib.Core.Option.{some}
 use lib.ListN.{get_elem?}
 use Rattle.fm_words.specs.declared.shape.Shape.{Shape}
-use Rattle.fm_base.specs.declared.arena_id.ArenaId.{ArenaId}
-use Rattle.fm_base.specs.Calls.{Entry}
-use Rattle.fm_base.specs.Finds.{Find}
+use Rattle.fm_base.specs.{declared.arena_id.ArenaId.{ArenaId}, Calls.{Entry}, Finds.{Find}}
 use Rattle.fm_base_machine.specs.Steps.{moved_by}
-use Rattle.fm_rule_facts.specs.Loans.{loans_of, loans_after}
-use Rattle.fm_rule_facts.specs.Views.{View, In, limit_of}
-use Rattle.fm_rule_facts.specs.Steps.{none_noted}
-use Rattle.fm_rule_facts.specs.Facts.{Rule}
-use Rattle.fm_rule_facts.specs.Gone.{FoundBy}
-use Rattle.fm_rule_facts.specs.Moves.{MayMake, MayLend, NoEnd}
-use Rattle.fm_rule_facts.proofs.Founds.{NoneDrawn, NoDraw, no_draw}
-use Rattle.fm_rule_facts.proofs.Gone.{none_founded}
-use Rattle.fm_rule_facts.proofs.Ruling.{AreLooked, unlooked}
-use Rattle.fm_rule_facts.proofs.Shown.{shows_same}
-use Rattle.fm_rule_steps.proofs.Knowing.{own}
-use Rattle.fm_rule_steps.proofs.Plain.{Made, plain_with, all_left}
+use Rattle.fm_rule_facts.specs.{Loans.{loans_of, loans_after}, Views.{View, In, limit_of}, Steps.{none_noted}, Facts.{Rule}, Gone.{FoundBy}}
+use Rattle.fm_rule_facts.{specs.Moves.{MayMake, MayLend, NoEnd}, proofs.{Founds.{NoneDrawn, NoDraw, no_draw}, Gone.{none_founded}}}
+use Rattle.fm_rule_facts.proofs.{Ruling.{AreLooked, unlooked}, Shown.{shows_same}}
+use Rattle.fm_rule_steps.proofs.{Knowing.{own}, Plain.{Made, plain_with, all_left}}
 
 module _ (z : Shape) (ws : List ℕ) (vs : List View) (r : Rule z ws vs) (me : ℕ) (v : View) (at : get_elem? vs me ≡ some v) (l : v.live ≡ true) (i : ℕ) where
   -- entries that move nothing and lend nothing

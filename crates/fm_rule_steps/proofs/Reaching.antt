@@ -1,32 +1,18 @@
 -- The steps that act on a word of the arena that the pass is inside.
 use Rattle.std.proofs.Common.{◌≡◌, ◌≢◌, ℕ, ◌+◌, ◌*◌, ◌/◌, ◌%◌, ◌^◌, ◌<◌, ◌==◌, Bool, true, false, if◌then◌else◌, List, [], ◌∷◌, get_or, set, sym, refl, ap, ◌∙◌, subst, arith, Option, Some}
+use Rattle.std.proofs.Math.Nat.{mod-lt, div-lt_iff_lt-mul}
 use mathlib.Core.Option.{some}
 use lib.ListN.{get_elem?}
-use Rattle.fm_rule_facts.specs.Views.{given_of, View, Fits, span, limit_of, In}
+use Rattle.fm_rule_facts.specs.{Views.{given_of, View, Fits, span, limit_of, In}, declared.step.Step.TheVariants.{Loads, Stores, SwapsIf, Adds}}
+use Rattle.fm_rule_facts.specs.{Loans.{loans_by, loans_of}, Steps.{part, entries, noted, acted, none_noted}}
+use Rattle.fm_rule_facts.specs.{Facts.{Memory, shut, IsStanding, IsAt, mapped, Pages, Shows, World, Rule}, Pages.{IsMapped}, Parts.{mapping_of}}
+use Rattle.fm_rule_facts.{proofs.{Moving.{mapped_lent}, Living.{pages_write}}, specs.Moves.{Ends, LendsBy, MayStep, MayStore}}
+use Rattle.fm_rule_facts.proofs.{Sessions.{standing_known, standing_shown, ended_apart}, Worlds.{world_word}, Shown.{shows_same, shows_cell}, Founds.{no_draw}}
 use prog.Atomic.{either}
-use Rattle.fm_words.specs.declared.shape.Shape.{Shape}
-use Rattle.fm_words.specs.Places.{at as place_at, page_word}
-use Rattle.fm_base.specs.declared.arena_id.ArenaId.{ArenaId}
-use Rattle.fm_base.specs.Calls.{Call, Read, Write, SwapIf, Add, Reply, Fine, Found, entry_of}
-use Rattle.fm_base.specs.Machine.{words_within}
-use Rattle.fm_base_machine.specs.Functions.{Over, put, put_at, moved, MayBy, reply_by}
-use Rattle.fm_base_machine.proofs.Putting.{put_else}
-use Rattle.fm_rule_facts.specs.declared.step.Step.TheVariants.{Loads, Stores, SwapsIf, Adds}
-use Rattle.fm_rule_facts.specs.Loans.{loans_by, loans_of}
-use Rattle.fm_rule_facts.specs.Steps.{part, entries, noted, acted, none_noted}
-use Rattle.fm_rule_facts.specs.Facts.{Memory, shut, IsStanding, IsAt, mapped, Pages, Shows, World, Rule}
-use Rattle.fm_rule_facts.specs.Pages.{IsMapped}
-use Rattle.fm_rule_facts.specs.Parts.{mapping_of}
-use Rattle.fm_rule_facts.proofs.Moving.{mapped_lent}
-use Rattle.fm_rule_facts.proofs.Living.{pages_write}
-use Rattle.std.proofs.Math.Nat.{mod-lt, div-lt_iff_lt-mul}
-use Rattle.fm_rule_facts.specs.Moves.{Ends, LendsBy, MayStep, MayStore}
-use Rattle.fm_rule_facts.proofs.Sessions.{standing_known, standing_shown, ended_apart}
-use Rattle.fm_rule_facts.proofs.Worlds.{world_word}
-use Rattle.fm_rule_facts.proofs.Shown.{shows_same, shows_cell}
-use Rattle.fm_rule_facts.proofs.Founds.{no_draw}
-use Rattle.fm_rule_steps.proofs.Knowing.{own, given_now}
-use Rattle.fm_rule_steps.proofs.Plain.{Made, plain, LeavesWords, memory_left, view_left, words_left}
+use Rattle.fm_words.specs.{declared.shape.Shape.{Shape}, Places.{at as place_at, page_word}}
+use Rattle.fm_base.specs.{declared.arena_id.ArenaId.{ArenaId}, Calls.{Call, Read, Write, SwapIf, Add, Reply, Fine, Found, entry_of}, Machine.{words_within}}
+use Rattle.fm_base_machine.{specs.Functions.{Over, put, put_at, moved, MayBy, reply_by}, proofs.Putting.{put_else}}
+use Rattle.fm_rule_steps.proofs.{Knowing.{own, given_now}, Plain.{Made, plain, LeavesWords, memory_left, view_left, words_left}}
 
 -- an arena has the words of its slot
 span_within : (z : Shape) (w : ℕ) → w < span z → w < words_within (limit_of z)

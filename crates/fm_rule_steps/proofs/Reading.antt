@@ -1,25 +1,15 @@
 -- What a session word that was read says of an arena, and a map word of a page.
-use Rattle.fm_words.proofs.Maps.{map_word-some}
-use Rattle.fm_words.specs.Maps.{map_word}
+use Rattle.fm_words.{proofs.Maps.{map_word-some}, specs.{Maps.{map_word}, declared.shape.Shape.{Shape}, Sessions.{session_word}, Places.{at as place_at, map}}}
+use Rattle.fm_words.specs.Bits.{IsWithout}
 use Rattle.std.proofs.Common.{◌≡◌, ◌≢◌, ℕ, ◌%◌, ◌^◌, ◌<◌, ◌≤◌, ◌==◌, Bool, true, false, if◌then◌else◌, Option, Some, None, refl, sym, ap, ◌∙◌, arith, inl, eq-eqb, ne_eqb, ◌-◌, subst, List, get_or}
+use Rattle.std.{specs.Int.{bit_at}, proofs.lemmas.Nat.Bits.{bit_at-lt}}
 use mathlib.Core.Logic.{dite}
 use native.Mathlib.Decide.{ℕ_discrete}
-use Rattle.fm_words.specs.declared.shape.Shape.{Shape}
-use Rattle.fm_words.specs.Sessions.{session_word}
-use Rattle.fm_base.specs.declared.arena_id.ArenaId.{ArenaId}
-use Rattle.fm_base.specs.declared.kind.Kind.{Kind}
-use Rattle.fm_base.specs.declared.kind.Kind.TheVariants.{Global, Automatic, Confined, Shared}
-use Rattle.fm_base.specs.Arenas.{kind_number}
+use Rattle.fm_base.specs.{declared.{arena_id.ArenaId.{ArenaId}, kind.Kind.{Kind, TheVariants.{Global, Automatic, Confined, Shared}}}, Arenas.{kind_number}}
 use Rattle.fm_base.specs.Calls.{Closed}
-use Rattle.fm_base_machine.specs.Functions.{Stage, Fresh, Lives, Closes, Over, Machine, enter_stage, hold_stage, shut_stage}
-use Rattle.fm_base_machine.proofs.Putting.{one_arena}
+use Rattle.fm_base_machine.{specs.Functions.{Stage, Fresh, Lives, Closes, Over, Machine, enter_stage, hold_stage, shut_stage}, proofs.Putting.{one_arena}}
 use Rattle.fm_rule_facts.specs.Words.{alive_word, closing_word, free_word, alive_holds, enter_found, hold_found, hold_by, shut_found, shut_by}
-use Rattle.fm_rule_facts.specs.Facts.{Session, free, live, shut, Memory, session_code, World, own_map, Rule}
-use Rattle.fm_words.specs.Places.{at as place_at, map}
-use Rattle.fm_rule_facts.specs.Views.{View}
-use Rattle.fm_words.specs.Bits.{IsWithout}
-use Rattle.std.specs.Int.{bit_at}
-use Rattle.std.proofs.lemmas.Nat.Bits.{bit_at-lt}
+use Rattle.fm_rule_facts.specs.{Facts.{Session, free, live, shut, Memory, session_code, World, own_map, Rule}, Views.{View}}
 use prog.Atomic.{either}
 
 pub kind_below : (k : Kind) → kind_number k ≤ 3

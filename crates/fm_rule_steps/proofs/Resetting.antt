@@ -5,29 +5,14 @@ use mathlib.Core.Logic.{dite}
 use native.Mathlib.Decide.{ℕ_discrete}
 use lib.ListN.{get_elem?}
 use lib.Seq.{set-get_or}
-use Rattle.fm_base.specs.Arenas.{arena_of}
-use Rattle.fm_base.specs.Histories.{state_after}
-use Rattle.fm_words.specs.declared.shape.Shape.{Shape}
-use Rattle.fm_words.specs.Places.{at as place_at, given as given_place}
-use Rattle.fm_base.specs.declared.arena_id.ArenaId.{ArenaId}
-use Rattle.fm_base.specs.Finds.{Sweep}
-use Rattle.fm_base_machine.specs.Functions.{put}
-use Rattle.fm_base_machine.proofs.Putting.{put_here, put_else, put_cases}
-use Rattle.fm_rule_facts.specs.declared.step.Step.TheVariants.{SweepsGiven, ResetsGiven}
-use Rattle.fm_rule_facts.specs.Parts.{unread}
-use Rattle.fm_rule_facts.specs.Views.{View, In, given_of, limit_of}
-use Rattle.fm_rule_facts.specs.Closes.{passed_of, advanced, one_more}
-use Rattle.fm_rule_facts.specs.Steps.{part, entries, noted, none_noted}
-use Rattle.fm_rule_facts.specs.Facts.{Memory, HasSwept, IsSweeping, Owns, Rule}
-use Rattle.fm_rule_facts.specs.Moves.{MayStep, MayStore}
-use Rattle.fm_rule_facts.proofs.Retiring.{world_reset}
-use Rattle.fm_rule_facts.proofs.Shown.{shows_given}
-use Rattle.fm_rule_facts.proofs.Keeping.{set_there}
-use Rattle.fm_rule_facts.proofs.Ruling.{page_like}
-use Rattle.fm_rule_steps.proofs.Closes.{in_advanced, once_advanced}
-use Rattle.fm_rule_steps.proofs.Quiet.{looks_on}
-use Rattle.fm_rule_steps.proofs.Knowing.{own}
-use Rattle.fm_rule_steps.proofs.Plain.{Made}
+use Rattle.fm_base.specs.{Arenas.{arena_of}, Histories.{state_after}, declared.arena_id.ArenaId.{ArenaId}, Finds.{Sweep}}
+use Rattle.fm_words.specs.{declared.shape.Shape.{Shape}, Places.{at as place_at, given as given_place}}
+use Rattle.fm_base_machine.{specs.Functions.{put}, proofs.Putting.{put_here, put_else, put_cases}}
+use Rattle.fm_rule_facts.specs.{declared.step.Step.TheVariants.{SweepsGiven, ResetsGiven}, Parts.{unread}, Views.{View, In, given_of, limit_of}}
+use Rattle.fm_rule_facts.specs.{Closes.{passed_of, advanced, one_more}, Steps.{part, entries, noted, none_noted}}
+use Rattle.fm_rule_facts.{specs.{Facts.{Memory, HasSwept, IsSweeping, Owns, Rule}, Moves.{MayStep, MayStore}}, proofs.Retiring.{world_reset}}
+use Rattle.fm_rule_facts.proofs.{Shown.{shows_given}, Keeping.{set_there}, Ruling.{page_like}}
+use Rattle.fm_rule_steps.proofs.{Closes.{in_advanced, once_advanced}, Quiet.{looks_on}, Knowing.{own}, Plain.{Made}}
 use Rattle.fm_rule_steps.proofs.Sweeping.{its, its_sweep, ended_now, shut_now, apart, fit, its_count, memory_of, sweep_on, visits}
 
 module _ (z : Shape) (me : ℕ) (v : View) (l : v.live ≡ true) (a : ArenaId) (k : ℕ) (has : passed_of v.sweeps a ≡ Some k)

@@ -1,34 +1,20 @@
 -- The words of a pool whose only pass has no slot in its hand show the history.
 use Rattle.std.proofs.Common.{◌≡◌, ◌≢◌, ◌⊎◌, ℕ, zero, suc, ◌+◌, ◌/◌, Option, Some, None, ◌<◌, ◌≤◌, Bool, true, false, List, [], get_or, sym, refl, ap, ◌∙◌, subst, arith, inl, inr, ⊎_elim}
-use Rattle.std.proofs.lemmas.Bool.{cases_lt}
+use Rattle.std.{proofs.lemmas.{Bool.{cases_lt}, Nat.Bits.{bit_at-lt}}, specs.Int.{bit_at}}
 use mathlib.Core.Logic.{dite}
 use mathlib.Core.Option.{some}
 use native.Mathlib.Decide.{ℕ_discrete}
 use lib.ListN.{get_elem?}
-use Rattle.std.specs.Int.{bit_at}
-use Rattle.std.proofs.lemmas.Nat.Bits.{bit_at-lt}
-use Rattle.fm_words.specs.declared.shape.Shape.{Shape}
-use Rattle.fm_words.specs.declared.session.Session.{Session as Decoded}
-use Rattle.fm_words.specs.Places.{at as place_at, session, slot_bits}
+use Rattle.fm_words.specs.{declared.{shape.Shape.{Shape}, session.Session.{Session as Decoded}}, Places.{at as place_at, session, slot_bits}}
 use Rattle.fm_words.specs.Sessions.{session_of, free_session}
-use Rattle.fm_base.specs.declared.arena_id.ArenaId.{ArenaId}
-use Rattle.fm_base.specs.Arenas.{Life, Arena, Alive, Closing, Ended, State, has_arena, arena_of, kind_number}
-use Rattle.fm_base.specs.Histories.{state_after}
-use Rattle.fm_base.proofs.Lookup.{arena_of-none}
-use Rattle.fm_base_machine.proofs.Putting.{one_arena}
-use Rattle.fm_base_machine.specs.Functions.{Stage, Fresh, Lives, Closes, Over, stage_of}
-use Rattle.fm_rule_facts.specs.Hands.{nothing, HasSlot}
-use Rattle.fm_rule_facts.specs.Views.{View, Fits, limit_of}
-use Rattle.fm_rule_facts.specs.Words.{kept}
-use Rattle.fm_rule_facts.specs.Loans.{loans_of, HasPart}
-use Rattle.fm_rule_facts.specs.Facts.{Session, free, live, shut, session_code, own_map, IsStanding, Rule}
-use Rattle.fm_rule_facts.proofs.Moving.{lent_mapped, mapped_lent}
-use Rattle.fm_rule_facts.specs.Rest.{IsNamed, IsUsed, ShowsSlot, ShowsWord, ShowsHistory}
-use Rattle.fm_rule_facts.proofs.Sessions.{standing_known, standing_shown, free_apart}
-use Rattle.fm_rule_facts.proofs.Sounding.{opened_life}
+use Rattle.fm_base.specs.{declared.arena_id.ArenaId.{ArenaId}, Arenas.{Life, Arena, Alive, Closing, Ended, State, has_arena, arena_of, kind_number}}
+use Rattle.fm_base.{specs.Histories.{state_after}, proofs.Lookup.{arena_of-none}}
+use Rattle.fm_base_machine.{proofs.{Putting.{one_arena}, Allowing.{not_fresh, is_alive}}, specs.Functions.{Stage, Fresh, Lives, Closes, Over, stage_of}}
+use Rattle.fm_rule_facts.specs.{Hands.{nothing, HasSlot}, Views.{View, Fits, limit_of}, Words.{kept}, Loans.{loans_of, HasPart}}
+use Rattle.fm_rule_facts.{specs.Facts.{Session, free, live, shut, session_code, own_map, IsStanding, Rule}, proofs.Moving.{lent_mapped, mapped_lent}}
+use Rattle.fm_rule_facts.{specs.Rest.{IsNamed, IsUsed, ShowsSlot, ShowsWord, ShowsHistory}, proofs.Sessions.{standing_known, standing_shown, free_apart}}
+use Rattle.fm_rule_facts.proofs.{Sounding.{opened_life}, Alone.{lonely}}
 use Rattle.fm_rule_steps.proofs.Decoding.{page_word_of, blank_block, kept_else, kept_last, kept_least, alive_session, shut_session, free_read, live_read, shut_read, stands_not}
-use Rattle.fm_rule_facts.proofs.Alone.{lonely}
-use Rattle.fm_base_machine.proofs.Allowing.{not_fresh, is_alive}
 
 module _ (z : Shape) (me : ℕ) (v : View) (l : v.live ≡ true) (ws : List ℕ) (vs : List View) (r : Rule z ws vs) (at : get_elem? vs me ≡ some v)
     (whole : v.whole ≡ true) (none : v.hand ≡ nothing) where

@@ -1,40 +1,22 @@
 -- The step that retires an arena that was swept.
 use Rattle.std.proofs.Common.{◌≡◌, ◌≢◌, ◌⊎◌, ℕ, ◌+◌, ◌<◌, ◌==◌, Bool, true, false, List, [], set, sym, refl, ap, ◌∙◌, subst, arith, inl, inr, Some, None, Option}
+use Rattle.std.{specs.Int.{bit_at}, proofs.lemmas.Nat.Bits.{bit_at-lt}}
 use mathlib.Core.Option.{some}
 use mathlib.Core.Logic.{dite}
 use native.Mathlib.Decide.{ℕ_discrete}
 use lib.ListN.{get_elem?}
-use Rattle.std.specs.Int.{bit_at}
-use Rattle.std.proofs.lemmas.Nat.Bits.{bit_at-lt}
-use Rattle.fm_words.specs.declared.shape.Shape.{Shape}
-use Rattle.fm_words.specs.Places.{at as place_at, session}
-use Rattle.fm_base.specs.declared.arena_id.ArenaId.{ArenaId}
-use Rattle.fm_base.specs.Calls.{Entry}
-use Rattle.fm_base_machine.specs.Functions.{Over, put}
-use Rattle.fm_base_machine.proofs.Putting.{put_here, put_else, put_cases}
-use Rattle.fm_rule_facts.specs.declared.step.Step.TheVariants.{Retires}
-use Rattle.fm_rule_facts.specs.Hands.{Hand, nothing, HasSlot, IsTaker, hand_retired}
-use Rattle.fm_rule_facts.specs.Views.{View, limit_of}
-use Rattle.fm_rule_facts.specs.Words.{free_word}
-use Rattle.fm_rule_facts.specs.Closes.{passed_of, dropped}
-use Rattle.fm_rule_facts.specs.Steps.{part, entries, noted, none_noted}
-use Rattle.fm_rule_facts.specs.Loans.{loans_of}
+use Rattle.fm_words.specs.{declared.shape.Shape.{Shape}, Places.{at as place_at, session}}
+use Rattle.fm_base.specs.{declared.arena_id.ArenaId.{ArenaId}, Calls.{Entry}}
+use Rattle.fm_base_machine.{specs.Functions.{Over, put}, proofs.Putting.{put_here, put_else, put_cases}}
+use Rattle.fm_rule_facts.specs.{declared.step.Step.TheVariants.{Retires}, Hands.{Hand, nothing, HasSlot, IsTaker, hand_retired}, Views.{View, limit_of}}
+use Rattle.fm_rule_facts.specs.{Words.{free_word}, Closes.{passed_of, dropped}, Steps.{part, entries, noted, none_noted}, Loans.{loans_of}}
 use Rattle.fm_rule_facts.specs.Facts.{Memory, Session, free, shut, Owners, IsHeld, HasInHand, HasSweep, KeepsSlot, Owns, Rule, HasSwept}
-use Rattle.fm_rule_facts.specs.Moves.{MayMake, StaysEnded, Moved, Same, KeepsSweeps, KeepsSlots, MayStore}
-use Rattle.fm_rule_facts.proofs.Founds.{no_draw}
-use Rattle.fm_rule_facts.proofs.Keeping.{closing_on, sweeping_on}
-use Rattle.fm_rule_facts.specs.Parts.{unread}
-use Rattle.fm_rule_facts.proofs.Living.{pages_retire}
-use Rattle.fm_rule_facts.proofs.Retiring.{ended_bit, world_retire}
-use Rattle.fm_rule_facts.proofs.Shown.{shows_session}
-use Rattle.fm_rule_facts.proofs.Ruling.{keeps}
-use Rattle.fm_rule_steps.proofs.Reading.{eqb_true, eqb_false}
-use Rattle.fm_rule_steps.proofs.Closes.{in_dropped, dropped_in, once_dropped}
-use Rattle.fm_rule_steps.proofs.Sweeping.{its, its_sweep, ended_now, shut_now, mine_now, apart, fit}
-use Rattle.fm_rule_steps.proofs.Knowing.{own}
-use Rattle.fm_rule_steps.proofs.Staying.{same_but, pages_there, numbers_stay, number_stays}
-use Rattle.fm_rule_steps.proofs.Plain.{Made}
-use Rattle.fm_rule_facts.proofs.Leaving.{callers_stay, numbers_left, pages_left}
+use Rattle.fm_rule_facts.{specs.Moves.{MayMake, StaysEnded, Moved, Same, KeepsSweeps, KeepsSlots, MayStore}, proofs.Founds.{no_draw}}
+use Rattle.fm_rule_facts.{proofs.{Keeping.{closing_on, sweeping_on}, Living.{pages_retire}, Retiring.{ended_bit, world_retire}}, specs.Parts.{unread}}
+use Rattle.fm_rule_facts.proofs.{Shown.{shows_session}, Ruling.{keeps}, Leaving.{callers_stay, numbers_left, pages_left}}
+use Rattle.fm_rule_steps.proofs.{Reading.{eqb_true, eqb_false}, Closes.{in_dropped, dropped_in, once_dropped}}
+use Rattle.fm_rule_steps.proofs.{Sweeping.{its, its_sweep, ended_now, shut_now, mine_now, apart, fit}, Knowing.{own}}
+use Rattle.fm_rule_steps.proofs.{Staying.{same_but, pages_there, numbers_stay, number_stays}, Plain.{Made}}
 
 module _ (z : Shape) (me : ℕ) (v : View) (l : v.live ≡ true) (sh : v.shape ≡ z) (none : v.hand ≡ nothing) (idle : v.swept ≡ unread) (a : ArenaId)
     (has : passed_of v.sweeps a ≡ Some (z.reach + 1)) (ws : List ℕ) (vs : List View) (r : Rule z ws vs) (at : get_elem? vs me ≡ some v) where

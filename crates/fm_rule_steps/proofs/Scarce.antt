@@ -1,21 +1,14 @@
 -- How many pages of a group aren't lent where its word of page bits is 0.
 use Rattle.std.proofs.Common.{◌≡◌, ◌≢◌, ℕ, zero, suc, ◌+◌, ◌/◌, ◌%◌, ◌<◌, ◌≤◌, ◌==◌, Bool, true, false, if◌then◌else◌, List, [], ◌∷◌, length, sym, refl, ap, ◌∙◌, subst, arith, inl, inr, ⊎_elim, eq-eqb}
-use Rattle.std.specs.Prelude.{Contains}
-use Rattle.std.proofs.lemmas.List.{append-nil}
+use Rattle.std.{specs.{Prelude.{Contains}, Int.{bit_at}}, proofs.lemmas.{List.{append-nil}, Nat.Bits.{bit_at-zero}}}
 use mathlib.Core.Option.{some, some-injective}
 use lib.ListN.{get_elem?}
-use Rattle.std.specs.Int.{bit_at}
-use Rattle.std.proofs.lemmas.Nat.Bits.{bit_at-zero}
-use Rattle.fm_words.specs.declared.shape.Shape.{Shape}
+use Rattle.fm_words.specs.{declared.shape.Shape.{Shape}, Bits.{number_at, bit_of}}
 use Rattle.fm_base.specs.Finds.{Find, group_of}
-use Rattle.fm_words.specs.Bits.{number_at, bit_of}
-use Rattle.fm_rule_facts.proofs.Groups.{in_group, none_from}
-use Rattle.fm_rule_facts.specs.Loans.{Loan, loans_of}
+use Rattle.fm_rule_facts.{proofs.Groups.{in_group, none_from}, specs.Loans.{Loan, loans_of}}
 use Rattle.fm_rule_facts.specs.Views.{View, In, is_lent, one_unless, unlent_from, unlent_in, pages_in, FewLeft}
-use Rattle.fm_rule_facts.specs.Facts.{Berth, loose, claimed, mapped, unmapped, IsAt, HasPage, IsLone, Owns, Rule}
-use Rattle.fm_rule_facts.proofs.Lending.{loan_cases}
-use Rattle.fm_rule_facts.proofs.Counting.{Distinct, at_most}
-use Rattle.fm_rule_facts.proofs.Alone.{lonely}
+use Rattle.fm_rule_facts.{specs.Facts.{Berth, loose, claimed, mapped, unmapped, IsAt, HasPage, IsLone, Owns, Rule}, proofs.Lending.{loan_cases}}
+use Rattle.fm_rule_facts.proofs.{Counting.{Distinct, at_most}, Alone.{lonely}}
 use Rattle.fm_rule_steps.proofs.Knowing.{own}
 
 -- a loan's block is lent

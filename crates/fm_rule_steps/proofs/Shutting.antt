@@ -4,38 +4,19 @@ use mathlib.Core.Option.{some}
 use mathlib.Core.Logic.{dite}
 use lib.ListN.{get_elem?}
 use prog.Atomic.{either}
-use Rattle.fm_words.specs.declared.shape.Shape.{Shape}
-use Rattle.fm_words.specs.Places.{at as place_at, session}
-use Rattle.fm_base.specs.declared.arena_id.ArenaId.{ArenaId}
-use Rattle.fm_base.specs.declared.kind.Kind.TheVariants.{Global, Automatic}
-use Rattle.fm_base.specs.Arenas.{MayUse}
-use Rattle.fm_base.specs.Calls.{Shut, Reply, Fine, Closed, Held, Entry, entry_of}
-use Rattle.fm_base.specs.Finds.{Close}
-use Rattle.fm_base_machine.specs.Functions.{Fresh, Lives, Closes, Over, put, put_at, shut_stage}
-use Rattle.fm_base_machine.specs.Steps.{moved_by}
+use Rattle.fm_words.specs.{declared.shape.Shape.{Shape}, Places.{at as place_at, session}}
+use Rattle.fm_base.specs.{declared.{arena_id.ArenaId.{ArenaId}, kind.Kind.TheVariants.{Global, Automatic}}, Arenas.{MayUse}}
+use Rattle.fm_base.specs.{Calls.{Shut, Reply, Fine, Closed, Held, Entry, entry_of}, Finds.{Close}}
+use Rattle.fm_base_machine.specs.{Functions.{Fresh, Lives, Closes, Over, put, put_at, shut_stage}, Steps.{moved_by}}
 use Rattle.fm_base_machine.proofs.Putting.{put_else, at_here, at_other, one_arena, put_cases, at_cases}
-use Rattle.fm_rule_facts.specs.declared.step.Step.TheVariants.{Shuts}
-use Rattle.fm_rule_facts.specs.Views.{View, In, IsKnown, limit_of}
-use Rattle.fm_rule_facts.specs.Words.{alive_word, closing_word, alive_holds, shut_found}
-use Rattle.fm_rule_facts.specs.Closes.{begun, walk_of}
-use Rattle.fm_rule_facts.specs.Steps.{part, entries, noted, none_noted}
+use Rattle.fm_rule_facts.specs.{declared.step.Step.TheVariants.{Shuts}, Views.{View, In, IsKnown, limit_of}}
+use Rattle.fm_rule_facts.specs.{Words.{alive_word, closing_word, alive_holds, shut_found}, Closes.{begun, walk_of}, Steps.{part, entries, noted, none_noted}}
 use Rattle.fm_rule_facts.specs.Facts.{Memory, free, live, shut, Owners, IsClosing, HasClose, Rule}
-use Rattle.fm_rule_facts.specs.Moves.{MayMake, StaysEnded, Moved, Same, KeepsHolds, MayStep}
-use Rattle.fm_rule_facts.proofs.Keeping.{closing_on, sweeping_on}
-use Rattle.fm_rule_facts.proofs.Sessions.{free_apart}
-use Rattle.fm_rule_facts.proofs.Worlds.{world_shut}
-use Rattle.fm_rule_facts.specs.Loans.{loans_of}
-use Rattle.fm_rule_facts.proofs.Living.{pages_shut}
-use Rattle.fm_rule_facts.proofs.Ruling.{page_like, keeps}
-use Rattle.fm_rule_facts.proofs.Shown.{shows_session}
-use Rattle.fm_rule_facts.proofs.Gripping.{by_hand, same_handles}
-use Rattle.fm_rule_steps.proofs.Reading.{Says, says, shut_says, alive_read, alive_one, reads_alive, eqb_true, eqb_false}
-use Rattle.fm_rule_steps.proofs.Quiet.{answers_on}
-use Rattle.fm_rule_steps.proofs.Knowing.{own, known_now}
-use Rattle.fm_rule_steps.proofs.Staying.{same_but, hand_still, sweeps_still, slots_still, numbers_stay, number_stays}
-use Rattle.fm_rule_steps.proofs.Plain.{Made}
-use Rattle.fm_rule_facts.proofs.Founds.{no_draw}
-use Rattle.fm_rule_facts.proofs.Leaving.{callers_stay, numbers_left, pages_left}
+use Rattle.fm_rule_facts.{specs.Moves.{MayMake, StaysEnded, Moved, Same, KeepsHolds, MayStep}, proofs.Keeping.{closing_on, sweeping_on}}
+use Rattle.fm_rule_facts.{proofs.{Sessions.{free_apart}, Worlds.{world_shut}, Living.{pages_shut}, Ruling.{page_like, keeps}}, specs.Loans.{loans_of}}
+use Rattle.fm_rule_facts.proofs.{Shown.{shows_session}, Gripping.{by_hand, same_handles}, Founds.{no_draw}, Leaving.{callers_stay, numbers_left, pages_left}}
+use Rattle.fm_rule_steps.proofs.{Reading.{Says, says, shut_says, alive_read, alive_one, reads_alive, eqb_true, eqb_false}, Quiet.{answers_on}}
+use Rattle.fm_rule_steps.proofs.{Knowing.{own, known_now}, Staying.{same_but, hand_still, sweeps_still, slots_still, numbers_stay, number_stays}, Plain.{Made}}
 
 module _ (z : Shape) (me : ℕ) (v : View) (l : v.live ≡ true) (a : ArenaId) (known : IsKnown v a) (use_it : MayUse a v.caller) (not_global : a.kind ≢ Global)
     (ws : List ℕ) (vs : List View) (r : Rule z ws vs) (at : get_elem? vs me ≡ some v) where

@@ -1,27 +1,17 @@
 -- The rule over the making of notes and their being met.
 use Rattle.std.proofs.Common.{◌<◌, ◌≡◌, ◌≢◌, ◌⊎◌, ℕ, zero, suc, Bool, if◌then◌else◌, arith, ◌∙◌, List, [], ◌∷◌, ◌++◌, length, set, sym, refl, ap, subst, inl, inr, ⊎_elim}
+use Rattle.std.specs.Int.{bit_at}
 use mathlib.Core.Option.{some, some-injective, some-ne-none}
 use lib.ListN.{get_elem?}
 use Rattle.atomic_table.proofs.Lists.{at_set, at_longer}
-use Rattle.std.specs.Int.{bit_at}
 use Rattle.fm_words.specs.declared.shape.Shape.{Shape}
-use Rattle.fm_base.specs.declared.arena_id.ArenaId.{ArenaId}
+use Rattle.fm_base.specs.{declared.{arena_id.ArenaId.{ArenaId}, caller.Caller.{Caller}}, Finds.{Gathered}}
 use Rattle.fm_base_machine.specs.Functions.{Closes, Over}
-use Rattle.fm_rule_facts.specs.Views.{Met, View, In, all_gathered, brought}
-use Rattle.fm_rule_facts.specs.Splits.{note, met, nothing_seen, IsBare}
+use Rattle.fm_rule_facts.specs.{Views.{Met, View, In, all_gathered, brought}, Splits.{note, met, nothing_seen, IsBare}}
 use Rattle.fm_rule_facts.specs.Facts.{free, shut, HasDraw, HasClose, HasSweep, KeepsSlot, Somewhere, Begins, Knows, Rule, IsCounted, Berth, loose, claimed, mapped, unmapped, IsAt, HasPage, WasDrawn, bit_of, KeepsCaller, KeepsNumber, WantsNumber, IsLooked, IsUsed, Shows, wanted, IsSpent}
-use Rattle.fm_rule_facts.specs.Holds.{grips, holds_of, how_many, total}
-use Rattle.fm_rule_facts.proofs.Ruling.{page_like}
-use Rattle.fm_base.specs.declared.caller.Caller.{Caller}
-use Rattle.fm_base.specs.Finds.{Gathered}
-use Rattle.fm_rule_facts.proofs.Handing.{hand_view}
-use Rattle.fm_rule_facts.proofs.Looking.{looked_on, looked_bare}
-use Rattle.fm_rule_facts.proofs.Founds.{counted_bare}
-use Rattle.fm_rule_facts.specs.Gone.{IsFounded}
-use Rattle.fm_rule_facts.proofs.Gone.{founded_bare}
-use Rattle.fm_rule_facts.proofs.Keeping.{stays_somewhere}
-use Rattle.fm_rule_facts.proofs.Summing.{total-set, total-snoc}
-use Rattle.fm_rule_facts.proofs.Working.{work_as}
+use Rattle.fm_rule_facts.{specs.Holds.{grips, holds_of, how_many, total}, proofs.{Ruling.{page_like}, Handing.{hand_view}, Looking.{looked_on, looked_bare}}}
+use Rattle.fm_rule_facts.{proofs.{Founds.{counted_bare}, Gone.{founded_bare}, Keeping.{stays_somewhere}}, specs.Gone.{IsFounded}}
+use Rattle.fm_rule_facts.proofs.{Summing.{total-set, total-snoc}, Working.{work_as}}
 
 at_end : {A : Type 0} (l : List A) (a b : A) (j : ℕ) → get_elem? (l ++ a ∷ []) j ≡ some b → (get_elem? l j ≡ some b) ⊎ ((j ≡ length l) × (a ≡ b))
 at_end [] a b zero e = inr (refl, some-injective a b e)

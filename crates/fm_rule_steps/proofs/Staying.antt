@@ -1,24 +1,16 @@
 -- What stays over a step that leaves it, as the rule wants it of the step.
-use Rattle.std.proofs.Common.{◌≡◌, ◌≢◌, ℕ, true, List, ◌++◌, sym, refl, ap, ◌∙◌, subst, arith, inl, inr, Option, ⊎_elim, ◌/◌, ◌%◌}
+use Rattle.std.{proofs.Common.{◌≡◌, ◌≢◌, ℕ, true, List, ◌++◌, sym, refl, ap, ◌∙◌, subst, arith, inl, inr, Option, ⊎_elim, ◌/◌, ◌%◌}, specs.Int.{bit_at}}
 use mathlib.Core.Option.{some}
 use lib.ListN.{get_elem?}
 use Rattle.fm_words.specs.declared.shape.Shape.{Shape}
-use Rattle.fm_base.specs.declared.caller.Caller.{Caller}
-use Rattle.fm_base.specs.declared.arena_id.ArenaId.{ArenaId}
-use Rattle.fm_base.specs.Calls.{Entry}
-use Rattle.fm_base.specs.Finds.{Close, Gathered, Sweep}
-use Rattle.fm_base_machine.specs.Functions.{Over, Machine}
-use Rattle.fm_base_machine.specs.Steps.{moved_by}
-use Rattle.std.specs.Int.{bit_at}
+use Rattle.fm_base.specs.{declared.{caller.Caller.{Caller}, arena_id.ArenaId.{ArenaId}}, Calls.{Entry}, Finds.{Close, Gathered, Sweep}}
+use Rattle.fm_base_machine.specs.{Functions.{Over, Machine}, Steps.{moved_by}}
 use native.Mathlib.Decide.{ℕ_discrete}
 use Rattle.fm_rule_facts.specs.Hands.{Hand, HasSlot, Number, no_number, number_taken, number_learnt, number_drawn, number_left, number_joined, HasNumberIn, most_draws}
-use Rattle.fm_rule_facts.proofs.Handing.{hand_on}
-use Rattle.fm_rule_facts.specs.Views.{View, In, limit_of, all_gathered, brought}
+use Rattle.fm_rule_facts.{proofs.Handing.{hand_on}, specs.Views.{View, In, limit_of, all_gathered, brought}}
 use Rattle.fm_rule_facts.specs.Facts.{Memory, free, shut, Owners, HasInHand, HasSweep, KeepsSlot, Owns, Rule, WasDrawn, bit_of, next_of, IsLoose, KeepsNumber, HasNumberInHand, IsUndrawn}
 use Rattle.fm_rule_facts.specs.Moves.{Moved, Same, KeepsSweeps, KeepsSlots, KeepsPages, NumbersOn, KeepsHand}
-use Rattle.fm_rule_facts.proofs.Keeping.{silent_on, drawn_still, drawn_before}
-use Rattle.fm_rule_facts.specs.Parts.{Mapping, Swept}
-use Rattle.fm_rule_facts.proofs.Ruling.{page_like}
+use Rattle.fm_rule_facts.{proofs.{Keeping.{silent_on, drawn_still, drawn_before}, Ruling.{page_like}}, specs.Parts.{Mapping, Swept}}
 use Rattle.fm_rule_steps.proofs.Knowing.{own}
 
 -- a step leaves all but these

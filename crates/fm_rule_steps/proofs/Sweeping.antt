@@ -5,29 +5,15 @@ use mathlib.Core.Logic.{dite}
 use native.Mathlib.Decide.{ℕ_discrete}
 use lib.ListN.{get_elem?}
 use Rattle.fm_words.specs.declared.shape.Shape.{Shape}
-use Rattle.fm_base.specs.declared.arena_id.ArenaId.{ArenaId}
-use Rattle.fm_base.specs.Calls.{Entry}
-use Rattle.fm_base.specs.Finds.{Sweep}
-use Rattle.fm_base_machine.specs.Functions.{Over, Machine}
-use Rattle.fm_base_machine.specs.Steps.{moved_by}
-use Rattle.fm_rule_facts.specs.Loans.{loans_of}
-use Rattle.fm_rule_facts.specs.Parts.{Swept, wiping}
-use Rattle.fm_rule_facts.specs.Views.{View, Fits, In, limit_of}
-use Rattle.fm_rule_facts.specs.Holds.{holds_of, all_holds}
-use Rattle.fm_rule_facts.specs.Closes.{passed_of, advanced, one_more}
-use Rattle.fm_rule_facts.specs.Steps.{none_noted}
+use Rattle.fm_base.specs.{declared.arena_id.ArenaId.{ArenaId}, Calls.{Entry}, Finds.{Sweep}}
+use Rattle.fm_base_machine.specs.{Functions.{Over, Machine}, Steps.{moved_by}}
+use Rattle.fm_rule_facts.specs.{Loans.{loans_of}, Parts.{Swept, wiping}, Views.{View, Fits, In, limit_of}, Holds.{holds_of, all_holds}}
+use Rattle.fm_rule_facts.specs.{Closes.{passed_of, advanced, one_more}, Steps.{none_noted}}
 use Rattle.fm_rule_facts.specs.Facts.{Memory, Owners, shut, Berth, loose, claimed, mapped, unmapped, IsAt, IsOnce, IsNext, HasSwept, HasPage, IsSweeping, HasSweep, Owns, Shows, World, Rule}
-use Rattle.fm_rule_facts.specs.Moves.{MayMake, MayLend, NoEnd, Moved, KeepsPages}
-use Rattle.fm_rule_facts.proofs.Founds.{no_draw}
-use Rattle.fm_rule_facts.proofs.Sessions.{ended_apart}
-use Rattle.fm_rule_facts.proofs.Retiring.{ended_fits}
-use Rattle.fm_rule_facts.proofs.Ruling.{PagesAfter, keeps}
-use Rattle.fm_rule_steps.proofs.Closes.{Found, passed_of-found, count_of, in_advanced, advanced_in}
-use Rattle.fm_rule_steps.proofs.Knowing.{own, closes_still}
-use Rattle.fm_rule_steps.proofs.Staying.{same_but, numbers_stay, number_stays}
-use Rattle.fm_rule_steps.proofs.Plain.{Made}
-use Rattle.fm_rule_facts.proofs.Leaving.{berths_moved}
-use Rattle.fm_rule_facts.proofs.Shown.{shows_same}
+use Rattle.fm_rule_facts.{specs.Moves.{MayMake, MayLend, NoEnd, Moved, KeepsPages}, proofs.{Founds.{no_draw}, Sessions.{ended_apart}, Retiring.{ended_fits}}}
+use Rattle.fm_rule_facts.proofs.{Ruling.{PagesAfter, keeps}, Leaving.{berths_moved}, Shown.{shows_same}}
+use Rattle.fm_rule_steps.proofs.{Closes.{Found, passed_of-found, count_of, in_advanced, advanced_in}, Knowing.{own, closes_still}}
+use Rattle.fm_rule_steps.proofs.{Staying.{same_but, numbers_stay, number_stays}, Plain.{Made}}
 
 -- where the sweep of the arena has come so far
 module _ (z : Shape) (me : ℕ) (v : View) (l : v.live ≡ true) (a : ArenaId) (k : ℕ) (has : passed_of v.sweeps a ≡ Some k)

@@ -1,38 +1,22 @@
 -- The steps that take a slot by its bit, and learn its next generation.
 use Rattle.std.proofs.Common.{◌≡◌, ◌≢◌, ℕ, ◌-◌, ◌/◌, ◌^◌, ◌<◌, ◌==◌, Bool, true, false, if◌then◌else◌, List, [], length, set, get_or, sym, refl, ap, ◌∙◌, subst, arith, inl, inr, ne_eqb, Some}
+use Rattle.std.specs.Int.{bit_at}
 use mathlib.Core.Option.{some}
 use mathlib.Core.Logic.{dite}
 use native.Mathlib.Decide.{ℕ_discrete}
 use lib.ListN.{get_elem?}
 use prog.Atomic.{either}
-use Rattle.std.specs.Int.{bit_at}
-use Rattle.fm_words.specs.declared.shape.Shape.{Shape}
-use Rattle.fm_words.specs.Bits.{IsWithout}
-use Rattle.fm_words.specs.Places.{at as place_at, session, slot_bits as bits_place}
-use Rattle.fm_words.specs.Sessions.{session_word}
+use Rattle.fm_words.specs.{declared.shape.Shape.{Shape}, Bits.{IsWithout}, Places.{at as place_at, session, slot_bits as bits_place}, Sessions.{session_word}}
 use Rattle.fm_base.specs.Finds.{is_page, Find, TakesSlot as Taking}
-use Rattle.fm_base_machine.specs.Functions.{put}
-use Rattle.fm_base_machine.proofs.Putting.{put_here, put_else}
-use Rattle.fm_rule_facts.specs.declared.step.Step.TheVariants.{TakesSlot, LearnsGeneration}
-use Rattle.fm_rule_facts.specs.Hands.{nothing, taken, learnt, HasSlot, IsTaker, hand_taken}
-use Rattle.fm_rule_facts.specs.Gone.{FoundBy}
-use Rattle.fm_rule_facts.specs.Views.{View, In}
-use Rattle.fm_rule_facts.specs.Steps.{part, entries, noted, none_noted, note_of}
+use Rattle.fm_base_machine.{specs.Functions.{put}, proofs.Putting.{put_here, put_else}}
+use Rattle.fm_rule_facts.specs.{declared.step.Step.TheVariants.{TakesSlot, LearnsGeneration}, Hands.{nothing, taken, learnt, HasSlot, IsTaker, hand_taken}}
+use Rattle.fm_rule_facts.specs.{Gone.{FoundBy}, Views.{View, In}, Steps.{part, entries, noted, none_noted, note_of}}
 use Rattle.fm_rule_facts.specs.Facts.{Memory, Session, free, session_code, Owners, HasInHand, KeepsSlot, Owns, Rule}
-use Rattle.fm_rule_facts.specs.Moves.{Moved, Same, KeepsSlots, LearnsSlots, MayStep}
-use Rattle.fm_rule_facts.proofs.Founds.{no_draw, note_none_drawn, note_no_number}
-use Rattle.fm_rule_facts.specs.Words.{kept, free_word}
-use Rattle.fm_rule_facts.proofs.Worlds.{world_bits}
-use Rattle.fm_rule_facts.proofs.Shown.{shows_same, shows_bits}
-use Rattle.fm_rule_facts.proofs.Ruling.{AreLooked, unlooked, page_like, keeps, keeps_with}
-use Rattle.fm_rule_steps.proofs.Reading.{by_bit}
-use Rattle.fm_rule_steps.proofs.Telling.{some_bit, idle, busy, none_left}
-use Rattle.fm_rule_steps.proofs.Quiet.{quiet}
-use Rattle.fm_rule_steps.proofs.Knowing.{own}
-use Rattle.fm_rule_steps.proofs.Staying.{same_but, sweeps_still, numbers_stay, number_stays}
-use Rattle.fm_rule_steps.proofs.Plain.{Made}
-use Rattle.fm_rule_facts.proofs.Leaving.{calls_moved, bits_moved}
-use Rattle.fm_rule_facts.proofs.Working.{work_with}
+use Rattle.fm_rule_facts.{specs.Moves.{Moved, Same, KeepsSlots, LearnsSlots, MayStep}, proofs.Founds.{no_draw, note_none_drawn, note_no_number}}
+use Rattle.fm_rule_facts.{specs.Words.{kept, free_word}, proofs.{Worlds.{world_bits}, Shown.{shows_same, shows_bits}}}
+use Rattle.fm_rule_facts.proofs.{Ruling.{AreLooked, unlooked, page_like, keeps, keeps_with}, Leaving.{calls_moved, bits_moved}, Working.{work_with}}
+use Rattle.fm_rule_steps.proofs.{Reading.{by_bit}, Telling.{some_bit, idle, busy, none_left}, Quiet.{quiet}, Knowing.{own}}
+use Rattle.fm_rule_steps.proofs.{Staying.{same_but, sweeps_still, numbers_stay, number_stays}, Plain.{Made}}
 
 module _ (z : Shape) (me : ℕ) (v : View) (l : v.live ≡ true) (ws : List ℕ) (vs : List View) (r : Rule z ws vs) (at : get_elem? vs me ≡ some v) where
   abbrev mine : Owns z r.history r.memory r.machine r.owners me v

@@ -1,41 +1,22 @@
 -- The step that takes a number by its bit.
 use Rattle.std.proofs.Common.{◌≡◌, ◌≢◌, ℕ, ◌/◌, ◌%◌, ◌<◌, ◌==◌, Bool, true, false, if◌then◌else◌, List, [], length, get_or, sym, refl, ap, ◌∙◌, subst, arith, inl, inr, ⊎_elim}
+use Rattle.std.{specs.Int.{bit_at}, proofs.lemmas.Nat.Bits.{bit_at-zero}}
 use mathlib.Core.Option.{some}
 use mathlib.Core.Logic.{dite}
 use native.Mathlib.Decide.{ℕ_discrete}
 use lib.ListN.{get_elem?}
 use prog.Atomic.{either}
-use Rattle.std.specs.Int.{bit_at}
-use Rattle.std.proofs.lemmas.Nat.Bits.{bit_at-zero}
-use Rattle.fm_words.specs.declared.shape.Shape.{Shape}
-use Rattle.fm_words.specs.Bits.{IsWithout}
-use Rattle.fm_words.specs.Places.{at as place_at, groups, number_bits}
-use Rattle.fm_base.specs.declared.caller.Caller.{Caller}
-use Rattle.fm_base.specs.Finds.{Find, TakesNumber as TakingNumber}
-use Rattle.fm_base_machine.specs.Functions.{put}
-use Rattle.fm_base_machine.proofs.Putting.{put_here, put_else}
+use Rattle.fm_words.specs.{declared.shape.Shape.{Shape}, Bits.{IsWithout}, Places.{at as place_at, groups, number_bits}}
+use Rattle.fm_base.specs.{declared.caller.Caller.{Caller}, Finds.{Find, TakesNumber as TakingNumber, Gathered, is_slot, is_page, group_of}}
+use Rattle.fm_base_machine.{specs.Functions.{put}, proofs.Putting.{put_here, put_else}}
 use Rattle.fm_rule_facts.specs.declared.step.Step.TheVariants.{TakesNumber}
 use Rattle.fm_rule_facts.specs.Hands.{Number, no_number, number_taken, number_learnt, number_drawn, number_left, number_joined, number_taken_by, HasNumberIn}
-use Rattle.fm_rule_facts.specs.Views.{View}
-use Rattle.fm_rule_facts.specs.Steps.{part, entries, noted, note_of, number_at}
-use Rattle.fm_rule_facts.specs.Facts.{bit_of, next_of, KeepsNumber, HasNumberInHand, Owns, Rule}
-use Rattle.fm_rule_facts.specs.Moves.{MayStep}
+use Rattle.fm_rule_facts.specs.{Views.{View, In, all_gathered}, Steps.{part, entries, noted, note_of, number_at}}
+use Rattle.fm_rule_facts.specs.Facts.{bit_of, next_of, KeepsNumber, HasNumberInHand, Owns, Rule, Somewhere, IsUsed, used, wanted, full, IsSpent}
+use Rattle.fm_rule_facts.{specs.Moves.{MayStep}, proofs.{Groups.{bit_here, bit_else, bit_was}, Looking.{wants_in}, Gone.{NoSlots, none_founded}}}
+use Rattle.fm_rule_facts.proofs.{Founds.{NoneDrawn, note_none_drawn}, Keeping.{gathered_all}, Shown.{shows_numbers}, Ruling.{AreLooked}}
 use mathlib.Core.Option.{some-injective}
-use Rattle.fm_base.specs.Finds.{Gathered, is_slot, is_page, group_of}
-use Rattle.fm_rule_facts.specs.Views.{In, all_gathered}
-use Rattle.fm_rule_facts.specs.Facts.{Somewhere, IsUsed, used, wanted, full, IsSpent}
-use Rattle.fm_rule_facts.proofs.Groups.{bit_here, bit_else, bit_was}
-use Rattle.fm_rule_facts.proofs.Looking.{wants_in}
-use Rattle.fm_rule_facts.proofs.Gone.{NoSlots, none_founded}
-use Rattle.fm_rule_facts.proofs.Founds.{NoneDrawn, note_none_drawn}
-use Rattle.fm_rule_facts.proofs.Keeping.{gathered_all}
-use Rattle.fm_rule_facts.proofs.Shown.{shows_numbers}
-use Rattle.fm_rule_facts.proofs.Ruling.{AreLooked}
-use Rattle.fm_rule_steps.proofs.Reading.{by_bit}
-use Rattle.fm_rule_steps.proofs.Knowing.{own}
-use Rattle.fm_rule_steps.proofs.Plain.{Made}
-use Rattle.fm_rule_steps.proofs.Quiet.{quiet}
-use Rattle.fm_rule_steps.proofs.Numbering.{turns}
+use Rattle.fm_rule_steps.proofs.{Reading.{by_bit}, Knowing.{own}, Plain.{Made}, Quiet.{quiet}, Numbering.{turns}}
 
 module _ (z : Shape) (me : ℕ) (v : View) (l : v.live ≡ true) (ws : List ℕ) (vs : List View) (r : Rule z ws vs) (at : get_elem? vs me ≡ some v) where
   abbrev mine : Owns z r.history r.memory r.machine r.owners me v

@@ -1,30 +1,19 @@
 -- What slot bits tell a pass that is known to be whole.
 use Rattle.std.proofs.Common.{◌≡◌, ◌≢◌, ℕ, zero, suc, ◌+◌, ◌/◌, ◌%◌, ◌<◌, ◌≤◌, ◌&&◌, Bool, true, false, List, [], ◌∷◌, length, Some, sym, refl, ap, ◌∙◌, subst, arith, inl, inr, ⊎_elim}
+use Rattle.std.{specs.Int.{bit_at}, proofs.lemmas.{Bool.{cases_lt}, List.{append-nil}, Nat.Bits.{bit_at-zero, bit_at_lowest, bit_at-suc}}}
 use mathlib.Core.Logic.{dite}
 use mathlib.Core.Option.{some, some-injective}
 use native.Mathlib.Decide.{ℕ_discrete}
 use lib.ListN.{get_elem?}
-use Rattle.std.specs.Int.{bit_at}
-use Rattle.std.proofs.lemmas.Bool.{cases_lt}
 use Rattle.fm_words.specs.declared.shape.Shape.{Shape}
-use Rattle.fm_base.specs.declared.arena_id.ArenaId.{ArenaId}
-use Rattle.fm_base.specs.Arenas.{Life, Alive, Closing, Ended, State, has_arena, arena_of}
-use Rattle.fm_base.specs.Histories.{state_after}
-use Rattle.fm_base_machine.specs.Functions.{Stage, Fresh, Lives, Closes, Over, stage_of}
-use Rattle.std.proofs.lemmas.List.{append-nil}
-use Rattle.std.proofs.lemmas.Nat.Bits.{bit_at-zero, bit_at_lowest, bit_at-suc}
-use Rattle.fm_base.specs.declared.caller.Caller.{Caller}
-use Rattle.fm_base.specs.Calls.{Entry}
-use Rattle.fm_base.specs.Finds.{Find}
-use Rattle.fm_rule_facts.specs.Steps.{is_empty, is_clear}
-use Rattle.fm_rule_facts.specs.Gone.{IsTakenBy, IsGone, HasFound}
+use Rattle.fm_base.specs.{declared.arena_id.ArenaId.{ArenaId}, Arenas.{Life, Alive, Closing, Ended, State, has_arena, arena_of}, Histories.{state_after}}
+use Rattle.fm_base.specs.{declared.caller.Caller.{Caller}, Calls.{Entry}, Finds.{Find}}
+use Rattle.fm_base_machine.{specs.Functions.{Stage, Fresh, Lives, Closes, Over, stage_of}, proofs.Allowing.{not_fresh}}
+use Rattle.fm_rule_facts.specs.{Steps.{is_empty, is_clear}, Gone.{IsTakenBy, IsGone, HasFound}}
 use Rattle.fm_rule_facts.specs.Hands.{Hand, nothing, taken, learnt, retired, HasSlot, IsTaker, slots_in}
 use Rattle.fm_rule_facts.specs.Views.{View, In, IsKnown, IsBusy, IsBusyIn, limit_of, state_in}
-use Rattle.fm_rule_facts.specs.Facts.{Session, free, live, shut, IsStanding, HasInHand, Owns, Rule}
-use Rattle.fm_rule_facts.proofs.Alone.{lonely}
-use Rattle.fm_rule_facts.proofs.Sessions.{free_apart}
+use Rattle.fm_rule_facts.{specs.Facts.{Session, free, live, shut, IsStanding, HasInHand, Owns, Rule}, proofs.{Alone.{lonely}, Sessions.{free_apart}}}
 use Rattle.fm_rule_steps.proofs.Knowing.{own, known_now}
-use Rattle.fm_base_machine.proofs.Allowing.{not_fresh}
 
 none_in : {A : Type 0} (xs : List A) → is_empty xs ≡ true → xs ≡ []
 none_in [] e = refl

@@ -4,39 +4,19 @@ use mathlib.Core.Option.{some}
 use mathlib.Core.Logic.{dite}
 use native.Mathlib.Decide.{ℕ_discrete}
 use lib.ListN.{get_elem?}
-use Rattle.fm_words.specs.declared.shape.Shape.{Shape}
-use Rattle.fm_words.specs.Places.{at as place_at, mark}
-use Rattle.fm_base.specs.declared.caller.Caller.{Caller}
-use Rattle.fm_base.specs.declared.arena_id.ArenaId.{ArenaId}
-use Rattle.fm_base.specs.Calls.{End, Fine, Entry, entry_of}
+use Rattle.fm_words.specs.{declared.shape.Shape.{Shape}, Places.{at as place_at, mark}}
+use Rattle.fm_base.specs.{declared.{caller.Caller.{Caller}, arena_id.ArenaId.{ArenaId}}, Calls.{End, Fine, Entry, entry_of}}
 use Rattle.fm_base.specs.Finds.{Find, Close, Sweep, Visits as Visiting}
-use Rattle.fm_base_machine.specs.Functions.{Closes, Over, put_at}
-use Rattle.fm_base_machine.specs.Steps.{moved_by}
-use Rattle.fm_base_machine.proofs.Putting.{at_here, at_other, at_cases}
-use Rattle.fm_rule_facts.specs.declared.step.Step.TheVariants.{Visits}
-use Rattle.fm_rule_facts.specs.Views.{View, In, limit_of}
-use Rattle.fm_rule_facts.specs.Words.{mark_of, own_word}
+use Rattle.fm_base_machine.{specs.{Functions.{Closes, Over, put_at}, Steps.{moved_by}}, proofs.Putting.{at_here, at_other, at_cases}}
+use Rattle.fm_rule_facts.specs.{declared.step.Step.TheVariants.{Visits}, Views.{View, In, limit_of}, Words.{mark_of, own_word}}
 use Rattle.fm_rule_facts.specs.Closes.{walk_of, passed_of, advanced, dropped, one_more, visit_by, closes_after, sweeps_after, visit_entries}
-use Rattle.fm_rule_facts.specs.Steps.{part, entries, noted, note_of}
-use Rattle.fm_rule_facts.specs.Facts.{shut, IsClosing, IsSweeping, HasClose, HasSweep, Owns, Rule, Berth, HasSwept}
-use Rattle.fm_rule_facts.specs.Moves.{MayMake, Moved, Same, MayStep}
-use Rattle.fm_rule_facts.proofs.Keeping.{closing_on, sweeping_on}
-use Rattle.fm_rule_facts.proofs.Founds.{NoDraw, note_no_draw}
-use Rattle.fm_rule_facts.proofs.Worlds.{world_end}
-use Rattle.fm_rule_facts.specs.Loans.{loans_of}
-use Rattle.fm_rule_facts.specs.Parts.{Swept, unread, named, wiping}
-use Rattle.fm_rule_facts.proofs.Living.{pages_end}
-use Rattle.fm_rule_steps.proofs.Quiet.{looks_with}
-use Rattle.fm_rule_steps.proofs.Knowing.{own}
-use Rattle.fm_rule_steps.proofs.Staying.{pages_there, same_but, sweeps_still, slots_still, numbers_stay, number_stays}
-use Rattle.fm_rule_steps.proofs.Plain.{Made}
-use Rattle.fm_rule_facts.proofs.Shown.{shows_same}
-use Rattle.fm_rule_facts.proofs.Ruling.{keeps}
-use Rattle.fm_rule_facts.specs.Holds.{one_alive}
-use Rattle.fm_rule_facts.proofs.Gripping.{same_handles}
-use Rattle.fm_rule_steps.proofs.Reading.{eqb_true, eqb_false}
+use Rattle.fm_rule_facts.specs.{Steps.{part, entries, noted, note_of}, Facts.{shut, IsClosing, IsSweeping, HasClose, HasSweep, Owns, Rule, Berth, HasSwept}}
+use Rattle.fm_rule_facts.{specs.Moves.{MayMake, Moved, Same, MayStep}, proofs.{Keeping.{closing_on, sweeping_on}, Founds.{NoDraw, note_no_draw}}}
+use Rattle.fm_rule_facts.{proofs.{Worlds.{world_end}, Living.{pages_end}, Shown.{shows_same}}, specs.{Loans.{loans_of}, Parts.{Swept, unread, named, wiping}}}
+use Rattle.fm_rule_facts.{proofs.{Ruling.{keeps}, Gripping.{same_handles}, Leaving.{calls_moved, stays_ended}}, specs.Holds.{one_alive}}
+use Rattle.fm_rule_steps.proofs.{Quiet.{looks_with}, Knowing.{own}, Staying.{pages_there, same_but, sweeps_still, slots_still, numbers_stay, number_stays}}
+use Rattle.fm_rule_steps.proofs.{Plain.{Made}, Reading.{eqb_true, eqb_false}}
 use Rattle.fm_rule_steps.proofs.Closes.{Found, passed_of-found, count_of, in_advanced, advanced_in, once_advanced, in_dropped, dropped_in, once_dropped}
-use Rattle.fm_rule_facts.proofs.Leaving.{calls_moved, stays_ended}
 
 -- a sweep is there still where another one begins
 more_swept : (z : Shape) (maps : ℕ → ℕ → Option ℕ) (cells : ℕ → ℕ → ℕ) (berth : ℕ → Berth) (j : ℕ) (c : Sweep) (cs : List Sweep) (s : Swept)

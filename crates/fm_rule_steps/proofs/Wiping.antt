@@ -1,35 +1,18 @@
 -- The way of a page in a sweep: its map word is read and cleared, its words are wiped, and it is given back.
 use Rattle.std.proofs.Common.{◌≡◌, ◌≢◌, ◌⊎◌, ℕ, ◌+◌, ◌-◌, ◌*◌, ◌/◌, ◌%◌, ◌^◌, ◌<◌, ◌==◌, Bool, true, false, if◌then◌else◌, List, [], ◌∷◌, get_or, bit_or, sym, refl, ap, ◌∙◌, subst, arith, inl, inr, Option, Some, None}
+use Rattle.std.proofs.lemmas.{Bool.{cases_lt}, Nat.{div-mul-add, mod-mul-add}}
 use mathlib.Core.Option.{some}
 use lib.ListN.{get_elem?}
-use Rattle.std.proofs.lemmas.Bool.{cases_lt}
-use Rattle.std.proofs.lemmas.Nat.{div-mul-add, mod-mul-add}
-use Rattle.fm_words.specs.declared.shape.Shape.{Shape}
-use Rattle.fm_words.specs.Places.{at as place_at, page_bits as bits_place, page_groups, map, page_word}
-use Rattle.fm_base.specs.declared.arena_id.ArenaId.{ArenaId}
-use Rattle.fm_base.specs.Calls.{Back, Fine, entry_of}
-use Rattle.fm_base_machine.specs.Functions.{Over, put}
-use Rattle.fm_base_machine.proofs.Putting.{put_here, put_else, put_cases}
-use Rattle.fm_rule_facts.specs.declared.step.Step.TheVariants.{SweepsMap, Unmaps, Wipes, ReturnsPage}
-use Rattle.fm_rule_facts.specs.Loans.{loans_of}
-use Rattle.fm_rule_facts.specs.Parts.{unread, named, wiping}
-use Rattle.fm_rule_facts.specs.Views.{View, IsOver, given_of}
-use Rattle.fm_rule_facts.specs.Pages.{IsBlank}
-use Rattle.fm_rule_facts.specs.Closes.{passed_of, advanced}
+use Rattle.fm_words.specs.{declared.shape.Shape.{Shape}, Places.{at as place_at, page_bits as bits_place, page_groups, map, page_word}}
+use Rattle.fm_base.specs.{declared.arena_id.ArenaId.{ArenaId}, Calls.{Back, Fine, entry_of}}
+use Rattle.fm_base_machine.{specs.Functions.{Over, put}, proofs.Putting.{put_here, put_else, put_cases}}
+use Rattle.fm_rule_facts.specs.{declared.step.Step.TheVariants.{SweepsMap, Unmaps, Wipes, ReturnsPage}, Loans.{loans_of}, Parts.{unread, named, wiping}}
+use Rattle.fm_rule_facts.specs.{Views.{View, IsOver, given_of}, Pages.{IsBlank}, Closes.{passed_of, advanced}}
 use Rattle.fm_rule_facts.specs.Steps.{part, entries, noted, none_noted, AreAllGiven}
 use Rattle.fm_rule_facts.specs.Facts.{shut, Berth, loose, claimed, mapped, unmapped, IsAt, IsNext, IsWiped, HasSwept, HasPage, Owns, Rule}
-use Rattle.fm_rule_facts.specs.Moves.{MayStep, MayStore}
-use Rattle.fm_rule_facts.proofs.Putting.{two_cases}
-use Rattle.fm_rule_facts.proofs.Worlds.{world_pages}
-use Rattle.fm_rule_facts.proofs.Moving.{pages_unmap}
-use Rattle.fm_rule_facts.proofs.Living.{pages_wipe}
-use Rattle.fm_rule_facts.proofs.Returning.{pages_back}
-use Rattle.fm_rule_facts.proofs.Shown.{shows_map, shows_cell, shows_page_bits}
-use Rattle.fm_rule_facts.proofs.Groups.{set_here, set_else, page_group}
-use Rattle.fm_rule_steps.proofs.Closes.{once_advanced}
-use Rattle.fm_rule_steps.proofs.Reading.{eqb_true, eqb_false, says_none, says_page, says_low}
-use Rattle.fm_rule_steps.proofs.Knowing.{own, given_over}
-use Rattle.fm_rule_steps.proofs.Plain.{Made}
+use Rattle.fm_rule_facts.{specs.Moves.{MayStep, MayStore}, proofs.{Putting.{two_cases}, Worlds.{world_pages}, Moving.{pages_unmap}, Living.{pages_wipe}}}
+use Rattle.fm_rule_facts.proofs.{Returning.{pages_back}, Shown.{shows_map, shows_cell, shows_page_bits}, Groups.{set_here, set_else, page_group}}
+use Rattle.fm_rule_steps.proofs.{Closes.{once_advanced}, Reading.{eqb_true, eqb_false, says_none, says_page, says_low}, Knowing.{own, given_over}, Plain.{Made}}
 use Rattle.fm_rule_steps.proofs.Sweeping.{ended_now, shut_now, fit, next_here, sweep_on, sweeps_kept, sweeps_more, visits, stays_there, not_wiping, sweep_reads}
 
 -- what was none is none, where one is taken away

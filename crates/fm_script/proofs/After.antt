@@ -4,16 +4,9 @@ use Rattle.std.proofs.lemmas.Bool.{eq-eqb, eqb-true, eqb-false, ltb-true, ltb-fa
 use Rattle.std.proofs.lemmas.List.{length-map, get_or-map, get_or-append_right, get_or_append_left, same_lists}
 use Rattle.fm_rule_facts.specs.Views.{View}
 use Rattle.fm_script_text.specs.declared.line.Line.{Line}
-use Rattle.fm_script_lines.specs.declared.numbers.Numbers.{Numbers}
-use Rattle.fm_script_lines.specs.declared.reply.Reply.{Reply}
-use Rattle.fm_script_lines.specs.declared.standing.Standing.{Standing}
-use Rattle.fm_script_lines.specs.declared.standing.Standing.TheVariants.{Nothing}
-use Rattle.fm_script_lines.specs.Lines.{behind}
-use Rattle.fm_script_lines.specs.Numbers.{number_at}
-use Rattle.fm_script_lines.specs.Playing.{LinesRan}
-use Rattle.fm_script_lines.specs.Report.{Done, names_after, names_behind}
-use Rattle.fm_script_lines.specs.Standings.{Names, lent, standing_at}
-use Rattle.fm_script_lines.proofs.Naming.{standing-own}
+use Rattle.fm_script_lines.specs.declared.{numbers.Numbers.{Numbers}, reply.Reply.{Reply}, standing.Standing.{Standing, TheVariants.{Nothing}}}
+use Rattle.fm_script_lines.specs.{Lines.{behind}, Numbers.{number_at}, Playing.{LinesRan}, Report.{Done, names_after, names_behind}}
+use Rattle.fm_script_lines.{specs.Standings.{Names, lent, standing_at}, proofs.Naming.{standing-own}}
 use Rattle.fm_script.proofs.Made.{lent_behind}
 
 -- what others may use of a line's name

@@ -1,31 +1,16 @@
 -- A report tells no more arenas than its pool has slots.
 use Rattle.std.proofs.Common.{◌≡◌, ℕ, zero, suc, ◌+◌, ◌≤◌, if◌then◌else◌, Bool, true, false, List, [], ◌∷◌, ◌++◌, length, length-append, get_or, Option, Some, None, refl, sym, ap, ◌∙◌, subst, arith, inl, inr}
-use Rattle.std.specs.List.{AllByRecursion}
-use Rattle.std.proofs.lemmas.Slice.Eq.{bytes_eq-Decides}
-use Rattle.fm_base.specs.declared.arena_id.ArenaId.{ArenaId}
-use Rattle.fm_base.specs.Arenas.{Life, Alive, Closing, Ended, arena_of as arena_in}
-use Rattle.fm_base_lists.specs.Among.{AreApart, IsAmong}
-use Rattle.fm_base_lists.proofs.Among.{among_either}
-use Rattle.fm_base_lists.proofs.Each.{all_both}
-use Rattle.fm_rule_facts.specs.Holds.{one_if}
-use Rattle.fm_rule_facts.specs.Views.{limit_of}
-use Rattle.fm_rule.specs.Finishing.{FinishedView}
-use Rattle.fm_rule.specs.GivenBytes.{given_bytes, state_of}
-use Rattle.fm_script_report.specs.declared.arena.AliveArena.{AliveArena}
-use Rattle.fm_script_report.specs.Alive.{alive_at, alive_by, alive_of, arena_by, opened_at, while_alive}
-use Rattle.fm_script_report.specs.Living.{Lives}
-use Rattle.fm_script_report.specs.Told.{opened_of}
-use Rattle.fm_script_report.proofs.Living.{living_fit}
-use Rattle.fm_script_lines.specs.Numbers.{is_made, number_from, unless}
-use Rattle.fm_script_lines.specs.Report.{Done, Played, all_done, lines_of, number_of}
+use Rattle.std.{specs.List.{AllByRecursion}, proofs.lemmas.Slice.Eq.{bytes_eq-Decides}}
+use Rattle.fm_base.specs.{declared.arena_id.ArenaId.{ArenaId}, Arenas.{Life, Alive, Closing, Ended, arena_of as arena_in}}
+use Rattle.fm_base_lists.{specs.Among.{AreApart, IsAmong}, proofs.{Among.{among_either}, Each.{all_both}}}
+use Rattle.fm_rule_facts.specs.{Holds.{one_if}, Views.{limit_of}}
+use Rattle.fm_rule.specs.{Finishing.{FinishedView}, GivenBytes.{given_bytes, state_of}}
+use Rattle.fm_script_report.specs.{declared.arena.AliveArena.{AliveArena}, Alive.{alive_at, alive_by, alive_of, arena_by, opened_at, while_alive}}
+use Rattle.fm_script_report.{specs.{Living.{Lives}, Told.{opened_of}}, proofs.Living.{living_fit}}
+use Rattle.fm_script_lines.specs.{Numbers.{is_made, number_from, unless}, Report.{Done, Played, all_done, lines_of, number_of}}
 use Rattle.fm_script_lines.proofs.AdmittedNumbers.{makers, one_made, one_maker}
-use Rattle.fm_script_text.specs.declared.command.Command.{Command}
-use Rattle.fm_script_text.specs.declared.command.Command.TheVariants.{Open}
-use Rattle.fm_script_text.specs.declared.line.Line.{Line}
-use Rattle.fm_script_text.specs.Rules.{Made, made}
-use Rattle.fm_script.specs.Alive.{AliveFit}
-use Rattle.fm_script.proofs.Bringing.{all_bring, one_line}
-use Rattle.fm_script.proofs.Once.{all_once}
+use Rattle.fm_script_text.specs.{declared.{command.Command.{Command, TheVariants.{Open}}, line.Line.{Line}}, Rules.{Made, made}}
+use Rattle.fm_script.{specs.Alive.{AliveFit}, proofs.{Bringing.{all_bring, one_line}, Once.{all_once}}}
 
 -- ---- names and the numbers of their lines
 

@@ -1,14 +1,10 @@
 -- Workers put behind each other.
 use Rattle.std.proofs.Common.{◌≡◌, ℕ, ◌+◌, ◌<◌, ◌≤◌, nat_lt, Bool, true, false, List, [], ◌∷◌, ◌++◌, length, length-append, map, take, drop, get_or, refl, sym, ap, ◌∙◌, subst, arith, All}
-use Rattle.std.proofs.lemmas.Bool.{ltb-true, ltb-false}
-use Rattle.std.proofs.lemmas.Grind.{flat_map-append}
+use Rattle.std.proofs.lemmas.{Bool.{ltb-true, ltb-false}, Grind.{flat_map-append}}
 use Rattle.std.proofs.lemmas.List.{get_or_append_left, get_or-append_right, get_or_push, length-map, take_more, take-append-drop, append-nil}
 use Rattle.fm_script_text.specs.declared.line.Line.{Line}
-use Rattle.fm_script_lines.specs.declared.standing.Standing.{Standing}
-use Rattle.fm_script_lines.specs.Standings.{standing_as}
-use Rattle.fm_script.specs.declared.player.Player.{Player}
-use Rattle.fm_script.specs.Players.{IsPlayer}
-use Rattle.fm_script.specs.Runs.{names_lent}
+use Rattle.fm_script_lines.specs.{declared.standing.Standing.{Standing}, Standings.{standing_as}}
+use Rattle.fm_script.specs.{declared.player.Player.{Player}, Players.{IsPlayer}, Runs.{names_lent}}
 
 -- One worker more.
 pub player_more : (lines : List Line) (starts : List ℕ) (place : ℕ) (ps next : List Player) (p : Player) → next ≡ ps ++ p ∷ [] → length ps ≡ place

@@ -1,24 +1,13 @@
 -- What the run of a script begins with, and what it leaves.
-use Rattle.std.proofs.Common.{◌≡◌, ℕ, ◌+◌, ◌-◌, ◌≤◌, List, length, sym, ap, ◌∙◌, subst, arith}
-use Rattle.std.specs.Borrow.{Bor}
-use Rattle.fm_base.specs.declared.caller.Caller.{Caller}
-use Rattle.fm_base.specs.Finds.{Rest}
-use Rattle.fm_arena.specs.Shares.{CanShare}
+use Rattle.std.{proofs.Common.{◌≡◌, ℕ, ◌+◌, ◌-◌, ◌≤◌, List, length, sym, ap, ◌∙◌, subst, arith}, specs.Borrow.{Bor}}
+use Rattle.fm_base.specs.{declared.caller.Caller.{Caller}, Finds.{Rest}}
+use Rattle.fm_arena.{specs.Shares.{CanShare}, proofs.Opening.{has_no_slot}}
 use Rattle.fm_rule_facts.specs.Views.{View, IsSound}
-use Rattle.fm_arena.proofs.Opening.{has_no_slot}
-use Rattle.fm_rule.specs.declared.pool.Pool.{Pool}
-use Rattle.fm_rule.specs.Finishing.{CanFinish, FinishedView, Finishes}
-use Rattle.fm_rule.specs.Views.{first_pass}
+use Rattle.fm_rule.specs.{declared.pool.Pool.{Pool}, Finishing.{CanFinish, FinishedView, Finishes}, Views.{first_pass}}
 use Rattle.fm_words.specs.declared.shape.Shape.{Shape}
-use Rattle.fm_script_text.specs.declared.line.Line.{Line}
-use Rattle.fm_script_text.specs.Scripts.{ScriptOf}
-use Rattle.fm_script_lines.specs.declared.numbers.Numbers.{Numbers}
-use Rattle.fm_script_lines.specs.Numbers.{AreNumbers}
-use Rattle.fm_script_lines.specs.Ordering.{AreStarts, in_order, lines_at}
-use Rattle.fm_script.specs.declared.main_lines.MainLines.{MainLines}
-use Rattle.fm_script.specs.declared.player.Player.{Player}
-use Rattle.fm_script.specs.Players.{ArePlayers}
-use Rattle.fm_script.specs.Runs.{CanRun, HasRun, IsWritten, Ran}
+use Rattle.fm_script_text.specs.{declared.line.Line.{Line}, Scripts.{ScriptOf}}
+use Rattle.fm_script_lines.specs.{declared.numbers.Numbers.{Numbers}, Numbers.{AreNumbers}, Ordering.{AreStarts, in_order, lines_at}}
+use Rattle.fm_script.specs.{declared.{main_lines.MainLines.{MainLines}, player.Player.{Player}}, Players.{ArePlayers}, Runs.{CanRun, HasRun, IsWritten, Ran}}
 
 pub some_pass : (s : ScriptOf) → IsWritten s → 1 ≤ s.shape.passes
 some_pass s w = w.valid.passes.0

@@ -1,35 +1,24 @@
 -- A line whose name stands for an arena has the entry that opened it.
 use Rattle.std.proofs.Common.{◌≡◌, ℕ, zero, suc, ◌+◌, ◌≤◌, true, false, List, [], ◌∷◌, ◌++◌, length, get_or, Option, Some, None, Result, Ok, Err, refl, sym, ap, ◌∙◌, arith}
-use Rattle.std.specs.List.{AllByRecursion}
-use Rattle.fm_base.specs.declared.arena_id.ArenaId.{ArenaId}
-use Rattle.fm_base.specs.declared.caller.Caller.{Caller}
-use Rattle.fm_base.specs.declared.kind.Kind.{Kind}
+use Rattle.std.specs.{List.{AllByRecursion}, Prelude.{not}}
+use Rattle.fm_base.specs.{declared.{arena_id.ArenaId.{ArenaId}, caller.Caller.{Caller}, kind.Kind.{Kind}, refusal.Refusal.{Refusal}}, Arenas.{same_id}}
+use Rattle.fm_base.{specs.{Calls.{Entry, Fine, Open, entry_of}, Does.{DoesOpen}, View.{but_loans, is_loan}}, proofs.Names.{same_id-self}}
 use Rattle.fm_base.specs.declared.kind.Kind.TheVariants as kind
-use Rattle.fm_base.specs.declared.refusal.Refusal.{Refusal}
-use Rattle.fm_base.specs.Arenas.{same_id}
-use Rattle.fm_base.specs.Calls.{Entry, Fine, Open, entry_of}
-use Rattle.fm_base.specs.Does.{DoesOpen}
-use Rattle.fm_base.specs.View.{but_loans, is_loan}
-use Rattle.fm_base.proofs.Names.{same_id-self}
 use Rattle.fm_base_lists.proofs.Each.{all_both}
 use Rattle.fm_rule_facts.specs.Holds.{one_if}
 use Rattle.fm_script_report.specs.Told.{opened_of}
-use Rattle.fm_script_lines.specs.declared.outcome.LineOutcome.{LineOutcome}
-use Rattle.fm_script_lines.specs.declared.reply.Reply.TheVariants as reply
-use Rattle.fm_script_lines.specs.declared.standing.Standing.{Standing}
+use Rattle.fm_script_lines.specs.declared.{outcome.LineOutcome.{LineOutcome}, standing.Standing.{Standing}}
 use Rattle.fm_script_lines.specs.Calls.{Adds, Allocates, Asks, CallDoes, Closes, Compares, Copies, Exchanges, Fills, Gets, GivesBack, Holds, Line, On, Sets, TakesAgain, Unholds, arena_at, coming, fine, number, segment_at, segment_made}
 use Rattle.fm_script_lines.specs.Outcomes.{outcome, plain}
 use Rattle.fm_script_lines.specs.Report.{AreRun, AreWorked, Done, IsReport, Played, Player, all_done, names_behind, none_stands, number_of, worked}
+use Rattle.fm_script_lines.specs.{Standings.{Names, arena_of, handle_of, handled_as, held_as, hold_of, opened_as, stands_of}, Slots.{opens}}
+use Rattle.fm_script_lines.specs.declared.reply.Reply.TheVariants as reply
 use Rattle.fm_gate.specs.Makers.{Made as MadeBy}
-use Rattle.fm_script_lines.specs.Standings.{Names, arena_of, handle_of, handled_as, held_as, hold_of, opened_as, stands_of}
-use Rattle.fm_script_text.specs.declared.command.Command.{Command}
+use Rattle.fm_script_text.specs.{declared.command.Command.{Command}, Scripts.{ScriptOf}}
 use Rattle.fm_script_text.specs.declared.command.Command.TheVariants as command
-use Rattle.std.specs.Prelude.{not}
 use Rattle.fm_script_lines.specs.declared.standing.Standing.TheVariants as standing
 use Rattle.fm_segment.specs.Region.{Region, region_of}
-use Rattle.fm_script_lines.specs.Slots.{opens}
 use Rattle.fm_script.proofs.Once.{is_opening, kept, openings, opened_by}
-use Rattle.fm_script_text.specs.Scripts.{ScriptOf}
 
 module _ (a : ArenaId) where
   -- ---- a line that opened it has its entry

@@ -1,29 +1,14 @@
 -- What a crew of workers leaves to the pass that gathered it.
 use Rattle.std.proofs.Common.{◌≡◌, ℕ, suc, ◌+◌, ◌<◌, ◌≤◌, nat_lt, Bool, true, false, List, [], ◌∷◌, length, map, get_or, All, refl, sym, ap, ◌∙◌, subst, arith, inl, inr, Err}
-use Rattle.std.proofs.lemmas.Bool.{ltb-true, ltb-false}
-use Rattle.std.proofs.lemmas.List.{length-map, get_or-map, get_or_past}
-use Rattle.std.proofs.lemmas.List.Elements.{All-append, All-nil}
-use Rattle.fm_base.specs.declared.refusal.Refusal.{Refusal}
-use Rattle.fm_base.specs.declared.refusal.Refusal.TheVariants.{Memory, NoPass}
-use Rattle.fm_base.specs.Arenas.{are_one}
-use Rattle.fm_base.specs.Calls.{Entry}
-use Rattle.fm_base.specs.Histories.{made_by}
-use Rattle.fm_base_lists.specs.Among.{IsAmong}
-use Rattle.fm_base_lists.proofs.Among.{among_kept}
+use Rattle.std.proofs.lemmas.{Bool.{ltb-true, ltb-false}, List.{length-map, get_or-map, get_or_past, Elements.{All-append, All-nil}}}
+use Rattle.fm_base.specs.{declared.refusal.Refusal.{Refusal, TheVariants.{Memory, NoPass}}, Arenas.{are_one}, Calls.{Entry}, Histories.{made_by}}
+use Rattle.fm_base_lists.{specs.Among.{IsAmong}, proofs.Among.{among_kept}}
 use Rattle.fm_rule_facts.specs.Views.{View, IsSound}
-use Rattle.fm_script_lines.specs.declared.standing.Standing.{Standing}
-use Rattle.fm_script_lines.specs.declared.standing.Standing.TheVariants.{Nothing}
-use Rattle.fm_script_lines.specs.Numbers.{number_at}
-use Rattle.fm_script_lines.specs.Standings.{IsBacked, lent, standing_as, standing_at}
-use Rattle.fm_script_lines.proofs.Lent.{stays_lent}
-use Rattle.fm_workers_crew.specs.Crew.{AreDone, CrewWorked, IsWhole}
-use Rattle.fm_workers_crew.proofs.Wanting.{few_last}
-use Rattle.fm_script.specs.declared.player.Player.{Player}
-use Rattle.fm_script.specs.Players.{Playing, Plays, PlaysLines}
-use Rattle.fm_script.specs.Runs.{AllPlayed, names_lent}
-use Rattle.fm_script.proofs.After.{next_at}
-use Rattle.fm_script.proofs.Gathered.{lent_only, plain_at}
-use Rattle.fm_script.proofs.Made.{names_known}
+use Rattle.fm_script_lines.specs.{declared.standing.Standing.{Standing, TheVariants.{Nothing}}, Numbers.{number_at}}
+use Rattle.fm_script_lines.{specs.Standings.{IsBacked, lent, standing_as, standing_at}, proofs.Lent.{stays_lent}}
+use Rattle.fm_workers_crew.{specs.Crew.{AreDone, CrewWorked, IsWhole}, proofs.Wanting.{few_last}}
+use Rattle.fm_script.{specs.{declared.player.Player.{Player}, Players.{Playing, Plays, PlaysLines}, Runs.{AllPlayed, names_lent}}, proofs.After.{next_at}}
+use Rattle.fm_script.proofs.{Gathered.{lent_only, plain_at}, Made.{names_known}}
 
 module _ {T : Type 0} (Does : View → T → T → List Entry → Type 0) (old new : View) (tasks done : List T) where
   -- A crew that has a pass for each task is refused for want of memory alone.

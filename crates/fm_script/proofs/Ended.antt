@@ -1,33 +1,16 @@
 -- What is told of a script that has run.
-use Rattle.std.proofs.Common.{◌≡◌, ℕ, List, [], ◌∷◌, ◌++◌, Option, length, map, refl, sym, ap, ◌∙◌, subst}
-use Rattle.std.specs.List.{flat_map}
-use Rattle.std.proofs.lemmas.List.{length-map}
-use Rattle.fm_base.specs.declared.arena_id.ArenaId.{ArenaId}
-use Rattle.fm_base.specs.declared.caller.Caller.{Caller}
-use Rattle.fm_base.specs.Calls.{Entry}
-use Rattle.fm_base.specs.Histories.{IsTidy}
+use Rattle.std.{proofs.{Common.{◌≡◌, ℕ, List, [], ◌∷◌, ◌++◌, Option, length, map, refl, sym, ap, ◌∙◌, subst}, lemmas.List.{length-map}}, specs.List.{flat_map}}
+use Rattle.fm_base.specs.{declared.{arena_id.ArenaId.{ArenaId}, caller.Caller.{Caller}}, Calls.{Entry}, Histories.{IsTidy}}
 use Rattle.fm_rule_facts.specs.Views.{limit_of}
 use Rattle.fm_rule.specs.Finishing.{FinishedView, IsFinished}
-use Rattle.fm_script_text.specs.declared.line.Line.{Line}
-use Rattle.fm_script_text.specs.Scripts.{ScriptOf}
-use Rattle.fm_script_lines.specs.declared.bound.Bound.{Bound}
-use Rattle.fm_script_lines.specs.declared.numbers.Numbers.{Numbers}
-use Rattle.fm_script_lines.specs.declared.reply.Reply.{Reply}
-use Rattle.fm_script_lines.specs.declared.standing.Standing.{Standing}
-use Rattle.fm_script_lines.specs.Numbers.{number_at, number_from}
-use Rattle.fm_script_lines.specs.Report.{Done, Played, IsReport, all_done, callers, lines_of}
-use Rattle.fm_script_lines.specs.Standings.{arena_of, standing_as}
-use Rattle.fm_script_lines.proofs.Naming.{lent_seen}
+use Rattle.fm_script_text.specs.{declared.line.Line.{Line}, Scripts.{ScriptOf}}
+use Rattle.fm_script_lines.specs.declared.{bound.Bound.{Bound}, numbers.Numbers.{Numbers}, reply.Reply.{Reply}, standing.Standing.{Standing}}
+use Rattle.fm_script_lines.specs.{Numbers.{number_at, number_from}, Report.{Done, Played, IsReport, all_done, callers, lines_of}}
+use Rattle.fm_script_lines.{specs.Standings.{arena_of, standing_as}, proofs.Naming.{lent_seen}}
 use Rattle.fm_script_laws.proofs.Reports.{report_tidy}
-use Rattle.fm_script_report.specs.declared.line.ReportLine.{ReportLine}
-use Rattle.fm_script_report.specs.Alive.{AreOpened, arena_by}
-use Rattle.fm_script_report.specs.Told.{AreTold, IsRunOf, opened_of, report_of}
-use Rattle.fm_script_report.specs.Views.{ReportView}
-use Rattle.fm_script_report.proofs.Telling.{tells}
-use Rattle.fm_script.specs.declared.main_lines.MainLines.{MainLines}
-use Rattle.fm_script.specs.declared.player.Player.{Player}
-use Rattle.fm_script.specs.Runs.{HasRun}
-use Rattle.fm_script.proofs.After.{made_lent}
+use Rattle.fm_script_report.specs.{declared.line.ReportLine.{ReportLine}, Alive.{AreOpened, arena_by}, Told.{AreTold, IsRunOf, opened_of, report_of}}
+use Rattle.fm_script_report.{specs.Views.{ReportView}, proofs.Telling.{tells}}
+use Rattle.fm_script.{specs.{declared.{main_lines.MainLines.{MainLines}, player.Player.{Player}}, Runs.{HasRun}}, proofs.After.{made_lent}}
 use Rattle.fm_script.proofs.Opened.{were_opened}
 use Rattle.fm_script.proofs.Telling as telling
 

@@ -1,28 +1,14 @@
 -- What the passes of workers found where a line found no slot.
 use Rattle.std.proofs.Common.{◌≡◌, ℕ, true, List, [], ◌∷◌, ◌++◌, length, length-append, map, refl, sym, ap, ◌∙◌, subst, append_assoc, arith, inl, inr}
-use Rattle.std.specs.Prelude.{⊤}
-use Rattle.std.specs.List.{AllByRecursion}
-use Rattle.std.proofs.lemmas.List.{append-nil}
-use Rattle.std.proofs.lemmas.List.Elements.{filter-append}
-use Rattle.fm_base.specs.declared.caller.Caller.{Caller}
-use Rattle.fm_base.specs.Calls.{Entry}
-use Rattle.fm_base.specs.Finds.{Sweep, Find, Gathered, Rest, is_slot}
-use Rattle.fm_base.specs.Histories.{made_by}
-use Rattle.fm_rule_facts.specs.Hands.{Hand, nothing, taken, learnt, retired}
-use Rattle.fm_rule_facts.specs.Splits.{as_gathered}
-use Rattle.fm_rule_facts.specs.Views.{View, Begins, In, NoneLeft}
+use Rattle.std.{specs.{Prelude.{⊤}, List.{AllByRecursion}}, proofs.lemmas.List.{append-nil, Elements.{filter-append}}}
+use Rattle.fm_base.specs.{declared.caller.Caller.{Caller}, Calls.{Entry}, Finds.{Sweep, Find, Gathered, Rest, is_slot}, Histories.{made_by}}
+use Rattle.fm_rule_facts.specs.{Hands.{Hand, nothing, taken, learnt, retired}, Splits.{as_gathered}, Views.{View, Begins, In, NoneLeft}}
 use Rattle.fm_rule_calls.specs.Kept.{slots_told}
 use Rattle.fm_arena.specs.Opening.{HasNoSlot}
 use Rattle.fm_script_text.specs.declared.line.Line.{Line}
 use Rattle.fm_words.specs.declared.shape.Shape.{Shape}
-use Rattle.fm_script_lines.specs.declared.numbers.Numbers.{Numbers}
-use Rattle.fm_script_lines.specs.declared.reply.Reply.{Reply}
-use Rattle.fm_script_lines.specs.declared.standing.Standing.{Standing}
-use Rattle.fm_script_lines.specs.Playing.{LinesRan}
-use Rattle.fm_script_lines.specs.Report.{Player, runs}
-use Rattle.fm_script_lines.specs.Runs.{Went}
-use Rattle.fm_script_lines.specs.Pages.{EachBehind, FindsFew, LendsRightly}
-use Rattle.fm_script_lines.specs.Slots.{AreFound}
+use Rattle.fm_script_lines.specs.{declared.{numbers.Numbers.{Numbers}, reply.Reply.{Reply}, standing.Standing.{Standing}}, Playing.{LinesRan}}
+use Rattle.fm_script_lines.specs.{Report.{Player, runs}, Runs.{Went}, Pages.{EachBehind, FindsFew, LendsRightly}, Slots.{AreFound}}
 use Rattle.fm_script_lines.proofs.Lending.{behind_as, few_later, lends_later}
 use Rattle.fm_script_laws.specs.Slots.{FindsTold}
 use Rattle.fm_workers_crew.specs.Crew.{IsFresh, IsIn, callers}

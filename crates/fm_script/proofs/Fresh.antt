@@ -2,13 +2,8 @@
 use Rattle.std.proofs.Common.{◌≡◌, ℕ, List, Result, All, sym, subst}
 use Rattle.fm_rule_facts.specs.Views.{View}
 use Rattle.fm_script_text.specs.declared.line.Line.{Line}
-use Rattle.fm_script_lines.specs.declared.numbers.Numbers.{Numbers}
-use Rattle.fm_script_lines.specs.declared.reply.Reply.{Reply}
-use Rattle.fm_script_lines.specs.declared.standing.Standing.{Standing}
-use Rattle.fm_script_lines.specs.declared.table.Table.{Table}
-use Rattle.fm_script_lines.specs.Learnt.{AfterLines, IsFresh}
-use Rattle.fm_script_lines.specs.Standings.{IsBacked, lent}
-use Rattle.fm_script_lines.specs.Tokens.{Backs, IsReady}
+use Rattle.fm_script_lines.specs.declared.{numbers.Numbers.{Numbers}, reply.Reply.{Reply}, standing.Standing.{Standing}, table.Table.{Table}}
+use Rattle.fm_script_lines.specs.{Learnt.{AfterLines, IsFresh}, Standings.{IsBacked, lent}, Tokens.{Backs, IsReady}}
 
 module _ {ns : Numbers} {others : List Standing} {first lines : ℕ} {t : Table} (p : View) (e : IsFresh ns others first lines t)
     (known : All (λ s. IsBacked p (lent s)) others) where

@@ -2,10 +2,8 @@
 use Rattle.std.proofs.Common.{◌≡◌, ℕ, ◌+◌, ◌-◌, ◌<◌, ◌≤◌, nat_lt, Bool, true, false, if◌then◌else◌, List, [], ◌∷◌, ◌++◌, length, length-append, map, get_or, refl, sym, ap, ◌∙◌, arith, Option}
 use Rattle.std.proofs.lemmas.Bool.{lt-ltb, ltb-true, ltb-false}
 use Rattle.std.proofs.lemmas.List.{length-map, get_or-append_right, get_or_append_left, get_or-map, get_or_past, map-append}
-use Rattle.fm_script_lines.specs.declared.standing.Standing.{Standing}
-use Rattle.fm_script_lines.specs.declared.standing.Standing.TheVariants.{Nothing}
-use Rattle.fm_script_lines.specs.Report.{Done, Player, gathered_names, names_after, none_stands, worked}
-use Rattle.fm_script_lines.specs.Standings.{Names, lent, standing_at}
+use Rattle.fm_script_lines.specs.declared.standing.Standing.{Standing, TheVariants.{Nothing}}
+use Rattle.fm_script_lines.specs.{Report.{Done, Player, gathered_names, names_after, none_stands, worked}, Standings.{Names, lent, standing_at}}
 use Rattle.fm_script_lines.proofs.Naming.{standing-between, standing-others, standing-own}
 use Rattle.fm_script.proofs.After.{after_made, made_lent}
 

@@ -1,13 +1,8 @@
 -- What a caller's lines made is known to whoever has seen their entries.
 use Rattle.std.proofs.Common.{◌≡◌, ℕ, ◌+◌, ◌≤◌, true, List, [], ◌∷◌, refl, sym, ap, ◌∙◌, subst, arith, inl, inr}
-use Rattle.fm_base.specs.declared.arena_id.ArenaId.{ArenaId}
-use Rattle.fm_base.specs.Arenas.{State, has_arena, arena_of as arena_in, IsUnderWay}
-use Rattle.fm_base.specs.Calls.{Call, Entry, Open, Allocate, Given}
-use Rattle.fm_base.specs.Histories.{IsLegal, state_after}
-use Rattle.fm_base.specs.Machine.{MayCall, after, state_by, opened, given_up_to}
-use Rattle.fm_base.proofs.Growing.{Grows-state_after}
-use Rattle.fm_base.proofs.Lookup.{changed_has, has_arena-opened, lookup_changed}
-use Rattle.fm_base.proofs.Placing.{there_by_way}
+use Rattle.fm_base.specs.{declared.arena_id.ArenaId.{ArenaId}, Arenas.{State, has_arena, arena_of as arena_in, IsUnderWay}}
+use Rattle.fm_base.specs.{Calls.{Call, Entry, Open, Allocate, Given}, Histories.{IsLegal, state_after}, Machine.{MayCall, after, state_by, opened, given_up_to}}
+use Rattle.fm_base.proofs.{Growing.{Grows-state_after}, Lookup.{changed_has, has_arena-opened, lookup_changed}, Placing.{there_by_way}}
 use Rattle.fm_base_lists.specs.Among.{IsAmong}
 
 module _ (limit : ℕ) where

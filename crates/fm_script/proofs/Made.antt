@@ -1,36 +1,24 @@
 -- What names stand for is known to whoever has seen their lines' entries.
 use Rattle.std.specs.Prelude.{IfSome}
 use Rattle.std.proofs.Common.{◌≡◌, ℕ, ◌+◌, ◌==◌, Bool, true, false, not, if◌then◌else◌, List, [], ◌∷◌, refl, sym, ap, ◌∙◌, subst, inl, inr, Option, Some, None, Ok, Err, Result}
-use Rattle.fm_base.specs.declared.caller.Caller.{Caller}
-use Rattle.fm_base.specs.declared.arena_id.ArenaId.{ArenaId}
-use Rattle.fm_base.specs.declared.kind.Kind.{Kind}
+use Rattle.fm_base.specs.declared.{caller.Caller.{Caller}, arena_id.ArenaId.{ArenaId}, kind.Kind.{Kind}, refusal.Refusal.{Refusal}}
+use Rattle.fm_base.specs.{Calls.{Entry, entry_of, Open, Fine, Allocate, Given}, Does.{DoesOpen, DoesAllocate}, View.{but_loans, is_loan}}
 use Rattle.fm_base.specs.declared.kind.Kind.TheVariants as kind
-use Rattle.fm_base.specs.declared.refusal.Refusal.{Refusal}
-use Rattle.fm_base.specs.Calls.{Entry, entry_of, Open, Fine, Allocate, Given}
-use Rattle.fm_base.specs.Does.{DoesOpen, DoesAllocate}
-use Rattle.fm_base.specs.View.{but_loans, is_loan}
-use Rattle.fm_base_lists.specs.Among.{IsAmong}
-use Rattle.fm_base_lists.proofs.Among.{among_kept, among_left, among_right}
+use Rattle.fm_base_lists.{specs.Among.{IsAmong}, proofs.Among.{among_kept, among_left, among_right}}
 use Rattle.fm_rule_facts.specs.Views.{View, IsKnown, IsSound, limit_of}
 use Rattle.fm_rule_calls.specs.Told.{view_of_pass}
 use Rattle.fm_segment.specs.Access as segment
-use Rattle.fm_segment.specs.Region.{Region, region_of}
-use Rattle.fm_segment.specs.Slices.{slice_of}
+use Rattle.fm_segment.specs.{Region.{Region, region_of}, Slices.{slice_of}}
 use Rattle.fm_script_text.specs.declared.command.Command.{Command}
 use Rattle.fm_script_text.specs.declared.command.Command.TheVariants as command
-use Rattle.fm_script_lines.specs.declared.outcome.LineOutcome.{LineOutcome}
-use Rattle.fm_script_lines.specs.declared.reply.Reply.TheVariants as reply
-use Rattle.fm_script_lines.specs.declared.standing.Standing.{Standing}
-use Rattle.fm_script_lines.specs.declared.standing.Standing.TheVariants as standing
+use Rattle.fm_script_lines.specs.declared.{outcome.LineOutcome.{LineOutcome}, standing.Standing.{Standing}}
 use Rattle.fm_script_lines.specs.Calls.{Adds, Allocates, Asks, CallDoes, Closes, Compares, Copies, Exchanges, Fills, Gets, GivesBack, Holds, Line, On, Sets, TakesAgain, Unholds, arena_at, coming, fine, number, segment_at, segment_made}
-use Rattle.fm_script_lines.specs.Lines.{behind, is_number}
-use Rattle.fm_script_lines.specs.Outcomes.{outcome, plain}
-use Rattle.fm_script_lines.specs.Report.{Done, AreRun, names_after, names_behind, runs}
-use Rattle.fm_gate.specs.Makers.{Made as MadeBy}
+use Rattle.fm_script_lines.specs.{Lines.{behind, is_number}, Outcomes.{outcome, plain}, Report.{Done, AreRun, names_after, names_behind, runs}}
 use Rattle.fm_script_lines.specs.Standings.{IsBacked, Names, hold_of, handle_of, handled_as, held_as, lent, opened_as, stands_of, unheld, handed_back}
-use Rattle.fm_script_lines.proofs.Backing.{segment_known}
-use Rattle.fm_script_lines.proofs.Lent.{stays_lent}
-use Rattle.fm_script_lines.proofs.Lines.{slice_known}
+use Rattle.fm_script_lines.proofs.{Backing.{segment_known}, Lent.{stays_lent}, Lines.{slice_known}}
+use Rattle.fm_script_lines.specs.declared.reply.Reply.TheVariants as reply
+use Rattle.fm_script_lines.specs.declared.standing.Standing.TheVariants as standing
+use Rattle.fm_gate.specs.Makers.{Made as MadeBy}
 use Rattle.fm_script.proofs.Known.{opened_there, given_there}
 
 -- ---- a line's name

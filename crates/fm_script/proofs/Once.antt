@@ -1,14 +1,8 @@
 -- A history opens an arena once, so the lines of a report do.
 use Rattle.std.proofs.Common.{◌≡◌, ℕ, ◌+◌, ◌≤◌, Bool, true, false, filter, List, [], ◌∷◌, ◌++◌, map, refl, ap, subst, arith, inl, inr}
-use Rattle.std.specs.List.{AllByRecursion}
-use Rattle.std.proofs.lemmas.Bool.{cond-false, cond-true}
-use Rattle.fm_base.specs.declared.arena_id.ArenaId.{ArenaId}
-use Rattle.fm_base.specs.declared.caller.Caller.{Caller}
-use Rattle.fm_base.specs.Arenas.{State, are_one, has_arena, same_id}
-use Rattle.fm_base.specs.Calls.{Call, Entry, Open}
-use Rattle.fm_base.specs.Histories.{IsLegal, made_by, state_after}
-use Rattle.fm_base.specs.Machine.{MayCall, after}
-use Rattle.fm_base.proofs.Growing.{Grows-after}
+use Rattle.std.{specs.List.{AllByRecursion}, proofs.lemmas.Bool.{cond-false, cond-true}}
+use Rattle.fm_base.specs.{declared.{arena_id.ArenaId.{ArenaId}, caller.Caller.{Caller}}, Arenas.{State, are_one, has_arena, same_id}, Calls.{Call, Entry, Open}}
+use Rattle.fm_base.{specs.{Histories.{IsLegal, made_by, state_after}, Machine.{MayCall, after}}, proofs.Growing.{Grows-after}}
 use Rattle.fm_base.proofs.Names.{are_one-not, are_one-true, same_id-true}
 use Rattle.fm_base_lists.specs.Among.{AreApart, IsAmong}
 use Rattle.fm_rule_facts.specs.Holds.{one_if}

@@ -1,16 +1,11 @@
 -- What the lines of a report opened was opened in its history.
-use Rattle.std.proofs.Common.{◌≡◌, ℕ, zero, suc, true, List, [], ◌∷◌, Option, Some, None, get_or, refl, arith}
-use Rattle.std.specs.Prelude.{IfSome}
+use Rattle.std.{proofs.Common.{◌≡◌, ℕ, zero, suc, true, List, [], ◌∷◌, Option, Some, None, get_or, refl, arith}, specs.Prelude.{IfSome}}
 use Rattle.std.specs.List.{AllByRecursion}
-use Rattle.fm_base.specs.declared.arena_id.ArenaId.{ArenaId}
-use Rattle.fm_base.specs.Arenas.{has_arena}
-use Rattle.fm_base.specs.Calls.{Entry}
-use Rattle.fm_base.specs.Histories.{IsLegal, state_after}
+use Rattle.fm_base.specs.{declared.arena_id.ArenaId.{ArenaId}, Arenas.{has_arena}, Calls.{Entry}, Histories.{IsLegal, state_after}}
 use Rattle.fm_script_report.specs.Told.{opened_of}
 use Rattle.fm_script_lines.specs.Report.{IsReport, Played, all_done}
 use Rattle.fm_script_text.specs.Scripts.{ScriptOf}
-use Rattle.fm_script.proofs.Bringing.{all_bring, one_at}
-use Rattle.fm_script.proofs.Once.{in_history, opened_behind}
+use Rattle.fm_script.proofs.{Bringing.{all_bring, one_at}, Once.{in_history, opened_behind}}
 
 -- what each place has, all have
 all_placed : {P : ArenaId → Type 0} (os : List (Option ArenaId)) → ((n : ℕ) (id : ArenaId) → get_or os n None ≡ Some id → P id)

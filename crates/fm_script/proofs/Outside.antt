@@ -1,14 +1,11 @@
 -- A pass that went on by lines is of the pool that it was of.
 use Rattle.std.proofs.Common.{◌≡◌, ℕ, List, ◌++◌, drop, sym, ap, subst, ◌∙◌}
-use Rattle.fm_arena.specs.Learnt.{AfterIntoPass}
-use Rattle.fm_arena.specs.Shares.{CanShare}
-use Rattle.fm_base.specs.Calls.{Entry}
-use Rattle.fm_base.specs.Finds.{Rest}
+use Rattle.fm_arena.specs.{Learnt.{AfterIntoPass}, Shares.{CanShare}}
+use Rattle.fm_base.specs.{Calls.{Entry}, Finds.{Rest}}
 use Rattle.fm_rule_calls.specs.Kept.{shape_numbers}
 use Rattle.fm_words.specs.declared.shape.Shape.{Shape}
 use Rattle.fm_rule_facts.specs.Views.{View}
-use Rattle.fm_rule.specs.declared.pool.Pool.{Pool}
-use Rattle.fm_rule.specs.Passes.{IsOf}
+use Rattle.fm_rule.specs.{declared.pool.Pool.{Pool}, Passes.{IsOf}}
 use Rattle.fm_script_lines.specs.Runs.{Went}
 
 same_home : (p q : View) {own : List Entry} → Went p q own → q.home ≡ p.home

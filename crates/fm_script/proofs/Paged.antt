@@ -1,28 +1,18 @@
 -- What a script's passes did with pages, in the words of its report.
-use Rattle.std.proofs.Common.{◌≡◌, true, List, [], ◌++◌, append_assoc, sym, ap, ◌∙◌, subst}
-use Rattle.std.specs.List.{AllByRecursion}
-use Rattle.std.proofs.lemmas.List.{append-nil}
+use Rattle.std.{proofs.{Common.{◌≡◌, true, List, [], ◌++◌, append_assoc, sym, ap, ◌∙◌, subst}, lemmas.List.{append-nil}}, specs.List.{AllByRecursion}}
 use Rattle.std.proofs.lemmas.List.Elements.{filter-append}
-use Rattle.fm_base.specs.declared.caller.Caller.{Caller}
-use Rattle.fm_base.specs.Calls.{Entry}
-use Rattle.fm_base.specs.Finds.{Gathered, Rest}
-use Rattle.fm_base.specs.Histories.{made_by}
+use Rattle.fm_base.specs.{declared.caller.Caller.{Caller}, Calls.{Entry}, Finds.{Gathered, Rest}, Histories.{made_by}}
 use Rattle.fm_base_lists.proofs.Each.{all_weaker}
 use Rattle.fm_words.specs.declared.shape.Shape.{Shape}
 use Rattle.fm_rule_facts.specs.Views.{View, Begins}
 use Rattle.fm_arena.specs.Opening.{HasNoSlot}
 use Rattle.fm_script_text.specs.declared.line.Line.{Line}
-use Rattle.fm_script_lines.specs.declared.numbers.Numbers.{Numbers}
-use Rattle.fm_script_lines.specs.declared.reply.Reply.{Reply}
-use Rattle.fm_script_lines.specs.declared.standing.Standing.{Standing}
-use Rattle.fm_script_lines.specs.Pages.{AllocatesRightly, EachBehind, FindsFew, HavePages, LendsRightly}
-use Rattle.fm_script_lines.specs.Report as report
-use Rattle.fm_script_lines.specs.Report.{Played, IsCut, runs}
+use Rattle.fm_script_lines.specs.declared.{numbers.Numbers.{Numbers}, reply.Reply.{Reply}, standing.Standing.{Standing}}
+use Rattle.fm_script_lines.specs.{Pages.{AllocatesRightly, EachBehind, FindsFew, HavePages, LendsRightly}, Report.{Played, IsCut, runs}}
 use Rattle.fm_script_lines.proofs.Lending.{behind_as, lends_later}
+use Rattle.fm_script_lines.specs.Report as report
 use Rattle.fm_workers_crew.specs.Crew.{CrewGathered, IsFresh, callers}
-use Rattle.fm_script.specs.declared.player.Player.{Player}
-use Rattle.fm_script.specs.Runs.{AllRan, CanRun}
-use Rattle.fm_script.proofs.Finding.{HaveFound, PagesFound, all_pages_found}
+use Rattle.fm_script.{specs.{declared.player.Player.{Player}, Runs.{AllRan, CanRun}}, proofs.Finding.{HaveFound, PagesFound, all_pages_found}}
 
 module _ {names : Numbers} {lines : List Line} {old new : View} {tasks players : List Player} {own : List Standing} {firsts lasts : List Reply}
     (can : CanRun names lines old tasks) (all : AllRan names lines old new tasks players own firsts lasts) where

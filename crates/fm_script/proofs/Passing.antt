@@ -1,34 +1,17 @@
 -- What pass 0 has between the first lines, the workers and the last lines.
-use Rattle.std.specs.Prelude.{OnOk}
-use Rattle.std.specs.Result.{is_err}
+use Rattle.std.specs.{Prelude.{OnOk}, Result.{is_err}}
 use Rattle.std.proofs.Common.{◌≡◌, ℕ, ◌+◌, true, false, List, [], ◌++◌, length, get_or, All, Ok, Err, Result, sym, ap, ◌∙◌, subst, arith}
 use Rattle.std.proofs.lemmas.List.Elements.{All-nil}
-use Rattle.fm_base.specs.declared.arena_id.ArenaId.{ArenaId}
-use Rattle.fm_base.specs.Finds.{Rest}
-use Rattle.fm_base.specs.Calls.{Entry}
-use Rattle.fm_base_lists.specs.Among.{IsAmong}
-use Rattle.fm_base_lists.proofs.Among.{among_right}
+use Rattle.fm_base.specs.{declared.arena_id.ArenaId.{ArenaId}, Finds.{Rest}, Calls.{Entry}}
+use Rattle.fm_base_lists.{specs.Among.{IsAmong}, proofs.Among.{among_right}}
 use Rattle.fm_rule_facts.specs.Views.{View, IsSound}
 use Rattle.fm_script_text.specs.declared.line.Line.{Line}
-use Rattle.fm_script_lines.specs.declared.numbers.Numbers.{Numbers}
-use Rattle.fm_script_lines.specs.declared.reply.Reply.{Reply}
-use Rattle.fm_script_lines.specs.declared.standing.Standing.{Standing}
-use Rattle.fm_script_lines.specs.Ordering.{in_order, worker_lines}
-use Rattle.fm_script_lines.specs.Playing.{LinesRan}
-use Rattle.fm_script_lines.specs.Report.{is_first, is_last, lines_by}
-use Rattle.fm_script_lines.specs.Runs.{WentOn}
-use Rattle.fm_script_lines.specs.Standings.{IsBacked, IsSpent, lent}
-use Rattle.fm_script_lines.specs.Tokens.{Backs, IsReady}
-use Rattle.fm_script_lines.proofs.Backing.{backed_lent}
-use Rattle.fm_script_lines.proofs.Ending.{backs_none}
+use Rattle.fm_script_lines.specs.{declared.{numbers.Numbers.{Numbers}, reply.Reply.{Reply}, standing.Standing.{Standing}}, Ordering.{in_order, worker_lines}}
+use Rattle.fm_script_lines.specs.{Playing.{LinesRan}, Report.{is_first, is_last, lines_by}, Runs.{WentOn}, Standings.{IsBacked, IsSpent, lent}}
+use Rattle.fm_script_lines.{specs.Tokens.{Backs, IsReady}, proofs.{Backing.{backed_lent}, Ending.{backs_none}, Rows.{ran_many}}}
 use Rattle.fm_workers_crew.specs.Crew.{IsWhole}
-use Rattle.fm_script_lines.proofs.Rows.{ran_many}
-use Rattle.fm_script.specs.declared.player.Player.{Player}
-use Rattle.fm_script.specs.Players.{CanPlay, playing}
-use Rattle.fm_script.specs.Runs.{AllRan, CanRun, Worked, names_lent}
-use Rattle.fm_script.specs.Staying.{lent_later}
-use Rattle.fm_script.proofs.Crewed.{players_known}
-use Rattle.fm_script.proofs.Running.{all_can_play, in_order_many, names_many, nothing_left, workers_of}
+use Rattle.fm_script.specs.{declared.player.Player.{Player}, Players.{CanPlay, playing}, Runs.{AllRan, CanRun, Worked, names_lent}, Staying.{lent_later}}
+use Rattle.fm_script.proofs.{Crewed.{players_known}, Running.{all_can_play, in_order_many, names_many, nothing_left, workers_of}}
 
 -- ---- what came to nothing and what didn't
 

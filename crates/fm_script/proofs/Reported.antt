@@ -1,25 +1,16 @@
 -- What the workers of a crew did, worker by worker.
 use Rattle.std.proofs.Common.{◌≡◌, ℕ, suc, ◌+◌, ◌<◌, ◌≤◌, List, [], ◌∷◌, ◌++◌, length, length-append, map, get_or, append_assoc, refl, sym, ap, ◌∙◌, subst, arith}
-use Rattle.std.specs.List.{AllByRecursion, flat_map}
-use Rattle.std.proofs.lemmas.List.{length-map, map-append}
-use Rattle.fm_base.specs.declared.caller.Caller.{Caller}
-use Rattle.fm_base.specs.Calls.{Entry}
-use Rattle.fm_base.specs.Histories.{made_by}
+use Rattle.std.{specs.List.{AllByRecursion, flat_map}, proofs.lemmas.List.{length-map, map-append}}
+use Rattle.fm_base.specs.{declared.caller.Caller.{Caller}, Calls.{Entry}, Histories.{made_by}}
 use Rattle.fm_rule_facts.specs.Views.{View}
 use Rattle.fm_script_text.specs.declared.line.Line.{Line}
-use Rattle.fm_script_lines.specs.Numbers.{number_at}
-use Rattle.fm_script_lines.specs.Ordering.{worker_lines}
-use Rattle.fm_script_lines.specs.Report as report
+use Rattle.fm_script_lines.specs.{Numbers.{number_at}, Ordering.{worker_lines}}
 use Rattle.fm_script_lines.specs.Report.{Done, AreRun, AreWorked, AreWorkers, is_first, is_worker, lent_names, lines_by, lines_of, runs, worked}
-use Rattle.fm_script_lines.specs.Standings.{Names, standing_at}
-use Rattle.fm_script_lines.proofs.Picking.{worker_lines-push}
+use Rattle.fm_script_lines.{specs.Standings.{Names, standing_at}, proofs.Picking.{worker_lines-push}}
+use Rattle.fm_script_lines.specs.Report as report
 use Rattle.fm_workers_crew.specs.Crew.{AreDone}
-use Rattle.fm_script.specs.declared.player.Player.{Player}
-use Rattle.fm_script.specs.Players.{IsPlayer, Playing, Plays}
-use Rattle.fm_script.specs.Runs.{AllPlayed, names_lent}
-use Rattle.fm_script.proofs.After.{lent_next, made_lent}
-use Rattle.fm_script.proofs.Finding.{HaveFound, has_found}
-use Rattle.fm_script.proofs.Gathered.{lent_only}
+use Rattle.fm_script.specs.{declared.player.Player.{Player}, Players.{IsPlayer, Playing, Plays}, Runs.{AllPlayed, names_lent}}
+use Rattle.fm_script.proofs.{After.{lent_next, made_lent}, Finding.{HaveFound, has_found}, Gathered.{lent_only}}
 
 -- the place of a worker's first line, where this many are before it
 abbrev pub start_at : List Line → ℕ → ℕ

@@ -1,35 +1,19 @@
 -- What the lines of a script need, pass by pass.
 use Rattle.std.specs.Prelude.{vec_capacity}
 use Rattle.std.proofs.Common.{◌≡◌, ℕ, zero, suc, ◌+◌, ◌<◌, ◌≤◌, List, [], ◌∷◌, ◌++◌, length, length-append, map, get_or, All, refl, sym, ap, ◌∙◌, subst, arith, Option}
-use Rattle.std.proofs.lemmas.List.{length-map}
-use Rattle.std.specs.List.{AllByRecursion}
-use Rattle.std.proofs.lemmas.List.Elements.{All-from_recursion}
+use Rattle.std.{proofs.lemmas.List.{length-map, Elements.{All-from_recursion}}, specs.List.{AllByRecursion}}
 use Rattle.fm_base.specs.Calls.{Entry}
 use Rattle.fm_base_lists.proofs.Each.{all_weaker}
 use Rattle.fm_rule_facts.specs.Views.{View}
-use Rattle.fm_script_text.specs.declared.line.Line.{Line}
-use Rattle.fm_script_text.specs.Scripts.{IsSaid}
-use Rattle.fm_script_text.specs.Syntax.{IsSpelled}
-use Rattle.fm_script_lines.specs.declared.numbers.Numbers.{Numbers}
-use Rattle.fm_script_lines.specs.declared.reply.Reply.{Reply}
-use Rattle.fm_script_lines.specs.declared.standing.Standing.{Standing}
-use Rattle.fm_script_lines.specs.Admitted.{AreNumbered, KeepRules}
-use Rattle.fm_script_lines.specs.Numbers.{number_at, number_from}
-use Rattle.fm_script_lines.specs.Ordering.{in_order, worker_lines}
-use Rattle.fm_script_lines.specs.Playing.{LinesRan}
-use Rattle.fm_script_lines.specs.Report.{Done, is_first, is_last, is_worker, lines_by, worked as report_worked}
-use Rattle.fm_script_lines.specs.Standings.{IsBacked, IsSpent}
-use Rattle.fm_script_lines.proofs.AdmittedEnds.{main_spent}
-use Rattle.fm_script_lines.proofs.AdmittedMade.{lent_spent}
-use Rattle.fm_script_lines.proofs.AdmittedNumbers.{in_order_numbered, numbered_same, numbered_split}
-use Rattle.fm_script_lines.proofs.Backing.{backed_lent}
+use Rattle.fm_script_text.specs.{declared.line.Line.{Line}, Scripts.{IsSaid}, Syntax.{IsSpelled}}
+use Rattle.fm_script_lines.specs.{declared.{numbers.Numbers.{Numbers}, reply.Reply.{Reply}, standing.Standing.{Standing}}, Admitted.{AreNumbered, KeepRules}}
+use Rattle.fm_script_lines.specs.{Numbers.{number_at, number_from}, Ordering.{in_order, worker_lines}, Playing.{LinesRan}}
+use Rattle.fm_script_lines.specs.{Report.{Done, is_first, is_last, is_worker, lines_by, worked as report_worked}, Standings.{IsBacked, IsSpent}}
+use Rattle.fm_script_lines.proofs.{AdmittedEnds.{main_spent}, AdmittedMade.{lent_spent}, AdmittedNumbers.{in_order_numbered, numbered_same, numbered_split}}
+use Rattle.fm_script_lines.proofs.{Backing.{backed_lent}, Rows.{ran_many}}
 use Rattle.fm_workers_crew.specs.Crew.{AreDone}
-use Rattle.fm_script_lines.proofs.Rows.{ran_many}
-use Rattle.fm_script.specs.declared.player.Player.{Player}
-use Rattle.fm_script.specs.Players.{CanPlay, IsPlayer, Plays, playing}
-use Rattle.fm_script.specs.Runs.{AllPlayed, CanRun, names_lent}
-use Rattle.fm_script.proofs.After.{made_lent}
-use Rattle.fm_script.proofs.Reported.{AreTasks, Reported, reported, start_at, worked_lines}
+use Rattle.fm_script.specs.{declared.player.Player.{Player}, Players.{CanPlay, IsPlayer, Plays, playing}, Runs.{AllPlayed, CanRun, names_lent}}
+use Rattle.fm_script.proofs.{After.{made_lent}, Reported.{AreTasks, Reported, reported, start_at, worked_lines}}
 
 -- Lines that were said are spelled.
 pub all_spelled : (lines : List Line) → KeepRules lines → All (λ l. IsSpelled l.command) lines

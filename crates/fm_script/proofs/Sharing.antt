@@ -2,15 +2,11 @@
 use denote.Ref.{NamedLft}
 use denote.RattleType.{RattleType}
 use denote.Param.Send.{IsSend, IsSync, part_keyless, sendable}
-use Rattle.std.proofs.Crossing.{crosses}
-use Rattle.std.proofs.MapsCrossing.{crosses as maps_cross}
-use Rattle.std.proofs.MapsCrossingOver.{crosses as more_maps_cross}
-use Rattle.atomic_table.specs.contracts.shared.Seat.{the_row as seat_row}
-use Rattle.atomic_table.proofs.Sent.{seat_keyless}
+use Rattle.std.proofs.{Crossing.{crosses}, MapsCrossing.{crosses as maps_cross}, MapsCrossingOver.{crosses as more_maps_cross}}
+use Rattle.atomic_table.{specs.contracts.shared.Seat.{the_row as seat_row}, proofs.Sent.{seat_keyless}}
 use Rattle.fm_gate.specs.contracts.held.Hold.{the_row as hold_row}
 use Rattle.fm_arena.specs.contracts.handle.AutoHandle.{the_row as handle_row}
-use Rattle.fm_script_lines.specs.contracts.standing.Standing.{the_row as standing_row}
-use Rattle.fm_script_lines.specs.contracts.numbers.Numbers.{the_row as numbers_row}
+use Rattle.fm_script_lines.specs.contracts.{standing.Standing.{the_row as standing_row}, numbers.Numbers.{the_row as numbers_row}}
 use Rattle.fm_script_text.specs.contracts.line.Line.{the_row as line_row}
 use Rattle.fm_script.specs.contracts.lines.Lines.{the_row as lines_row}
 

@@ -1,7 +1,5 @@
 -- The first lines, the workers and the last lines over one table, where memory may be wanting to each.
-use Rattle.std.specs.Prelude.{OnOk, Vec}
-use Rattle.std.specs.Result.{is_err}
-use Rattle.std.specs.declared.alloc.Global.{Global}
+use Rattle.std.specs.{Prelude.{OnOk, Vec}, Result.{is_err}, declared.alloc.Global.{Global}}
 use Rattle.std.proofs.Common.{◌≡◌, ◌+◌, ◌≤◌, true, false, List, [], length, length-append, vec_capacity, Result, refl, sym, ap, ◌∙◌, subst, arith}
 use Rattle.std.proofs.lemmas.Result.{on_ok_weaker}
 use Rattle.fm_arena.specs.Shares.{CanShare}
@@ -9,22 +7,12 @@ use Rattle.fm_base.specs.declared.arena_id.ArenaId.{ArenaId}
 use Rattle.fm_rule.specs.declared.pool.Pool.{Pool}
 use Rattle.fm_rule_facts.specs.Views.{View, IsSound}
 use Rattle.fm_words.specs.declared.shape.Shape.{Shape}
-use Rattle.fm_script_text.specs.declared.line.Line.{Line}
-use Rattle.fm_script_text.specs.declared.who.Who.TheVariants.{First, Last}
-use Rattle.fm_script_lines.specs.declared.numbers.Numbers.{Numbers}
-use Rattle.fm_script_lines.specs.declared.reply.Reply.{Reply}
-use Rattle.fm_script_lines.specs.declared.standing.Standing.{Standing}
-use Rattle.fm_script_lines.specs.declared.table.Table.{Table}
-use Rattle.fm_script_lines.specs.Learnt.{AfterLines, CanRunLines, KeepsTable}
-use Rattle.fm_script_lines.specs.Playing.{LinesRan}
-use Rattle.fm_script_lines.specs.Report.{is_first, is_last, lines_by}
-use Rattle.fm_script_lines.specs.Tokens.{Backs, IsReady}
-use Rattle.fm_script_lines.proofs.Returning.{keeps_then}
-use Rattle.fm_script.specs.declared.main_lines.MainLines.{MainLines}
-use Rattle.fm_script.specs.declared.player.Player.{Player}
-use Rattle.fm_script.specs.Mains.{AfterAll, CanRunAll, CanWork, TakesOver}
-use Rattle.fm_script.specs.Players.{playing}
-use Rattle.fm_script.specs.Runs.{Worked, names_lent}
+use Rattle.fm_script_text.specs.declared.{line.Line.{Line}, who.Who.TheVariants.{First, Last}}
+use Rattle.fm_script_lines.specs.declared.{numbers.Numbers.{Numbers}, reply.Reply.{Reply}, standing.Standing.{Standing}, table.Table.{Table}}
+use Rattle.fm_script_lines.specs.{Learnt.{AfterLines, CanRunLines, KeepsTable}, Playing.{LinesRan}, Report.{is_first, is_last, lines_by}}
+use Rattle.fm_script_lines.{specs.Tokens.{Backs, IsReady}, proofs.Returning.{keeps_then}}
+use Rattle.fm_script.specs.{declared.{main_lines.MainLines.{MainLines}, player.Player.{Player}}, Mains.{AfterAll, CanRunAll, CanWork, TakesOver}}
+use Rattle.fm_script.specs.{Players.{playing}, Runs.{Worked, names_lent}}
 use Rattle.fm_script.proofs.Passing.{Behind, all_many, all_ran, backs_at, first_can, gathered_still, lent_known, not_ok, on_ok, ran_from, ready_backs, ready_none, whole_still}
 use Rattle.fm_script.proofs.Running.{all_spelled, in_order_many}
 

@@ -1,47 +1,25 @@
 -- What a script's passes did is its report.
 use Rattle.std.proofs.Common.{◌≡◌, ℕ, ◌+◌, ◌<◌, Bool, true, false, if◌then◌else◌, List, [], ◌∷◌, ◌++◌, length, length-append, map, append_assoc, refl, sym, ap, ◌∙◌, subst, arith, inl, inr, Option}
-use Rattle.std.specs.List.{AllByRecursion, flat_map}
-use Rattle.std.proofs.lemmas.List.{length-map, get_or_past, map-append}
-use Rattle.fm_base.specs.declared.caller.Caller.{Caller}
-use Rattle.fm_base.specs.Arenas.{are_one}
-use Rattle.fm_base.specs.Calls.{Entry}
-use Rattle.fm_base.specs.Finds.{Gathered}
-use Rattle.fm_base.specs.Histories.{IsLegal, made_by}
+use Rattle.std.{specs.List.{AllByRecursion, flat_map}, proofs.lemmas.List.{length-map, get_or_past, map-append}}
+use Rattle.fm_base.specs.{declared.caller.Caller.{Caller}, Arenas.{are_one}, Calls.{Entry}, Finds.{Gathered}, Histories.{IsLegal, made_by}}
 use Rattle.fm_base.proofs.Names.{are_one-true}
-use Rattle.fm_base_lists.specs.Among.{IsAmong, AreApart}
-use Rattle.fm_base_lists.proofs.Each.{all_among, all_weaker}
+use Rattle.fm_base_lists.{specs.Among.{IsAmong, AreApart}, proofs.Each.{all_among, all_weaker}}
 use Rattle.fm_words.specs.declared.shape.Shape.{Shape}
-use Rattle.fm_rule_facts.specs.Views.{View, In, IsSound, limit_of}
-use Rattle.fm_rule_facts.proofs.Keeping.{in_right}
+use Rattle.fm_rule_facts.{specs.Views.{View, In, IsSound, limit_of}, proofs.Keeping.{in_right}}
 use Rattle.fm_rule_calls.specs.Kept.{rest_of}
 use Rattle.fm_arena.specs.Opening.{HasNoSlot}
-use Rattle.fm_script_text.specs.declared.line.Line.{Line}
-use Rattle.fm_script_text.specs.Scripts.{ScriptOf}
-use Rattle.fm_script_lines.specs.declared.numbers.Numbers.{Numbers}
-use Rattle.fm_script_lines.specs.declared.reply.Reply.{Reply}
-use Rattle.fm_script_lines.specs.declared.standing.Standing.{Standing}
-use Rattle.fm_script_lines.specs.declared.standing.Standing.TheVariants.{Nothing}
-use Rattle.fm_script_lines.specs.Numbers.{number_at, number_from}
-use Rattle.fm_script_lines.specs.Ordering.{in_order, worker_lines}
-use Rattle.fm_script_lines.specs.Report as report
+use Rattle.fm_script_text.specs.{declared.line.Line.{Line}, Scripts.{ScriptOf}}
+use Rattle.fm_script_lines.specs.declared.{numbers.Numbers.{Numbers}, reply.Reply.{Reply}, standing.Standing.{Standing, TheVariants.{Nothing}}}
+use Rattle.fm_script_lines.specs.{Numbers.{number_at, number_from}, Ordering.{in_order, worker_lines}}
 use Rattle.fm_script_lines.specs.Report.{AreDrawn, Done, Played, AreRun, AreWorked, IsCut, IsReport, all_done, gathered_names, is_first, lines_by, lines_of, lent_names, names_after, none_stands, number_of, runs, worked}
-use Rattle.fm_script_lines.specs.Pages.{HavePages}
-use Rattle.fm_script_lines.specs.Slots.{HaveSlots, OpenRightly}
-use Rattle.fm_script_lines.specs.Standings.{Names, lent, standing_at}
-use Rattle.fm_script_laws.specs.Slots.{FindsTold}
-use Rattle.fm_script_laws.proofs.Workers.{workers_find}
-use Rattle.fm_workers_crew.specs.Crew.{CrewGathered, IsFresh, callers as crew_callers}
-use Rattle.fm_script_lines.proofs.Lent.{stays_lent}
+use Rattle.fm_script_lines.{specs.{Pages.{HavePages}, Slots.{HaveSlots, OpenRightly}, Standings.{Names, lent, standing_at}}, proofs.Lent.{stays_lent}}
 use Rattle.fm_script_lines.proofs.Rows.{ran_many}
-use Rattle.fm_script.specs.declared.player.Player.{Player}
-use Rattle.fm_script.specs.Players.{playing}
-use Rattle.fm_script.specs.Runs.{AllRan, CanRun, names_lent}
-use Rattle.fm_script.proofs.Finding.{all_told, callers_gathered, no_slot_still, none_held}
-use Rattle.fm_script.proofs.After.{lent_next, made_lent}
-use Rattle.fm_script.proofs.Gathered.{gathered_table, plain_at}
-use Rattle.fm_script.proofs.Paged.{have_pages}
-use Rattle.fm_script.proofs.Reported.{Reported, start_at, worked_lines}
-use Rattle.fm_script.proofs.Running.{workers_of}
+use Rattle.fm_script_lines.specs.Report as report
+use Rattle.fm_script_laws.{specs.Slots.{FindsTold}, proofs.Workers.{workers_find}}
+use Rattle.fm_workers_crew.specs.Crew.{CrewGathered, IsFresh, callers as crew_callers}
+use Rattle.fm_script.specs.{declared.player.Player.{Player}, Players.{playing}, Runs.{AllRan, CanRun, names_lent}}
+use Rattle.fm_script.proofs.{Finding.{all_told, callers_gathered, no_slot_still, none_held}, After.{lent_next, made_lent}, Gathered.{gathered_table, plain_at}}
+use Rattle.fm_script.proofs.{Paged.{have_pages}, Reported.{Reported, start_at, worked_lines}, Running.{workers_of}}
 
 -- The entries of one caller are its own.
 own_kept : (c : Caller) (es : List Entry) → AllByRecursion (λ e. e.caller ≡ c) (made_by c es)

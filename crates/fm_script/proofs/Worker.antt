@@ -1,22 +1,13 @@
 -- A pass that has played a worker's lines went on as a memory does.
-use Rattle.std.proofs.Common.{◌≡◌, List, [], ◌++◌, All, None, Ok, Err, Result, refl, sym, ap, ◌∙◌, subst, map}
-use Rattle.std.specs.Prelude.{OnOk, Vec}
+use Rattle.std.{proofs.Common.{◌≡◌, List, [], ◌++◌, All, None, Ok, Err, Result, refl, sym, ap, ◌∙◌, subst, map}, specs.Prelude.{OnOk, Vec}}
 use Rattle.std.specs.declared.alloc.Global.{Global}
 use Rattle.fm_base.specs.View.{Did, IsSound}
 use Rattle.fm_rule_facts.specs.Views.{View}
 use Rattle.fm_rule_calls.specs.Told.{view_of_pass}
-use Rattle.fm_script_lines.specs.declared.bound.Bound.{Bound}
-use Rattle.fm_script_lines.specs.declared.reply.Reply.{Reply}
-use Rattle.fm_script_lines.specs.declared.standing.Standing.{Standing}
-use Rattle.fm_script_lines.specs.Playing.{LinesRan}
-use Rattle.fm_script_lines.specs.Report.{runs}
-use Rattle.fm_script_lines.specs.Runs.{Went, WentOn}
-use Rattle.fm_script_lines.specs.Standings.{IsSpent, lent, standing_as}
-use Rattle.fm_script_lines.proofs.AdmittedEnds.{worker_spent}
-use Rattle.fm_script_lines.proofs.Going.{went_none, went_then}
-use Rattle.fm_script_lines.proofs.Settled.{settled}
-use Rattle.fm_script.specs.declared.player.Player.{Player}
-use Rattle.fm_script.specs.Players.{CanPlay, PlayedAs, Playing, Plays, PlaysLines, lines_for}
+use Rattle.fm_script_lines.specs.{declared.{bound.Bound.{Bound}, reply.Reply.{Reply}, standing.Standing.{Standing}}, Playing.{LinesRan}, Report.{runs}}
+use Rattle.fm_script_lines.{specs.{Runs.{Went, WentOn}, Standings.{IsSpent, lent, standing_as}}, proofs.AdmittedEnds.{worker_spent}}
+use Rattle.fm_script_lines.proofs.{Going.{went_none, went_then}, Settled.{settled}}
+use Rattle.fm_script.specs.{declared.player.Player.{Player}, Players.{CanPlay, PlayedAs, Playing, Plays, PlaysLines, lines_for}}
 
 pub did : {E : Type 0} (w : Playing) (p q : View) (old now new : Player) (result : Result (Unit {0}) E) → PlayedAs w p q old now result
     → IsSound (view_of_pass q) → new.number ≡ now.number → new.start ≡ now.start → new.caller ≡ q.caller → new.replies ≡ now.replies → new.lent ≡ now.lent

@@ -1,7 +1,6 @@
 -- A report tells no more arenas than its pool has slots.
 use Rattle.std.specs.Prelude.{◌≤◌, length}
-use Rattle.fm_script_report.specs.Told.{IsRunOf}
-use Rattle.fm_script_report.specs.Views.{ReportView}
+use Rattle.fm_script_report.specs.{Told.{IsRunOf}, Views.{ReportView}}
 use Rattle.fm_script_lines.specs.Admitted.{KeepRules}
 use Rattle.fm_script_text.specs.Scripts.{ScriptOf}
 

@@ -5,18 +5,10 @@ use Rattle.fm_base.specs.declared.arena_id.ArenaId.{ArenaId}
 use Rattle.fm_rule.specs.declared.pool.Pool.{Pool}
 use Rattle.fm_rule_facts.specs.Views.{View}
 use Rattle.fm_script_text.specs.declared.line.Line.{Line}
-use Rattle.fm_script_lines.specs.declared.numbers.Numbers.{Numbers}
-use Rattle.fm_script_lines.specs.declared.table.Table.{Table}
-use Rattle.fm_script_lines.specs.Learnt.{IsFresh, KeepsTable}
-use Rattle.fm_script_lines.specs.Ordering.{in_order}
-use Rattle.fm_script_lines.specs.Report.{is_first, is_last, lines_by}
-use Rattle.fm_script_lines.specs.Standings.{IsBacked}
-use Rattle.fm_script_lines.specs.Tokens.{Backs}
+use Rattle.fm_script_lines.specs.{declared.{numbers.Numbers.{Numbers}, table.Table.{Table}}, Learnt.{IsFresh, KeepsTable}, Ordering.{in_order}}
+use Rattle.fm_script_lines.specs.{Report.{is_first, is_last, lines_by}, Standings.{IsBacked}, Tokens.{Backs}}
 use Rattle.fm_workers_crew.specs.Crew.{IsWhole}
-use Rattle.fm_script.specs.declared.main_lines.MainLines.{MainLines}
-use Rattle.fm_script.specs.declared.player.Player.{Player}
-use Rattle.fm_script.specs.Players.{CanPlay, Playing}
-use Rattle.fm_script.specs.Runs.{AllRan, CanRun, names_lent}
+use Rattle.fm_script.specs.{declared.{main_lines.MainLines.{MainLines}, player.Player.{Player}}, Players.{CanPlay, Playing}, Runs.{AllRan, CanRun, names_lent}}
 
 -- nothing was replied yet, and there is room for the first lines' replies, the last ones', and so many names
 pub record HasRoom (lines : List Line) (names : ℕ) (m : MainLines) : Type 0 where

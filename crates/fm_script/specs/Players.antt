@@ -3,14 +3,8 @@ use Rattle.std.specs.Prelude.{◌≡◌, ℕ, ◌+◌, ◌<◌, ◌≤◌, [], L
 use Rattle.fm_base.specs.Calls.{Entry}
 use Rattle.fm_rule_facts.specs.Views.{View}
 use Rattle.fm_script_text.specs.declared.line.Line.{Line}
-use Rattle.fm_script_lines.specs.declared.numbers.Numbers.{Numbers}
-use Rattle.fm_script_lines.specs.declared.standing.Standing.{Standing}
-use Rattle.fm_script_lines.specs.Admitted.{AreNumbered, KeepRules}
-use Rattle.fm_script_lines.specs.Numbers.{number_at}
-use Rattle.fm_script_lines.specs.Playing.{LinesRan}
-use Rattle.fm_script_lines.specs.Report.{is_worker, lines_by, runs}
-use Rattle.fm_script_lines.specs.Runs.{Went}
-use Rattle.fm_script_lines.specs.Standings.{IsBacked, lent, standing_as}
+use Rattle.fm_script_lines.specs.{declared.{numbers.Numbers.{Numbers}, standing.Standing.{Standing}}, Admitted.{AreNumbered, KeepRules}, Numbers.{number_at}}
+use Rattle.fm_script_lines.specs.{Playing.{LinesRan}, Report.{is_worker, lines_by, runs}, Runs.{Went}, Standings.{IsBacked, lent, standing_as}}
 use Rattle.fm_script.specs.declared.player.Player.{Player}
 
 -- what all workers of a script play over: its lines, their numbers, and what the first lines' names stand for

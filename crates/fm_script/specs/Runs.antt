@@ -1,28 +1,16 @@
 -- What all lines of a script did, pass by pass, and which scripts are run.
-use Rattle.std.specs.Prelude.{◌≡◌, ◌⊎◌, ℕ, ◌+◌, ◌≤◌, List, [], ◌++◌, length, map, None, Ok}
-use Rattle.std.specs.List.{AllByRecursion, flat_map}
-use Rattle.fm_base.specs.declared.caller.Caller.{Caller}
-use Rattle.fm_base.specs.Arenas.{only_caller}
+use Rattle.std.specs.{Prelude.{◌≡◌, ◌⊎◌, ℕ, ◌+◌, ◌≤◌, List, [], ◌++◌, length, map, None, Ok}, List.{AllByRecursion, flat_map}}
+use Rattle.fm_base.specs.{declared.caller.Caller.{Caller}, Arenas.{only_caller}}
 use Rattle.fm_rule_facts.specs.Views.{View}
 use Rattle.fm_arena.specs.Opening.{HasNoSlot}
 use Rattle.fm_rule.specs.Finishing.{FinishedView, IsFinished}
 use Rattle.fm_words.specs.Shapes.{IsValid}
-use Rattle.fm_script_text.specs.declared.line.Line.{Line}
-use Rattle.fm_script_text.specs.Rules.{passes_of}
-use Rattle.fm_script_text.specs.Scripts.{ScriptOf}
+use Rattle.fm_script_text.specs.{declared.line.Line.{Line}, Rules.{passes_of}, Scripts.{ScriptOf}}
 use Rattle.fm_workers_crew.specs.Crew.{CrewWorked, IsWhole}
-use Rattle.fm_script_lines.specs.declared.numbers.Numbers.{Numbers}
-use Rattle.fm_script_lines.specs.declared.reply.Reply.{Reply}
-use Rattle.fm_script_lines.specs.declared.standing.Standing.{Standing}
-use Rattle.fm_script_lines.specs.Admitted.{KeepRules}
-use Rattle.fm_script_lines.specs.Numbers.{AreNumbers}
-use Rattle.fm_script_lines.specs.Ordering.{AreStarts, in_order}
-use Rattle.fm_script_lines.specs.Playing.{LinesRan}
-use Rattle.fm_script_lines.specs.Report.{is_first, is_last, lines_by}
+use Rattle.fm_script_lines.specs.{declared.{numbers.Numbers.{Numbers}, reply.Reply.{Reply}, standing.Standing.{Standing}}, Admitted.{KeepRules}}
+use Rattle.fm_script_lines.specs.{Numbers.{AreNumbers}, Ordering.{AreStarts, in_order}, Playing.{LinesRan}, Report.{is_first, is_last, lines_by}}
 use Rattle.fm_script_lines.specs.Standings.{lent, standing_as}
-use Rattle.fm_script.specs.declared.main_lines.MainLines.{MainLines}
-use Rattle.fm_script.specs.declared.player.Player.{Player}
-use Rattle.fm_script.specs.Players.{ArePlayers, Playing, Plays, playing}
+use Rattle.fm_script.specs.{declared.{main_lines.MainLines.{MainLines}, player.Player.{Player}}, Players.{ArePlayers, Playing, Plays, playing}}
 
 -- a script as its text spells it: its lines keep the rules, and its pool has a pass for each worker
 pub record IsWritten (s : ScriptOf) : Type 0 where

@@ -2,11 +2,9 @@
 use Rattle.std.proofs.Common.{get_or, le_trans}
 use Rattle.fm_rule_facts.specs.Views.{View}
 use Rattle.fm_rule_calls.specs.Kept.{Lasts}
-use Rattle.fm_script_lines.specs.Standings.{IsBacked, lent}
-use Rattle.fm_script_lines.specs.declared.standing.Standing.{Standing}
+use Rattle.fm_script_lines.specs.{Standings.{IsBacked, lent}, declared.standing.Standing.{Standing}}
 use Rattle.fm_script_lines.specs.declared.standing.Standing.TheVariants as standing
-use Rattle.fm_script.specs.declared.player.Player.{Player}
-use Rattle.fm_script.specs.Players.{CanPlay, Playing}
+use Rattle.fm_script.specs.{declared.player.Player.{Player}, Players.{CanPlay, Playing}}
 
 -- What others may use is known later too.
 pub lent_later : (p q : View) → Lasts p q → (s : Standing) → IsBacked p (lent s) → IsBacked q (lent s)

@@ -1,38 +1,22 @@
 -- Accesses to segments open no arena.
 use Rattle.std.proofs.Common.{◌≡◌, ℕ, ℤ, ◌+◌, ◌/◌, ◌==◌, Bool, true, false, MatchBool, Option, Some, None, Result, Ok, Err, List, [], ◌∷◌, ◌++◌, replicate, sym, subst}
-use Rattle.std.specs.Prelude.{⊤}
-use Rattle.std.specs.List.{AllByRecursion}
-use Rattle.fm_segment_access.specs.Found.{DoesAt}
-use Rattle.fm_segment_access.specs.Pieces.{PutsBytes, whole, narrow, PutsPiece, ReadsPiece}
+use Rattle.std.specs.{Prelude.{⊤}, List.{AllByRecursion}}
+use Rattle.fm_segment_access.specs.{Found.{DoesAt}, Pieces.{PutsBytes, whole, narrow, PutsPiece, ReadsPiece}}
 use Rattle.fm_segment_access.specs.Ranges.{Reading, ReadsOn, EndsReading, Putting, putting, PutsOn, EndsPutting, DoesPut, DoesFill}
-use Rattle.fm_base.specs.declared.arena_id.ArenaId.{ArenaId}
-use Rattle.fm_base.specs.declared.caller.Caller.{Caller}
-use Rattle.fm_base.specs.declared.refusal.Refusal.{Refusal}
-use Rattle.fm_base.specs.declared.refusal.Refusal.TheVariants.{WrongThread, Closed}
+use Rattle.fm_base.specs.declared.{arena_id.ArenaId.{ArenaId}, caller.Caller.{Caller}, refusal.Refusal.{Refusal, TheVariants.{WrongThread, Closed}}}
 use Rattle.fm_base.specs.Calls.{Call, Open, Read, Leave, Fine, Found, Entry, entry_of}
 use Rattle.fm_base.specs.Visits.{Acts, entries_of, visit, refused_visit, Tries, looked, missed, hit, Run, ends, goes_on}
-use Rattle.fm_segment_copies.specs.declared.side.Piece.{Piece}
-use Rattle.fm_segment_copies.specs.declared.side.Side.{Side}
-use Rattle.fm_segment_copies.specs.declared.side.Way.{Way}
-use Rattle.fm_segment_copies.specs.declared.side.Way.TheVariants.{Up}
-use Rattle.fm_segment_copies.specs.Comparisons.{ComparesPiece, AgreesOn, EndsComparing, DoesCompare}
-use Rattle.fm_segment_copies.specs.Copies.{CopiesPiece, CopiesOn, EndsCopy, DoesCopy}
+use Rattle.fm_segment_copies.specs.declared.side.{Piece.{Piece}, Side.{Side}, Way.{Way, TheVariants.{Up}}}
+use Rattle.fm_segment_copies.specs.{Comparisons.{ComparesPiece, AgreesOn, EndsComparing, DoesCompare}, Copies.{CopiesPiece, CopiesOn, EndsCopy, DoesCopy}}
 use Rattle.fm_segment_copies.specs.Sides.{side, next_piece, StopsAt, first, second}
-use Rattle.fm_handle.specs.Access.{DoesVisit}
+use Rattle.fm_handle.specs.{Access.{DoesVisit}, Acts.{Exchanges, CutOff}}
 use Rattle.fm_handle.specs.Acts as update
-use Rattle.fm_handle.specs.Acts.{Exchanges, CutOff}
-use Rattle.fm_lanes.specs.declared.order.Order.{Order}
-use Rattle.fm_lanes.specs.declared.value.Value.{Value}
-use Rattle.fm_lanes.specs.Coding.{bytes_of_value}
-use Rattle.fm_lanes.specs.Kind.{width_of}
+use Rattle.fm_lanes.specs.{declared.{order.Order.{Order}, value.Value.{Value}}, Coding.{bytes_of_value}, Kind.{width_of}}
 use Rattle.fm_layout.specs.Tree as tree
 use Rattle.fm_layout.specs.Tree.{Tree}
 use Rattle.fm_base_lists.proofs.Each.{all_both}
-use Rattle.fm_segment.specs.Access.{DoesGetAt, DoesSetAt}
-use Rattle.fm_segment.specs.Comparisons.{DoesMismatch, common_size}
-use Rattle.fm_segment.specs.Copies.{DoesCopySegment, checked_copy}
-use Rattle.fm_segment.specs.Fills.{DoesAfter, DoesFillSegment, checked_write}
-use Rattle.fm_segment.specs.Region.{Region}
+use Rattle.fm_segment.specs.{Access.{DoesGetAt, DoesSetAt}, Comparisons.{DoesMismatch, common_size}, Copies.{DoesCopySegment, checked_copy}}
+use Rattle.fm_segment.specs.{Fills.{DoesAfter, DoesFillSegment, checked_write}, Region.{Region}}
 
 -- the call opens no arena
 abbrev pub OpensNone : Call → Type 0

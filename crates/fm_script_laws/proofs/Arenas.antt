@@ -1,25 +1,16 @@
 -- Lines about arenas, their holds and handles: they change no byte, and what they make is there.
 use Rattle.std.proofs.Common.{◌≡◌, ℕ, Bool, true, false, Result, Ok, Err, List, [], refl, ap}
 use Rattle.fm_segment_laws.specs.Accesses.{IsTidyBy}
-use Rattle.fm_base.specs.declared.arena_id.ArenaId.{ArenaId}
-use Rattle.fm_base.specs.declared.caller.Caller.{Caller}
-use Rattle.fm_base.specs.declared.kind.Kind.{Kind}
+use Rattle.fm_base.specs.{declared.{arena_id.ArenaId.{ArenaId}, caller.Caller.{Caller}, kind.Kind.{Kind}, refusal.Refusal.{Refusal}}, Arenas.{State, has_arena}}
+use Rattle.fm_base.specs.{Calls.{Entry}, Does.{DoesOpen, DoesAllocate, DoesClose, DoesIsAlive, DoesHold, DoesAgain, DoesGiveBack}, Histories.{state_after}}
+use Rattle.fm_base.{specs.View.{but_loans}, proofs.Learning.{open_is_new, allocate_gives}}
 use Rattle.fm_base.specs.declared.kind.Kind.TheVariants as kind
-use Rattle.fm_base.specs.declared.refusal.Refusal.{Refusal}
 use Rattle.fm_base.specs.declared.refusal.Refusal.TheVariants as refusal
-use Rattle.fm_base.specs.Arenas.{State, has_arena}
-use Rattle.fm_base.specs.Calls.{Entry}
-use Rattle.fm_base.specs.Does.{DoesOpen, DoesAllocate, DoesClose, DoesIsAlive, DoesHold, DoesAgain, DoesGiveBack}
-use Rattle.fm_base.specs.Histories.{state_after}
-use Rattle.fm_base.specs.View.{but_loans}
-use Rattle.fm_base.proofs.Learning.{open_is_new, allocate_gives}
 use Rattle.fm_script_lines.specs.declared.outcome.LineOutcome.{LineOutcome}
 use Rattle.fm_script_lines.specs.Calls.{coming, fine, Opens, Allocates, Asks, Closes, Holds, Unholds, TakesAgain, GivesBack, OverPool}
-use Rattle.fm_script_lines.specs.declared.reply.Reply.TheVariants.{Fine, Place, Truth}
-use Rattle.fm_script_lines.specs.declared.standing.Standing.TheVariants.{Segment}
-use Rattle.fm_script_lines.specs.Outcomes.{outcome, plain}
-use Rattle.fm_gate.specs.Makers.{Made}
+use Rattle.fm_script_lines.specs.{declared.{reply.Reply.TheVariants.{Fine, Place, Truth}, standing.Standing.TheVariants.{Segment}}, Outcomes.{outcome, plain}}
 use Rattle.fm_script_lines.specs.Standings.{opened_as, held_as, handled_as}
+use Rattle.fm_gate.specs.Makers.{Made}
 use Rattle.fm_segment.specs.Region.{region_of}
 use Rattle.fm_script_laws.proofs.Backing.{IsThere, nothing_there}
 use Rattle.fm_script_laws.proofs.Calling.{Own, Comes, silent, later, makes, grown, none_tidy, nothing_comes, plain_comes, making_comes}

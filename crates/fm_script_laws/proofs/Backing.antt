@@ -1,19 +1,10 @@
 -- What names stand for is known in a state, and stays so.
-use Rattle.std.proofs.Common.{◌≡◌, ℕ, ◌+◌, ◌≤◌, ◌==◌, Bool, true, false, if◌then◌else◌, List, Option, Some, None, subst, sym, arith}
-use Rattle.std.specs.Prelude.{IfSome}
-use Rattle.fm_base.specs.Arenas.{State, arena_of, has_arena}
-use Rattle.fm_base.specs.declared.arena_id.ArenaId.{ArenaId}
-use Rattle.fm_base.proofs.Growing.{Grows}
-use Rattle.fm_script_lines.specs.declared.standing.Standing.{Standing}
-use Rattle.fm_script_lines.specs.declared.standing.Standing.TheVariants.{Nothing}
-use Rattle.fm_script_lines.specs.Lines.{behind, is_number}
-use Rattle.fm_script_lines.specs.Report.{Done, names_behind}
+use Rattle.std.{proofs.Common.{◌≡◌, ℕ, ◌+◌, ◌≤◌, ◌==◌, Bool, true, false, if◌then◌else◌, List, Option, Some, None, subst, sym, arith}, specs.Prelude.{IfSome}}
+use Rattle.fm_base.{specs.{Arenas.{State, arena_of, has_arena}, declared.arena_id.ArenaId.{ArenaId}}, proofs.Growing.{Grows}}
+use Rattle.fm_script_lines.specs.{declared.standing.Standing.{Standing, TheVariants.{Nothing}}, Lines.{behind, is_number}, Report.{Done, names_behind}}
+use Rattle.fm_script_lines.{specs.{Standings.{Names, lent, stands_of, unheld, handed_back}, Tables.{SeenAs}}, proofs.Backing.{some_weaker}}
+use Rattle.fm_script_lines.proofs.{Lent.{seen_alike, stays_lent}, Naming.{lent_seen}}
 use Rattle.fm_script_lines.specs.Standings as standing
-use Rattle.fm_script_lines.specs.Standings.{Names, lent, stands_of, unheld, handed_back}
-use Rattle.fm_script_lines.specs.Tables.{SeenAs}
-use Rattle.fm_script_lines.proofs.Backing.{some_weaker}
-use Rattle.fm_script_lines.proofs.Lent.{seen_alike, stays_lent}
-use Rattle.fm_script_lines.proofs.Naming.{lent_seen}
 use Rattle.fm_script_text.specs.declared.command.Command.{Command}
 use Rattle.fm_script_text.specs.declared.command.Command.TheVariants as command
 use Rattle.fm_segment.specs.Region.{Region}

@@ -1,27 +1,15 @@
 -- A line's own entries in a legal history: they are tidy, and what its name stands for is there behind them.
 use Rattle.std.proofs.Common.{◌≡◌, ℕ, true, false, Option, Some, None, Result, Ok, Err, List, [], length, refl, sym, ap, ◌∙◌, subst, inl, inr, arith}
 use Rattle.std.specs.Prelude.{◌⊎◌, IfSome}
-use Rattle.fm_segment_laws.specs.Accesses.{DoesAccess, IsTidyBy}
-use Rattle.fm_segment_laws.specs.Handles.{DoesCall}
-use Rattle.fm_segment_laws.proofs.Handling.{handles_tidy}
-use Rattle.fm_segment_laws.proofs.Staying.{StayBelow, tidy_by}
+use Rattle.fm_segment_laws.{specs.{Accesses.{DoesAccess, IsTidyBy}, Handles.{DoesCall}}, proofs.{Handling.{handles_tidy}, Staying.{StayBelow, tidy_by}}}
 use Rattle.fm_segment_laws.proofs.Tidying.{tidy}
-use Rattle.fm_base.specs.declared.arena_id.ArenaId.{ArenaId}
-use Rattle.fm_base.specs.declared.caller.Caller.{Caller}
-use Rattle.fm_base.specs.declared.refusal.Refusal.{Refusal}
-use Rattle.fm_base.specs.Arenas.{State}
-use Rattle.fm_base.specs.Calls.{Entry}
-use Rattle.fm_base.specs.Histories.{IsLegal, made_by, state_after}
-use Rattle.fm_base.specs.View.{View, Makes, inside_after}
-use Rattle.fm_base.proofs.Growing.{Grows, Grows-state_after}
+use Rattle.fm_base.specs.{declared.{arena_id.ArenaId.{ArenaId}, caller.Caller.{Caller}, refusal.Refusal.{Refusal}}, Arenas.{State}, Calls.{Entry}}
+use Rattle.fm_base.{specs.{Histories.{IsLegal, made_by, state_after}, View.{View, Makes, inside_after}}, proofs.Growing.{Grows, Grows-state_after}}
 use Rattle.fm_path.specs.Resolution.{Resolution, StaysInside}
-use Rattle.fm_script_lines.specs.declared.outcome.LineOutcome.{LineOutcome}
-use Rattle.fm_script_lines.specs.declared.standing.Standing.{Standing}
-use Rattle.fm_script_lines.specs.declared.standing.Standing.TheVariants.{Nothing}
+use Rattle.fm_script_lines.specs.declared.{outcome.LineOutcome.{LineOutcome}, standing.Standing.{Standing, TheVariants.{Nothing}}}
 use Rattle.fm_script_lines.specs.Calls.{Line, On, Skips, Called, coming}
 use Rattle.fm_segment.specs.Region.{Region}
-use Rattle.fm_script_laws.proofs.Backing.{IsGiven, IsThere, nothing_there}
-use Rattle.fm_script_laws.proofs.Parting.{own_none}
+use Rattle.fm_script_laws.proofs.{Backing.{IsGiven, IsThere, nothing_there}, Parting.{own_none}}
 
 -- a memory in this state, of which no more is known
 abbrev pub silent : Caller → ℕ → State → View

@@ -1,37 +1,21 @@
 -- What a line's call answers may come over a pool, where it wants no page.
 use Rattle.std.proofs.Common.{◌≡◌, ℕ, ◌+◌, ◌==◌, nat_le, nat_lt, nat_eq, if◌then◌else◌, Bool, true, false, MatchBool, Result, Ok, Err, List, [], ◌∷◌, replicate, refl, sym, subst, ℤ}
 use Rattle.std.specs.Prelude.{◌%◌, ◌&&◌}
-use Rattle.fm_segment_access.specs.Found.{DoesAt}
-use Rattle.fm_segment_access.specs.Ranges.{DoesFill, DoesPut}
-use Rattle.fm_base.specs.declared.arena_id.ArenaId.{ArenaId}
-use Rattle.fm_base.specs.declared.caller.Caller.{Caller}
-use Rattle.fm_base.specs.declared.kind.Kind.{Kind}
-use Rattle.fm_base.specs.declared.refusal.Refusal.{Refusal}
-use Rattle.fm_base.specs.declared.refusal.Refusal.TheVariants as refusal
-use Rattle.fm_base.specs.Calls.{Entry}
-use Rattle.fm_base.specs.Does.{DoesOpen, DoesClose, DoesEnter, DoesIsAlive, DoesHold, DoesAgain}
-use Rattle.fm_base.specs.Outcomes.{MayCome, MayRefuse, Nature}
-use Rattle.fm_base.specs.View.{but_loans}
+use Rattle.fm_segment_access.specs.{Found.{DoesAt}, Ranges.{DoesFill, DoesPut}}
+use Rattle.fm_base.specs.{declared.{arena_id.ArenaId.{ArenaId}, caller.Caller.{Caller}, kind.Kind.{Kind}, refusal.Refusal.{Refusal}}, Calls.{Entry}}
+use Rattle.fm_base.specs.{Does.{DoesOpen, DoesClose, DoesEnter, DoesIsAlive, DoesHold, DoesAgain}, Outcomes.{MayCome, MayRefuse, Nature}, View.{but_loans}}
 use Rattle.fm_base.specs.Visits.{Acts}
+use Rattle.fm_base.specs.declared.refusal.Refusal.TheVariants as refusal
 use Rattle.fm_arena.specs.Shares.{nature_of_shared}
-use Rattle.fm_segment_copies.specs.Comparisons.{DoesCompare}
-use Rattle.fm_segment_copies.specs.Copies.{DoesCopy}
-use Rattle.fm_segment_copies.specs.Sides.{side}
-use Rattle.fm_segment_copies.specs.declared.side.Side.{Side}
-use Rattle.fm_handle.specs.Access.{DoesVisit}
-use Rattle.fm_handle.specs.Place.{can_update, if_admitted, if_rooted, if_writable, update_place_of, value_place}
-use Rattle.fm_lanes.specs.declared.value.Value.{Value}
-use Rattle.fm_lanes.specs.Coding.{bytes_of_value}
-use Rattle.fm_layout.specs.Size.{size_of}
+use Rattle.fm_segment_copies.specs.{Comparisons.{DoesCompare}, Copies.{DoesCopy}, Sides.{side}, declared.side.Side.{Side}}
+use Rattle.fm_handle.specs.{Access.{DoesVisit}, Place.{can_update, if_admitted, if_rooted, if_writable, update_place_of, value_place}}
+use Rattle.fm_lanes.specs.{declared.value.Value.{Value}, Coding.{bytes_of_value}}
+use Rattle.fm_layout.specs.{Size.{size_of}, Tree.{Tree, alignment_of}}
 use Rattle.fm_layout.specs.Tree as tree
-use Rattle.fm_layout.specs.Tree.{Tree, alignment_of}
 use Rattle.fm_path.specs.Resolution.{Resolution}
 use Rattle.fm_path_meaning.specs.declared.dim.Dim.{Dim}
-use Rattle.fm_segment.specs.Access.{DoesGetAt, DoesSetAt, place_of, writable_place_of}
-use Rattle.fm_segment.specs.Comparisons.{DoesMismatch, common_size}
-use Rattle.fm_segment.specs.Copies.{DoesCopySegment}
-use Rattle.fm_segment.specs.Fills.{DoesAfter, DoesFillSegment}
-use Rattle.fm_segment.specs.Region.{Region}
+use Rattle.fm_segment.specs.{Access.{DoesGetAt, DoesSetAt, place_of, writable_place_of}, Comparisons.{DoesMismatch, common_size}, Copies.{DoesCopySegment}}
+use Rattle.fm_segment.specs.{Fills.{DoesAfter, DoesFillSegment}, Region.{Region}}
 
 -- what a pool answers to calls that take neither memory nor pages
 abbrev pub without_pages : Nature

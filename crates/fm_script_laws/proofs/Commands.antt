@@ -1,22 +1,15 @@
 -- A line of each command comes to what is tidy, and what its name stands for is there behind it.
-use Rattle.std.proofs.Common.{◌≡◌, ℕ, true, List}
-use Rattle.fm_base.specs.declared.arena_id.ArenaId.{ArenaId}
-use Rattle.fm_base.specs.declared.caller.Caller.{Caller}
-use Rattle.fm_base.specs.Arenas.{State, has_arena}
-use Rattle.fm_base.specs.Calls.{Entry}
-use Rattle.fm_script_lines.specs.declared.outcome.LineOutcome.{LineOutcome}
-use Rattle.fm_script_lines.specs.declared.standing.Standing.{Standing}
+use Rattle.std.{proofs.Common.{◌≡◌, ℕ, true, List}, specs.Prelude.{Ok, IfSome, Option, Some, None, ⊤}}
+use Rattle.fm_base.specs.{declared.{arena_id.ArenaId.{ArenaId}, caller.Caller.{Caller}}, Arenas.{State, has_arena}, Calls.{Entry}}
+use Rattle.fm_script_lines.specs.declared.{outcome.LineOutcome.{LineOutcome}, standing.Standing.{Standing}}
 use Rattle.fm_script_lines.specs.Calls.{Line, On, Called, Answers, segment_made, CallDoes, Gets, Sets, Adds, Exchanges, Fills, Copies, Compares, Allocates, Asks, Closes, Holds, Unholds, TakesAgain, GivesBack}
 use Rattle.fm_script_lines.specs.Standings as standing
 use Rattle.fm_script_text.specs.declared.command.Command.{Command}
 use Rattle.fm_script_text.specs.declared.command.Command.TheVariants as command
-use Rattle.fm_segment.specs.Region.{Region, read_only_of}
-use Rattle.fm_segment.specs.Slices.{slice_of}
-use Rattle.std.specs.Prelude.{Ok, IfSome, Option, Some, None, ⊤}
+use Rattle.fm_segment.specs.{Region.{Region, read_only_of}, Slices.{slice_of}}
 use Rattle.fm_script_laws.specs.Lines.{FillsWithByte}
 use Rattle.fm_script_laws.proofs.Arenas.{opens_come, allocates_come, asks_come, closes_come, holds_come, unholds_come, takes_come, gives_back_comes}
-use Rattle.fm_script_laws.proofs.Backing.{IsGiven, IsThere}
-use Rattle.fm_script_laws.proofs.Calling.{Own, Comes, on_comes}
+use Rattle.fm_script_laws.proofs.{Backing.{IsGiven, IsThere}, Calling.{Own, Comes, on_comes}}
 use Rattle.fm_script_laws.proofs.Segments.{slices_come, read_only_comes, gets_come, sets_come, adds_come, exchanges_come, fills_come, copies_come, compares_come}
 
 -- Nothing is asked of a hold or a handle.

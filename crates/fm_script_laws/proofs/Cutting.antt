@@ -1,9 +1,6 @@
 -- Entries cut where a caller's own are.
 use Rattle.std.proofs.Common.{◌≡◌, Bool, true, false, cond, List, [], ◌∷◌, ◌++◌, refl, ap, ◌∙◌}
-use Rattle.fm_base.specs.declared.caller.Caller.{Caller}
-use Rattle.fm_base.specs.Arenas.{are_one}
-use Rattle.fm_base.specs.Calls.{Entry}
-use Rattle.fm_base.specs.Histories.{made_by}
+use Rattle.fm_base.specs.{declared.caller.Caller.{Caller}, Arenas.{are_one}, Calls.{Entry}, Histories.{made_by}}
 
 -- the caller's own are these before the cut, and those behind it
 pub record Cut (c : Caller) (all own rest : List Entry) : Type 0 where

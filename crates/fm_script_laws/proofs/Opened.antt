@@ -1,16 +1,10 @@
 -- An arena that is there was opened, and by a line that says so.
 use Rattle.std.proofs.Common.{◌≡◌, ℕ, Bool, true, false, not, if◌then◌else◌, List, [], ◌∷◌, ◌++◌, refl, sym, ap, ◌∙◌, subst, ◌⊎◌, inl, inr}
-use Rattle.fm_base.specs.declared.arena_id.ArenaId.{ArenaId}
-use Rattle.fm_base.specs.declared.caller.Caller.{Caller}
-use Rattle.fm_base.specs.Arenas.{Arena, State, are_one, has_arena, owner_of, same_id}
+use Rattle.fm_base.specs.{declared.{arena_id.ArenaId.{ArenaId}, caller.Caller.{Caller}}, Arenas.{Arena, State, are_one, has_arena, owner_of, same_id}}
 use Rattle.fm_base.specs.Calls.{Call, Open, Enter, Write, SwapIf, Add, Allocate, Leave, Hold, Unhold, Shut, End, Reply, Fine, Found, Given, Entry}
-use Rattle.fm_base.specs.Histories.{IsLegal, made_by, state_after}
-use Rattle.fm_base.specs.Machine.{MayCall, Change, Opens, Alters, Rests, made, change_of, after}
-use Rattle.fm_base.specs.View.{but_loans, is_loan}
-use Rattle.fm_base.proofs.Lookup.{changed_has}
-use Rattle.fm_base.proofs.Names.{are_one-self, same_id-true}
-use Rattle.fm_base_lists.specs.Among.{IsAmong}
-use Rattle.fm_base_lists.proofs.Each.{all_among, all_of_among}
+use Rattle.fm_base.specs.{Histories.{IsLegal, made_by, state_after}, Machine.{MayCall, Change, Opens, Alters, Rests, made, change_of, after}}
+use Rattle.fm_base.{specs.View.{but_loans, is_loan}, proofs.{Lookup.{changed_has}, Names.{are_one-self, same_id-true}}}
+use Rattle.fm_base_lists.{specs.Among.{IsAmong}, proofs.Each.{all_among, all_of_among}}
 use Rattle.fm_script_lines.proofs.Allocating.{among_passes}
 use Rattle.fm_script_laws.proofs.Accessing.{AllOpenNone, OpensNone, open_as}
 

@@ -1,35 +1,23 @@
 -- Whose entry opens an arena, that line is an `open` line that was answered ok.
 use Rattle.std.proofs.Common.{◌≡◌, ℕ, ◌+◌, Bool, true, false, Option, Some, None, Result, Ok, Err, List, [], ◌∷◌, ◌++◌, refl, sym, ap, ◌∙◌, subst, inl, inr}
-use Rattle.fm_base.specs.declared.arena_id.ArenaId.{ArenaId}
-use Rattle.fm_base.specs.declared.caller.Caller.{Caller}
-use Rattle.fm_base.specs.declared.kind.Kind.{Kind}
-use Rattle.fm_base.specs.declared.kind.Kind.TheVariants as kind
-use Rattle.fm_base.specs.declared.refusal.Refusal.{Refusal}
-use Rattle.fm_base.specs.declared.refusal.Refusal.TheVariants as refusal
-use Rattle.fm_base.specs.Calls.{Open, Fine, Entry, entry_of}
-use Rattle.fm_base.specs.Does.{DoesOpen, DoesAllocate, DoesClose, DoesIsAlive, DoesHold, DoesAgain, DoesGiveBack}
+use Rattle.fm_base.specs.declared.{arena_id.ArenaId.{ArenaId}, caller.Caller.{Caller}, kind.Kind.{Kind}, refusal.Refusal.{Refusal}}
+use Rattle.fm_base.specs.{Calls.{Open, Fine, Entry, entry_of}, Does.{DoesOpen, DoesAllocate, DoesClose, DoesIsAlive, DoesHold, DoesAgain, DoesGiveBack}}
 use Rattle.fm_base.specs.View.{but_loans}
-use Rattle.fm_base_lists.specs.Among.{IsAmong}
-use Rattle.fm_base_lists.proofs.Among.{among_either}
-use Rattle.fm_rule_facts.specs.Views.{In}
-use Rattle.fm_rule_facts.proofs.Keeping.{in_left, in_right}
-use Rattle.fm_script_lines.specs.declared.outcome.LineOutcome.{LineOutcome}
-use Rattle.fm_script_lines.specs.declared.reply.Reply.TheVariants as reply
-use Rattle.fm_script_lines.specs.declared.standing.Standing.{Standing}
+use Rattle.fm_base.specs.declared.kind.Kind.TheVariants as kind
+use Rattle.fm_base.specs.declared.refusal.Refusal.TheVariants as refusal
+use Rattle.fm_base_lists.{specs.Among.{IsAmong}, proofs.Among.{among_either}}
+use Rattle.fm_rule_facts.{specs.Views.{In}, proofs.Keeping.{in_left, in_right}}
+use Rattle.fm_script_lines.specs.declared.{outcome.LineOutcome.{LineOutcome}, standing.Standing.{Standing}}
 use Rattle.fm_script_lines.specs.Calls.{Line, On, Called, Answers, CallDoes, Gets, Sets, Adds, Exchanges, Fills, Copies, Compares, Allocates, Asks, Closes, Holds, Unholds, TakesAgain, GivesBack, coming, segment_made, tree_of}
-use Rattle.fm_script_lines.specs.Outcomes.{outcome}
-use Rattle.fm_script_lines.specs.Played.{Done, runs}
-use Rattle.fm_script_lines.specs.Report.{AreRun, names_behind}
-use Rattle.fm_script_lines.specs.Slots.{Opened, opens}
+use Rattle.fm_script_lines.specs.{Outcomes.{outcome}, Played.{Done, runs}, Report.{AreRun, names_behind}, Slots.{Opened, opens}}
+use Rattle.fm_script_lines.specs.Standings.{Names, opened_as, stands_of}
+use Rattle.fm_script_lines.specs.declared.reply.Reply.TheVariants as reply
 use Rattle.fm_script_lines.specs.Standings as standing
 use Rattle.fm_gate.specs.Makers.{Made}
-use Rattle.fm_script_lines.specs.Standings.{Names, opened_as, stands_of}
 use Rattle.fm_handle.specs.Place.{can_update, update_place_of}
 use Rattle.fm_script_text.specs.declared.command.Command.{Command}
 use Rattle.fm_script_text.specs.declared.command.Command.TheVariants as command
-use Rattle.fm_segment.specs.Access.{place_of, writable_place_of}
-use Rattle.fm_segment.specs.Region.{Region, read_only_of}
-use Rattle.fm_segment.specs.Slices.{slice_of}
+use Rattle.fm_segment.specs.{Access.{place_of, writable_place_of}, Region.{Region, read_only_of}, Slices.{slice_of}}
 use Rattle.fm_script_laws.proofs.Accessing.{AllOpenNone, open_as, gets_open, sets_open, fills_open, copies_open, mismatch_open, exchanges_open, adds_open}
 use Rattle.fm_script_laws.proofs.Opened.{among_but, but_as, none_opens}
 

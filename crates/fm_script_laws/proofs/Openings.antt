@@ -1,17 +1,13 @@
 -- Where each slot was lent to one of these lines, as many of them opened an arena.
 use Rattle.std.proofs.Common.{◌≡◌, ◌≢◌, ℕ, zero, suc, ◌+◌, ◌<◌, ◌≤◌, true, Option, Some, None, List, [], ◌∷◌, ◌++◌, filter, length, map, sym, ap, ◌∙◌, subst, inl, inr, arith}
-use Rattle.std.specs.Prelude.{◌&&◌}
-use Rattle.std.proofs.lemmas.List.{length-map}
+use Rattle.std.{specs.Prelude.{◌&&◌}, proofs.lemmas.List.{length-map}}
 use Rattle.fm_base.specs.declared.arena_id.ArenaId.{ArenaId}
-use Rattle.fm_base_lists.specs.Among.{IsAmong}
-use Rattle.fm_base_lists.proofs.Among.{among_map}
+use Rattle.fm_base_lists.{specs.Among.{IsAmong}, proofs.Among.{among_map}}
 use Rattle.fm_rule_facts.specs.Views.{In}
-use Rattle.fm_script_lines.specs.Played.{Done, Player, worked}
-use Rattle.fm_script_lines.specs.Slots.{FindRightly, Opened, WorkersFind}
-use Rattle.fm_script_lines.specs.Standings.{arena_of}
+use Rattle.fm_script_lines.specs.{Played.{Done, Player, worked}, Slots.{FindRightly, Opened, WorkersFind}, Standings.{arena_of}}
+use Rattle.fm_script_lines.proofs.Allocating.{among_passes}
 use Rattle.fm_words.specs.declared.shape.Shape.{Shape}
 use Rattle.fm_script_laws.specs.Openings.{FindMany, ReportsFindMany, WorkersFindMany, how_many_open, is_fine, is_opening}
-use Rattle.fm_script_lines.proofs.Allocating.{among_passes}
 
 -- ---- numbers
 

@@ -1,15 +1,9 @@
 -- Tidy histories of many callers, and in parts.
-use Rattle.std.proofs.Common.{◌≡◌, ℕ, Bool, true, false, cond, List, [], ◌∷◌, ◌++◌, refl}
-use Rattle.std.specs.List.{AllByRecursion}
+use Rattle.std.{proofs.Common.{◌≡◌, ℕ, Bool, true, false, cond, List, [], ◌∷◌, ◌++◌, refl}, specs.List.{AllByRecursion}}
 use Rattle.fm_segment_laws.specs.Accesses.{IsTidyBy}
-use Rattle.fm_base.specs.declared.caller.Caller.{Caller}
-use Rattle.fm_base.specs.Arenas.{State, are_one}
-use Rattle.fm_base.specs.Calls.{Entry}
-use Rattle.fm_base.specs.Histories.{IsTidy, made_by, state_after}
-use Rattle.fm_base.specs.Machine.{after}
+use Rattle.fm_base.specs.{declared.caller.Caller.{Caller}, Arenas.{State, are_one}, Calls.{Entry}, Histories.{IsTidy, made_by, state_after}, Machine.{after}}
 use Rattle.fm_base.proofs.Names.{are_one-false}
-use Rattle.fm_base_lists.specs.Among.{IsAmong}
-use Rattle.fm_base_lists.proofs.Each.{all_among, all_weaker}
+use Rattle.fm_base_lists.{specs.Among.{IsAmong}, proofs.Each.{all_among, all_weaker}}
 use Rattle.fm_script_laws.specs.Histories.{TidyInParts}
 
 -- One tidy history behind another.

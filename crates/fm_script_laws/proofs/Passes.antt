@@ -1,25 +1,15 @@
 -- Lines of a pass are tidy.
-use Rattle.std.proofs.Common.{ℕ, ◌+◌, List, [], Option, Some, length, sym, subst}
-use Rattle.std.specs.List.{AllByRecursion}
-use Rattle.fm_base.specs.Calls.{Entry}
-use Rattle.fm_base.specs.Histories.{IsLegal}
-use Rattle.fm_base.proofs.Making.{IsLegal-split}
+use Rattle.std.{proofs.Common.{ℕ, ◌+◌, List, [], Option, Some, length, sym, subst}, specs.List.{AllByRecursion}}
+use Rattle.fm_base.{specs.{Calls.{Entry}, Histories.{IsLegal}}, proofs.Making.{IsLegal-split}}
 use Rattle.fm_rule_calls.specs.Told.{view_of_pass}
 use Rattle.fm_rule_facts.specs.Views.{View, limit_of, state_in}
-use Rattle.fm_script_lines.specs.declared.standing.Standing.{Standing}
-use Rattle.fm_script_lines.specs.Numbers.{number_at}
-use Rattle.fm_script_lines.specs.Outcomes.{outcome}
-use Rattle.fm_script_lines.specs.Runs.{Went}
-use Rattle.fm_script_lines.specs.Standings.{standing_at, standing_of, segment_of}
-use Rattle.fm_script_lines.specs.Tokens.{IsReady}
+use Rattle.fm_script_lines.specs.{declared.standing.Standing.{Standing}, Numbers.{number_at}, Outcomes.{outcome}, Runs.{Went}}
+use Rattle.fm_script_lines.specs.{Standings.{standing_at, standing_of, segment_of}, Tokens.{IsReady}}
 use Rattle.fm_script_lines.proofs.Backing.{arena_known, name_known, segment_known, some_weaker}
 use Rattle.fm_script_text.specs.declared.line.Line.{Line}
 use Rattle.fm_segment.specs.Access as segment
 use Rattle.fm_words.specs.declared.shape.Shape.{Shape}
-use Rattle.fm_script_laws.specs.Lines.{FillsWithByte, LineIsTidy, LinesAreTidy}
-use Rattle.fm_script_laws.proofs.Backing.{IsGiven, IsThere}
-use Rattle.fm_script_laws.proofs.Commands.{call_comes}
-use Rattle.fm_script_laws.proofs.Rows.{row_comes}
+use Rattle.fm_script_laws.{specs.Lines.{FillsWithByte, LineIsTidy, LinesAreTidy}, proofs.{Backing.{IsGiven, IsThere}, Commands.{call_comes}, Rows.{row_comes}}}
 
 -- What the pass knows is there.
 ready_there : (p : View) (base own : List Standing) (start : ℕ) (number : Option ℕ) → IsReady p base own

@@ -1,12 +1,7 @@
 -- Entries that change no byte.
-use Rattle.std.proofs.Common.{◌≡◌, ℕ, Bool, true, false, if◌then◌else◌, List, [], ◌∷◌, refl, sym, subst}
-use Rattle.std.specs.Prelude.{not}
-use Rattle.fm_segment_laws.specs.Accesses.{IsTidyBy}
-use Rattle.fm_segment_laws.proofs.Staying.{ChangesBelow, StayBelow}
-use Rattle.fm_base.specs.declared.arena_id.ArenaId.{ArenaId}
-use Rattle.fm_base.specs.declared.caller.Caller.{Caller}
-use Rattle.fm_base.specs.Arenas.{State}
-use Rattle.fm_base.specs.Calls.{Call, Write, SwapIf, Add, Reply, Entry}
+use Rattle.std.{proofs.Common.{◌≡◌, ℕ, Bool, true, false, if◌then◌else◌, List, [], ◌∷◌, refl, sym, subst}, specs.Prelude.{not}}
+use Rattle.fm_segment_laws.{specs.Accesses.{IsTidyBy}, proofs.Staying.{ChangesBelow, StayBelow}}
+use Rattle.fm_base.specs.{declared.{arena_id.ArenaId.{ArenaId}, caller.Caller.{Caller}}, Arenas.{State}, Calls.{Call, Write, SwapIf, Add, Reply, Entry}}
 use Rattle.fm_base.specs.View.{but_loans, is_loan}
 use Rattle.fm_script_laws.proofs.Calling.{Own, quiet_tidy}
 

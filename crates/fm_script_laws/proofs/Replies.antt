@@ -1,33 +1,21 @@
 -- No line of a report is answered that memory was wanting, and only one that allocates that a page was.
 use Rattle.std.proofs.Common.{◌≡◌, ℕ, ◌+◌, nat_le, Bool, true, false, Option, Some, None, Result, Ok, Err, List, [], ◌∷◌, ◌++◌, length, refl, sym, ap, ◌∙◌, subst, ◌≢◌}
-use Rattle.std.specs.Prelude.{⊤}
-use Rattle.std.specs.List.{AllByRecursion}
-use Rattle.fm_base.specs.declared.arena_id.ArenaId.{ArenaId}
-use Rattle.fm_base.specs.declared.caller.Caller.{Caller}
-use Rattle.fm_base.specs.declared.refusal.Refusal.{Refusal}
-use Rattle.fm_base.specs.declared.refusal.Refusal.TheVariants as refusal
-use Rattle.fm_base.specs.Calls.{Entry}
+use Rattle.std.specs.{Prelude.{⊤}, List.{AllByRecursion}}
+use Rattle.fm_base.specs.{declared.{arena_id.ArenaId.{ArenaId}, caller.Caller.{Caller}, refusal.Refusal.{Refusal}}, Calls.{Entry}}
 use Rattle.fm_base.specs.Outcomes.{MayCome, MayRefuse}
+use Rattle.fm_base.specs.declared.refusal.Refusal.TheVariants as refusal
 use Rattle.fm_arena.specs.Shares.{nature_of_shared}
-use Rattle.fm_handle.specs.Access.{DoesVisit}
-use Rattle.fm_handle.specs.Acts.{Adds as AddsActs, Exchanges as ExchangesActs}
-use Rattle.fm_handle.specs.Place.{can_update, update_place_of}
+use Rattle.fm_handle.specs.{Access.{DoesVisit}, Acts.{Adds as AddsActs, Exchanges as ExchangesActs}, Place.{can_update, update_place_of}}
 use Rattle.fm_base_lists.proofs.Each.{all_both}
-use Rattle.fm_script_lines.specs.declared.outcome.LineOutcome.{LineOutcome}
-use Rattle.fm_script_lines.specs.declared.reply.Reply.{Reply}
-use Rattle.fm_script_lines.specs.declared.reply.Reply.TheVariants as reply
-use Rattle.fm_script_lines.specs.declared.standing.Standing.{Standing}
-use Rattle.fm_script_lines.specs.declared.standing.Standing.TheVariants.{Segment}
+use Rattle.fm_script_lines.specs.declared.{outcome.LineOutcome.{LineOutcome}, reply.Reply.{Reply}, standing.Standing.{Standing, TheVariants.{Segment}}}
 use Rattle.fm_script_lines.specs.Calls.{Line, On, Called, Answers, CallDoes, Gets, Sets, Adds, Exchanges, Fills, Copies, Compares, Allocates, Asks, Closes, Holds, Unholds, TakesAgain, GivesBack, coming, fine, kept_or_ended, number, segment_made, tree_of}
-use Rattle.fm_script_lines.specs.Outcomes.{outcome, plain}
-use Rattle.fm_script_lines.specs.Report.{Done, Player, AreRun, AreWorked, names_behind, none_stands, number_of, worked}
-use Rattle.fm_script_lines.specs.Standings as standing
+use Rattle.fm_script_lines.specs.{Outcomes.{outcome, plain}, Report.{Done, Player, AreRun, AreWorked, names_behind, none_stands, number_of, worked}}
 use Rattle.fm_script_lines.specs.Standings.{Names, handled_as, held_as, opened_as, stands_of}
+use Rattle.fm_script_lines.specs.declared.reply.Reply.TheVariants as reply
+use Rattle.fm_script_lines.specs.Standings as standing
 use Rattle.fm_script_text.specs.declared.command.Command.{Command}
 use Rattle.fm_script_text.specs.declared.command.Command.TheVariants as command
-use Rattle.fm_segment.specs.Access.{place_of, writable_place_of}
-use Rattle.fm_segment.specs.Region.{Region, part_of, read_only_of, region_of}
-use Rattle.fm_segment.specs.Slices.{slice_of}
+use Rattle.fm_segment.specs.{Access.{place_of, writable_place_of}, Region.{Region, part_of, read_only_of, region_of}, Slices.{slice_of}}
 use Rattle.fm_script_laws.specs.Replies.{NoLineWants, TellsNoWant, allocates}
 use Rattle.fm_script_laws.proofs.Coming.{May, without_pages, open_may, if_may, place_may, writable_may, update_may, at_may, get_may, set_may, fill_may, copy_may, mismatch_may, visit_may, alive_may, close_may, hold_may, again_may}
 

@@ -2,27 +2,15 @@
 use Rattle.std.proofs.Common.{◌≡◌, ℕ, ◌+◌, nat_lt, Bool, true, false, cond, List, [], ◌∷◌, ◌++◌, Option, length, map, sym, subst, inl, arith}
 use Rattle.std.specs.List.{AllByRecursion}
 use Rattle.fm_segment_laws.specs.Accesses.{IsTidyBy}
-use Rattle.fm_base.specs.declared.caller.Caller.{Caller}
-use Rattle.fm_base.specs.Arenas.{State}
-use Rattle.fm_base.specs.Calls.{Entry}
-use Rattle.fm_base.specs.Histories.{IsLegal, IsTidy, made_by, state_after}
-use Rattle.fm_base.proofs.Growing.{Grows-state_after}
-use Rattle.fm_base.proofs.Making.{IsLegal-split}
-use Rattle.fm_base_lists.specs.Among.{IsAmong}
-use Rattle.fm_base_lists.proofs.Each.{all_weaker}
+use Rattle.fm_base.specs.{declared.caller.Caller.{Caller}, Arenas.{State}, Calls.{Entry}, Histories.{IsLegal, IsTidy, made_by, state_after}}
+use Rattle.fm_base.proofs.{Growing.{Grows-state_after}, Making.{IsLegal-split}}
+use Rattle.fm_base_lists.{specs.Among.{IsAmong}, proofs.Each.{all_weaker}}
 use Rattle.fm_script_lines.specs.Report.{Player, AreWorked, AreWorkers, gathered_names, is_first, is_last, is_worker, lent_names, lines_by, names_after, none_stands, number_of, runs, worked}
 use Rattle.fm_script_lines.specs.Standings.{Names}
-use Rattle.fm_script_text.specs.declared.command.Command.{Command}
+use Rattle.fm_script_text.specs.{declared.{command.Command.{Command}, line.Line.{Line}, who.Who.{Who}}, Scripts.{IsSaid}, Syntax.{IsSpelled}}
 use Rattle.fm_script_text.specs.declared.command.Command.TheVariants as command
-use Rattle.fm_script_text.specs.declared.line.Line.{Line}
-use Rattle.fm_script_text.specs.declared.who.Who.{Who}
-use Rattle.fm_script_text.specs.Scripts.{IsSaid}
-use Rattle.fm_script_text.specs.Syntax.{IsSpelled}
-use Rattle.fm_script_laws.specs.Lines.{FillsWithByte}
-use Rattle.fm_script_laws.specs.Reports.{ReportsAreTidy}
-use Rattle.fm_script_laws.proofs.Backing.{AllThere, all_on, either_there, lent_there, nothing_there}
-use Rattle.fm_script_laws.proofs.Parting.{tidy_append, tidy_many}
-use Rattle.fm_script_laws.proofs.Rows.{row_comes}
+use Rattle.fm_script_laws.{specs.{Lines.{FillsWithByte}, Reports.{ReportsAreTidy}}, proofs.Backing.{AllThere, all_on, either_there, lent_there, nothing_there}}
+use Rattle.fm_script_laws.proofs.{Parting.{tidy_append, tidy_many}, Rows.{row_comes}}
 
 -- ---- a script's lines
 

@@ -1,22 +1,11 @@
 -- Lines of one caller in a row are tidy, whatever others do in between.
-use Rattle.std.proofs.Common.{◌≡◌, ℕ, ◌+◌, List, [], ◌∷◌, ◌++◌, Option, sym, subst}
-use Rattle.std.specs.List.{AllByRecursion}
+use Rattle.std.{proofs.Common.{◌≡◌, ℕ, ◌+◌, List, [], ◌∷◌, ◌++◌, Option, sym, subst}, specs.List.{AllByRecursion}}
 use Rattle.fm_segment_laws.specs.Accesses.{IsTidyBy}
-use Rattle.fm_base.specs.declared.caller.Caller.{Caller}
-use Rattle.fm_base.specs.Arenas.{State}
-use Rattle.fm_base.specs.Calls.{Entry}
-use Rattle.fm_base.specs.Histories.{IsLegal, made_by, state_after}
-use Rattle.fm_base.proofs.Growing.{Grows-state_after}
-use Rattle.fm_base.proofs.Making.{IsLegal-split, state_after-append}
-use Rattle.fm_script_lines.specs.Outcomes.{outcome}
-use Rattle.fm_script_lines.specs.Report.{Done, AreRun, lines_of, names_after, names_behind, runs}
-use Rattle.fm_script_lines.specs.Standings.{Names, stands_of}
-use Rattle.fm_script_laws.specs.Lines.{FillsWithByte}
-use Rattle.fm_script_laws.proofs.Backing.{AllThere, all_on, names_there, stands_there}
-use Rattle.fm_script_laws.proofs.Calling.{Own, Comes}
-use Rattle.fm_script_laws.proofs.Commands.{call_comes}
-use Rattle.fm_script_laws.proofs.Cutting.{Cut, cut}
-use Rattle.fm_script_laws.proofs.Parting.{own_append, own_none}
+use Rattle.fm_base.specs.{declared.caller.Caller.{Caller}, Arenas.{State}, Calls.{Entry}, Histories.{IsLegal, made_by, state_after}}
+use Rattle.fm_base.proofs.{Growing.{Grows-state_after}, Making.{IsLegal-split, state_after-append}}
+use Rattle.fm_script_lines.specs.{Outcomes.{outcome}, Report.{Done, AreRun, lines_of, names_after, names_behind, runs}, Standings.{Names, stands_of}}
+use Rattle.fm_script_laws.{specs.Lines.{FillsWithByte}, proofs.{Backing.{AllThere, all_on, names_there, stands_there}, Calling.{Own, Comes}}}
+use Rattle.fm_script_laws.proofs.{Commands.{call_comes}, Cutting.{Cut, cut}, Parting.{own_append, own_none}}
 
 -- the caller's own of these entries are tidy, and behind them what names stand for is there
 pub record RowComes (c : Caller) (limit : ℕ) (number : List ℕ → Option ℕ) (s : State) (k : ℕ) (ds : List Done) (all : List Entry) : Type 0 where

@@ -4,33 +4,19 @@ use Rattle.std.proofs.lemmas.Bool.{leb-true}
 use Rattle.fm_segment_laws.specs.Accesses as access
 use Rattle.fm_segment_laws.specs.Handles as handle
 use Rattle.fm_segment_laws.proofs.Handling.{paths_inside}
-use Rattle.fm_base.specs.declared.caller.Caller.{Caller}
-use Rattle.fm_base.specs.declared.refusal.Refusal.{Refusal}
-use Rattle.fm_base.specs.declared.refusal.Refusal.TheVariants.{Bounds}
-use Rattle.fm_base.specs.Arenas.{State}
-use Rattle.fm_base.specs.Calls.{Entry}
-use Rattle.fm_base.specs.Histories.{state_after}
-use Rattle.fm_base.proofs.Growing.{Grows}
-use Rattle.fm_handle.specs.Access.{DoesAdd, DoesExchange}
-use Rattle.fm_handle.specs.Place.{update_place_of, can_update}
+use Rattle.fm_base.specs.{declared.{caller.Caller.{Caller}, refusal.Refusal.{Refusal, TheVariants.{Bounds}}}, Arenas.{State}, Calls.{Entry}}
+use Rattle.fm_base.{specs.Histories.{state_after}, proofs.Growing.{Grows}}
+use Rattle.fm_handle.specs.{Access.{DoesAdd, DoesExchange}, Place.{update_place_of, can_update}}
 use Rattle.fm_lanes.specs.declared.value.Value.{Value}
-use Rattle.fm_layout.specs.Tree.{Tree}
-use Rattle.fm_layout.specs.WellFormed.{IsWellFormed}
-use Rattle.fm_layout.proofs.Sound.{IsPowerOfTwo-width, width_bounds}
+use Rattle.fm_layout.{specs.{Tree.{Tree}, WellFormed.{IsWellFormed}}, proofs.Sound.{IsPowerOfTwo-width, width_bounds}}
 use Rattle.fm_path.specs.Resolution.{Resolution, StaysInside, IsSpecOf}
-use Rattle.fm_path_meaning.specs.declared.dim.Dim.{Dim}
-use Rattle.fm_path_meaning.specs.Found.{HasDims, no_step}
-use Rattle.fm_script_lines.specs.declared.outcome.LineOutcome.{LineOutcome}
-use Rattle.fm_script_lines.specs.declared.reply.Reply.TheVariants.{Number}
+use Rattle.fm_path_meaning.specs.{declared.dim.Dim.{Dim}, Found.{HasDims, no_step}}
+use Rattle.fm_script_lines.specs.declared.{outcome.LineOutcome.{LineOutcome}, reply.Reply.TheVariants.{Number}}
 use Rattle.fm_script_lines.specs.Calls.{Called, Answers, coming, fine, number, segment_made, tree_of, IsHandleOf, Gets, Sets, Adds, Exchanges, Fills, Copies, Compares}
 use Rattle.fm_script_lines.specs.Outcomes.{plain}
 use Rattle.fm_script_text.specs.declared.cell.Cell.{Cell}
-use Rattle.fm_segment.specs.Access.{DoesGetAt, DoesSetAt, place_of, writable_place_of}
-use Rattle.fm_segment.specs.Comparisons.{DoesMismatch}
-use Rattle.fm_segment.specs.Copies.{DoesCopySegment}
-use Rattle.fm_segment.specs.Fills.{DoesFillSegment}
-use Rattle.fm_segment.specs.Region.{Region, part_of, read_only_of}
-use Rattle.fm_segment.specs.Slices.{slice_of}
+use Rattle.fm_segment.specs.{Access.{DoesGetAt, DoesSetAt, place_of, writable_place_of}, Comparisons.{DoesMismatch}, Copies.{DoesCopySegment}}
+use Rattle.fm_segment.specs.{Fills.{DoesFillSegment}, Region.{Region, part_of, read_only_of}, Slices.{slice_of}}
 use Rattle.fm_script_laws.proofs.Backing.{IsGiven, IsThere, nothing_there}
 use Rattle.fm_script_laws.proofs.Calling.{Own, Comes, grown, none_tidy, access_tidy, handle_tidy, plain_comes, making_comes}
 

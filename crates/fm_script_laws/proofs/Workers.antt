@@ -1,27 +1,14 @@
 -- Where a worker's line finds no slot, other lines had each slot.
 use Rattle.std.proofs.Common.{◌≡◌, ◌≢◌, ℕ, ◌+◌, ◌<◌, ◌≤◌, Bool, true, false, Option, List, [], ◌∷◌, ◌++◌, length, map, append_assoc, refl, sym, ap, ◌∙◌, subst, ◌⊎◌, inl, inr, arith}
-use Rattle.std.specs.List.{AllByRecursion}
-use Rattle.std.specs.Prelude.{not}
-use Rattle.fm_base.specs.declared.arena_id.ArenaId.{ArenaId}
-use Rattle.fm_base.specs.declared.caller.Caller.{Caller}
-use Rattle.fm_base.specs.Arenas.{are_one}
-use Rattle.fm_base.specs.Calls.{Open, Entry}
-use Rattle.fm_base.specs.Finds.{Find, is_slot}
-use Rattle.fm_base.specs.Histories.{IsLegal, made_by}
-use Rattle.fm_base.specs.View.{but_loans, is_loan}
-use Rattle.fm_base.proofs.Making.{IsLegal-split}
-use Rattle.fm_base.proofs.Names.{are_one-true, are_one-false}
-use Rattle.fm_base_lists.specs.Among.{IsAmong}
-use Rattle.fm_base_lists.proofs.Among.{among_either, among_kept, among_left}
-use Rattle.fm_base_lists.proofs.Each.{all_among}
+use Rattle.std.specs.{List.{AllByRecursion}, Prelude.{not}}
+use Rattle.fm_base.specs.{declared.{arena_id.ArenaId.{ArenaId}, caller.Caller.{Caller}}, Arenas.{are_one}, Calls.{Open, Entry}, Finds.{Find, is_slot}}
+use Rattle.fm_base.{specs.{Histories.{IsLegal, made_by}, View.{but_loans, is_loan}}, proofs.{Making.{IsLegal-split}, Names.{are_one-true, are_one-false}}}
+use Rattle.fm_base_lists.{specs.Among.{IsAmong}, proofs.{Among.{among_either, among_kept, among_left}, Each.{all_among}}}
 use Rattle.fm_rule_facts.specs.Views.{Begins, In, NoneLeft, OpenedBut, limit_of}
-use Rattle.fm_script_lines.specs.Played.{Done, Player, runs, worked}
-use Rattle.fm_script_lines.specs.Report.{AreRun, AreWorked, names_behind}
-use Rattle.fm_script_lines.specs.Slots.{AreFound, FindRightly, FoundAt, Opened, WorkersFind}
-use Rattle.fm_script_lines.specs.Standings.{Names}
+use Rattle.fm_script_lines.specs.{Played.{Done, Player, runs, worked}, Report.{AreRun, AreWorked, names_behind}}
+use Rattle.fm_script_lines.specs.{Slots.{AreFound, FindRightly, FoundAt, Opened, WorkersFind}, Standings.{Names}}
 use Rattle.fm_words.specs.declared.shape.Shape.{Shape}
-use Rattle.fm_script_laws.specs.Slots.{FindsAreRight, FindsTold}
-use Rattle.fm_script_laws.proofs.Opened.{OpenedIn, among_but, among_own, opened_in}
+use Rattle.fm_script_laws.{specs.Slots.{FindsAreRight, FindsTold}, proofs.Opened.{OpenedIn, among_but, among_own, opened_in}}
 use Rattle.fm_script_laws.proofs.Openers.{done_opened, opened_left, opened_right, row_opened}
 
 -- Two beginnings of one history: what stands in the shorter one stands in the other.

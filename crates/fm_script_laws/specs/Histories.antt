@@ -1,11 +1,7 @@
 -- Tidy histories of many callers, and tidy histories in parts.
-use Rattle.std.specs.Prelude.{◌≡◌, ℕ, List, [], ◌++◌}
-use Rattle.std.specs.List.{AllByRecursion}
+use Rattle.std.specs.{Prelude.{◌≡◌, ℕ, List, [], ◌++◌}, List.{AllByRecursion}}
 use Rattle.fm_segment_laws.specs.Accesses.{IsTidyBy}
-use Rattle.fm_base.specs.declared.caller.Caller.{Caller}
-use Rattle.fm_base.specs.Arenas.{State}
-use Rattle.fm_base.specs.Calls.{Entry}
-use Rattle.fm_base.specs.Histories.{IsTidy, made_by, state_after}
+use Rattle.fm_base.specs.{declared.caller.Caller.{Caller}, Arenas.{State}, Calls.{Entry}, Histories.{IsTidy, made_by, state_after}}
 use Rattle.fm_base_lists.specs.Among.{IsAmong}
 
 -- When entries are tidy

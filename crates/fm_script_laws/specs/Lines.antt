@@ -1,18 +1,11 @@
 -- Lines of a pass are tidy: they change only bytes that their arenas had given.
-use Rattle.std.specs.Prelude.{ℕ, ◌<◌, List, [], ⊤}
-use Rattle.std.specs.List.{AllByRecursion}
+use Rattle.std.specs.{Prelude.{ℕ, ◌<◌, List, [], ⊤}, List.{AllByRecursion}}
 use Rattle.fm_segment_laws.specs.Accesses.{IsTidyBy}
 use Rattle.fm_base.specs.Histories.{IsLegal}
 use Rattle.fm_rule_facts.specs.Views.{View, limit_of, state_in}
-use Rattle.fm_script_lines.specs.declared.numbers.Numbers.{Numbers}
-use Rattle.fm_script_lines.specs.declared.reply.Reply.{Reply}
-use Rattle.fm_script_lines.specs.declared.standing.Standing.{Standing}
-use Rattle.fm_script_lines.specs.Lines.{LineRan}
-use Rattle.fm_script_lines.specs.Playing.{LinesRan}
+use Rattle.fm_script_lines.specs.{declared.{numbers.Numbers.{Numbers}, reply.Reply.{Reply}, standing.Standing.{Standing}}, Lines.{LineRan}, Playing.{LinesRan}}
 use Rattle.fm_script_lines.specs.Tokens.{IsReady}
-use Rattle.fm_script_text.specs.declared.command.Command.{Command}
-use Rattle.fm_script_text.specs.declared.command.Command.TheVariants.{Fill}
-use Rattle.fm_script_text.specs.declared.line.Line.{Line}
+use Rattle.fm_script_text.specs.declared.{command.Command.{Command, TheVariants.{Fill}}, line.Line.{Line}}
 
 -- what it fills with, if anything, is a byte
 abbrev pub FillsWithByte : Command → Type 0

@@ -1,10 +1,7 @@
 -- How many lines opened an arena where a worker's line finds no slot.
 use Rattle.std.specs.Prelude.{ℕ, ◌≤◌, Bool, true, false, ◌&&◌, List, [], ◌∷◌, ◌++◌, filter, length, ⊤}
 use Rattle.fm_base.specs.Calls.{Entry}
-use Rattle.fm_script_lines.specs.declared.reply.Reply.{Reply}
-use Rattle.fm_script_lines.specs.declared.reply.Reply.TheVariants.{Fine}
-use Rattle.fm_script_lines.specs.Played.{Done, Played, Player, worked}
-use Rattle.fm_script_lines.specs.Report.{IsReport}
+use Rattle.fm_script_lines.specs.{declared.reply.Reply.{Reply, TheVariants.{Fine}}, Played.{Done, Played, Player, worked}, Report.{IsReport}}
 use Rattle.fm_script_lines.specs.Slots.{FindsNoSlot, opens}
 use Rattle.fm_script_text.specs.Scripts.{ScriptOf}
 

@@ -1,14 +1,9 @@
 -- No line of a script is answered that memory was wanting, and only one that allocates that a page was.
-use Rattle.std.specs.Prelude.{◌≡◌, ◌≢◌, Bool, true, false, List}
-use Rattle.std.specs.List.{AllByRecursion}
-use Rattle.fm_base.specs.declared.refusal.Refusal.TheVariants.{Memory, PoolFull}
-use Rattle.fm_base.specs.Calls.{Entry}
-use Rattle.fm_script_text.specs.declared.command.Command.{Command}
+use Rattle.std.specs.{Prelude.{◌≡◌, ◌≢◌, Bool, true, false, List}, List.{AllByRecursion}}
+use Rattle.fm_base.specs.{declared.refusal.Refusal.TheVariants.{Memory, PoolFull}, Calls.{Entry}}
+use Rattle.fm_script_text.specs.{declared.command.Command.{Command}, Scripts.{ScriptOf}}
 use Rattle.fm_script_text.specs.declared.command.Command.TheVariants as command
-use Rattle.fm_script_lines.specs.declared.reply.Reply.{Reply}
-use Rattle.fm_script_lines.specs.declared.reply.Reply.TheVariants.{Refused}
-use Rattle.fm_script_lines.specs.Report.{IsReport, Played, all_done}
-use Rattle.fm_script_text.specs.Scripts.{ScriptOf}
+use Rattle.fm_script_lines.specs.{declared.reply.Reply.{Reply, TheVariants.{Refused}}, Report.{IsReport, Played, all_done}}
 
 -- the line allocates
 abbrev pub allocates : Command → Bool

@@ -1,8 +1,6 @@
 -- What all lines of a script did is tidy.
-use Rattle.std.specs.Prelude.{ℕ, List, []}
-use Rattle.std.specs.List.{AllByRecursion}
-use Rattle.fm_base.specs.Calls.{Entry}
-use Rattle.fm_base.specs.Histories.{IsLegal, IsTidy}
+use Rattle.std.specs.{Prelude.{ℕ, List, []}, List.{AllByRecursion}}
+use Rattle.fm_base.specs.{Calls.{Entry}, Histories.{IsLegal, IsTidy}}
 use Rattle.fm_script_lines.specs.Report.{Played, IsReport}
 use Rattle.fm_script_text.specs.Scripts.{ScriptOf, IsSaid}
 

@@ -1,14 +1,8 @@
 -- Where a worker's line finds no slot, other lines had each slot.
-use Rattle.std.specs.Prelude.{◌≡◌, ℕ, true, List, [], ◌++◌, Option}
-use Rattle.std.specs.List.{AllByRecursion}
-use Rattle.fm_base.specs.Calls.{Entry}
-use Rattle.fm_base.specs.Finds.{Find, is_slot}
-use Rattle.fm_base.specs.Histories.{IsLegal}
+use Rattle.std.specs.{Prelude.{◌≡◌, ℕ, true, List, [], ◌++◌, Option}, List.{AllByRecursion}}
+use Rattle.fm_base.specs.{Calls.{Entry}, Finds.{Find, is_slot}, Histories.{IsLegal}}
 use Rattle.fm_rule_facts.specs.Views.{Begins, In, NoneLeft, limit_of}
-use Rattle.fm_script_lines.specs.Played.{IsCut, Played, Player}
-use Rattle.fm_script_lines.specs.Report.{AreRun, AreWorked}
-use Rattle.fm_script_lines.specs.Slots.{AreFound, WorkersFind}
-use Rattle.fm_script_lines.specs.Standings.{Names}
+use Rattle.fm_script_lines.specs.{Played.{IsCut, Played, Player}, Report.{AreRun, AreWorked}, Slots.{AreFound, WorkersFind}, Standings.{Names}}
 use Rattle.fm_words.specs.declared.shape.Shape.{Shape}
 
 -- What a worker's pass had found and seen when its lines had run, in a history that went on to these entries

@@ -1,21 +1,12 @@
 -- A script's lines that break no rule leave nothing.
 use Rattle.std.proofs.Common.{◌≡◌, refl, sym, subst, ℕ, ◌+◌, ◌-◌, ◌≤◌, ◌<◌, List, [], ◌∷◌, ◌++◌, length, length-append, get_or, arith, ⊎_elim, All}
-use Rattle.std.proofs.lemmas.Bool.{cases_lt}
-use Rattle.std.proofs.lemmas.List.{append-nil, get_or_append_left, get_or-append_right}
-use Rattle.std.proofs.lemmas.List.Elements.{All-from_get_or}
+use Rattle.std.proofs.lemmas.{Bool.{cases_lt}, List.{append-nil, get_or_append_left, get_or-append_right, Elements.{All-from_get_or}}}
 use Rattle.fm_rule_facts.specs.Views.{View}
 use Rattle.fm_script_text.specs.declared.line.Line.{Line}
-use Rattle.fm_script_lines.specs.declared.numbers.Numbers.{Numbers}
-use Rattle.fm_script_lines.specs.declared.reply.Reply.{Reply}
-use Rattle.fm_script_lines.specs.declared.standing.Standing.{Standing}
-use Rattle.fm_script_lines.specs.declared.standing.Standing.TheVariants.{Nothing}
-use Rattle.fm_script_lines.specs.Admitted.{AreNumbered, AreReturned, KeepRules, LinesLeaveNothing}
-use Rattle.fm_script_lines.specs.Numbers.{number_at}
-use Rattle.fm_script_lines.specs.Playing.{LinesRan}
-use Rattle.fm_script_lines.specs.Report.{is_first, is_last, is_worker, lines_by}
-use Rattle.fm_script_lines.specs.Standings.{IsSpent}
-use Rattle.fm_script_lines.proofs.AdmittedNames.{main_same, pass_returned, worker_same}
-use Rattle.fm_script_lines.proofs.AdmittedNumbers.{in_order_numbered}
+use Rattle.fm_script_lines.specs.declared.{numbers.Numbers.{Numbers}, reply.Reply.{Reply}, standing.Standing.{Standing, TheVariants.{Nothing}}}
+use Rattle.fm_script_lines.specs.{Admitted.{AreNumbered, AreReturned, KeepRules, LinesLeaveNothing}, Numbers.{number_at}, Playing.{LinesRan}}
+use Rattle.fm_script_lines.specs.{Report.{is_first, is_last, is_worker, lines_by}, Standings.{IsSpent}}
+use Rattle.fm_script_lines.proofs.{AdmittedNames.{main_same, pass_returned, worker_same}, AdmittedNumbers.{in_order_numbered}}
 use Rattle.fm_script_lines.proofs.AdmittedRuns.{Left, none_later, spent, table_kept, table_own}
 
 -- A worker's.

@@ -1,32 +1,23 @@
 -- What a name may stand for, by the line that makes it.
-use Rattle.std.proofs.Common.{◌≡◌, refl, sym, ap, subst, ◌∙◌, ℕ, Option, Some, None, Result, Ok, Err, List, MatchOption}
-use Rattle.std.proofs.lemmas.Bool.{cond_both}
-use Rattle.fm_base.specs.declared.arena_id.ArenaId.{ArenaId}
-use Rattle.fm_base.specs.declared.caller.Caller.{Caller}
-use Rattle.fm_base.specs.declared.kind.Kind.{Kind}
+use Rattle.std.proofs.{Common.{◌≡◌, refl, sym, ap, subst, ◌∙◌, ℕ, Option, Some, None, Result, Ok, Err, List, MatchOption}, lemmas.Bool.{cond_both}}
+use Rattle.std.specs.Option.{option_map}
+use Rattle.fm_base.specs.{declared.{arena_id.ArenaId.{ArenaId}, caller.Caller.{Caller}, kind.Kind.{Kind}, refusal.Refusal.{Refusal}}, Calls.{Entry}}
 use Rattle.fm_base.specs.declared.kind.Kind.TheVariants as kind
-use Rattle.fm_base.specs.declared.refusal.Refusal.{Refusal}
-use Rattle.fm_base.specs.Calls.{Entry}
 use Rattle.fm_script_text.specs.declared.command.Command.{Command}
 use Rattle.fm_script_text.specs.declared.command.Command.TheVariants.{Open, Alloc, Slice, Readonly, Get, Set, Add, Cas, Fill, Copy, Mismatch, Alive, Hold, Unhold, Again, Back, Close}
-use Rattle.fm_script_text.specs.declared.thing.Thing.{Thing}
+use Rattle.fm_script_text.specs.{declared.thing.Thing.{Thing}, Rules.{Made, made, opened}}
 use Rattle.fm_script_text.specs.declared.thing.Thing.TheVariants as thing
-use Rattle.fm_script_text.specs.Rules.{Made, made, opened}
 use Rattle.fm_segment.specs.Region.{Region, region_of}
-use Rattle.fm_script_lines.specs.declared.outcome.LineOutcome.{LineOutcome}
-use Rattle.fm_script_lines.specs.declared.reply.Reply.TheVariants.{Fine, Place, Number, Truth}
-use Rattle.fm_script_lines.specs.declared.standing.Standing.{Standing}
-use Rattle.fm_script_lines.specs.declared.standing.Standing.TheVariants as standing
-use Rattle.fm_script_lines.specs.declared.standing.Standing.TheVariants.{Nothing}
+use Rattle.fm_script_lines.specs.declared.{outcome.LineOutcome.{LineOutcome}, reply.Reply.TheVariants.{Fine, Place, Number, Truth}}
+use Rattle.fm_script_lines.specs.declared.standing.Standing.{Standing, TheVariants.{Nothing}}
 use Rattle.fm_script_lines.specs.Calls.{Adds, Allocates, Asks, CallDoes, Closes, Compares, Copies, Exchanges, Fills, Gets, GivesBack, Holds, Line, On, Sets, TakesAgain, Unholds, arena_at, coming, fine, number, segment_at, segment_made}
-use Rattle.fm_script_lines.specs.Outcomes.{outcome, plain}
-use Rattle.fm_script_lines.specs.Lines.{behind, is_number}
-use Rattle.fm_gate.specs.Makers.{Made as MadeBy}
-use Rattle.std.specs.Option.{option_map}
-use Rattle.fm_arena.specs.declared.handle.AutoHandle.{AutoHandle}
-use Rattle.fm_gate.specs.declared.held.Hold as held
+use Rattle.fm_script_lines.specs.{Outcomes.{outcome, plain}, Lines.{behind, is_number}}
 use Rattle.fm_script_lines.specs.Standings.{IsSpent, hold_of, handle_of, lent, handled_as, held_as, opened_as, unheld, handed_back}
 use Rattle.fm_script_lines.proofs.Naming.{lent_none, tokens_left}
+use Rattle.fm_script_lines.specs.declared.standing.Standing.TheVariants as standing
+use Rattle.fm_gate.specs.Makers.{Made as MadeBy}
+use Rattle.fm_arena.specs.declared.handle.AutoHandle.{AutoHandle}
+use Rattle.fm_gate.specs.declared.held.Hold as held
 
 -- a name of such may stand for it
 abbrev pub CanStand : Thing → Standing → Type 0

@@ -2,25 +2,14 @@
 use Rattle.std.proofs.Common.{◌≡◌, refl, sym, ap, subst, ◌∙◌, ℕ, ◌≤◌, ◌==◌, Bool, true, false, not, ◌&&◌, ◌||◌, Option, Some, None, List, [], ◌∷◌, ◌++◌, append_assoc, arith, ⊎_elim, IfSome, bytes_eq}
 use Rattle.std.specs.List.{AllByRecursion, list_any}
 use Rattle.std.proofs.lemmas.Bool.{and_from, and_parts, cond-false, cond-true, cond_both, eqb-true, eq-eqb, leb-true, ne_eqb, or_cases, or_left, or_right}
-use Rattle.std.proofs.lemmas.List.Elements.{filter_agree}
-use Rattle.std.proofs.lemmas.List.Folds.{list_any-append}
-use Rattle.std.proofs.lemmas.Option.{same_Some}
-use Rattle.std.proofs.lemmas.Slice.Eq.{bytes_eq-Decides}
-use Rattle.fm_script_text.proofs.Keeping.{maker_of-append, none_of, reached_more}
-use Rattle.fm_script_text.specs.declared.command.Command.{Command}
-use Rattle.fm_script_text.specs.declared.command.Command.TheVariants.{Unhold, Back}
-use Rattle.fm_script_text.specs.declared.line.Line.{Line}
-use Rattle.fm_script_text.specs.declared.maker.Maker.{Maker}
-use Rattle.fm_script_text.specs.declared.thing.Role.{Role}
-use Rattle.fm_script_text.specs.declared.thing.Role.TheVariants as role
-use Rattle.fm_script_text.specs.declared.thing.Thing.{Thing}
-use Rattle.fm_script_text.specs.declared.who.Who.{Who}
+use Rattle.std.proofs.lemmas.{List.{Elements.{filter_agree}, Folds.{list_any-append}}, Option.{same_Some}, Slice.Eq.{bytes_eq-Decides}}
+use Rattle.fm_script_text.{proofs.Keeping.{maker_of-append, none_of, reached_more}, specs.declared.command.Command.{Command, TheVariants.{Unhold, Back}}}
+use Rattle.fm_script_text.specs.declared.{line.Line.{Line}, maker.Maker.{Maker}, thing.{Role.{Role}, Thing.{Thing}}, who.Who.{Who}}
 use Rattle.fm_script_text.specs.declared.who.Who.TheVariants.{First, Worker, Last}
 use Rattle.fm_script_text.specs.Rules.{IsAdmitted, Made, given_back, is_at_hand, is_given_back, is_new, is_owed, is_settled, is_this, made, maker_in, maker_of, may_use, or_else, pass_of, phase, plays, reached, uses}
-use Rattle.fm_script_text.specs.Scripts.{AreAdmitted, IsSaid, IsSettled}
-use Rattle.fm_script_text.specs.Syntax.{IsWho}
-use Rattle.fm_script_lines.specs.Admitted.{AreReturned, KeepRules, is_of_pass, is_returned, returns}
-use Rattle.fm_script_lines.specs.Report.{is_first, is_last, is_worker, lines_by}
+use Rattle.fm_script_text.specs.{Scripts.{AreAdmitted, IsSaid, IsSettled}, Syntax.{IsWho}}
+use Rattle.fm_script_text.specs.declared.thing.Role.TheVariants as role
+use Rattle.fm_script_lines.specs.{Admitted.{AreReturned, KeepRules, is_of_pass, is_returned, returns}, Report.{is_first, is_last, is_worker, lines_by}}
 
 abbrev maker : Who → Thing → Maker
 maker who thing = record { who = who; thing = thing }

@@ -1,18 +1,10 @@
 -- No two of a script's lines make one name, so its number is that of the line that makes it.
 use Rattle.std.proofs.Common.{◌≡◌, refl, sym, ap, subst, ◌∙◌, ℕ, zero, suc, ◌+◌, ◌≤◌, ◌==◌, Bool, true, false, if◌then◌else◌, Option, Some, None, List, [], ◌∷◌, ◌++◌, length, append_assoc, arith, IfSome, bytes_eq}
-use Rattle.std.proofs.lemmas.Bool.{cond-false, cond-true, eqb-true, ne_eqb}
-use Rattle.std.proofs.lemmas.Slice.Eq.{bytes_eq-Decides}
+use Rattle.std.proofs.lemmas.{Bool.{cond-false, cond-true, eqb-true, ne_eqb}, Slice.Eq.{bytes_eq-Decides}}
 use Rattle.fm_rule_facts.specs.Holds.{one_if}
-use Rattle.fm_script_text.proofs.Keeping.{none_of}
-use Rattle.fm_script_text.specs.declared.line.Line.{Line}
-use Rattle.fm_script_text.specs.declared.maker.Maker.{Maker}
-use Rattle.fm_script_text.specs.declared.who.Who.{Who}
-use Rattle.fm_script_text.specs.declared.who.Who.TheVariants.{First, Worker, Last}
-use Rattle.fm_script_text.specs.Rules.{Made, is_new, made, maker_in, maker_of, or_else}
-use Rattle.fm_script_text.specs.Scripts.{AreAdmitted}
-use Rattle.fm_script_lines.specs.Admitted.{AreNumbered, KeepRules}
-use Rattle.fm_script_lines.specs.Numbers.{is_made, number_from, unless}
-use Rattle.fm_script_lines.specs.Ordering.{in_order, worker_lines}
+use Rattle.fm_script_text.{proofs.Keeping.{none_of}, specs.declared.{line.Line.{Line}, maker.Maker.{Maker}, who.Who.{Who, TheVariants.{First, Worker, Last}}}}
+use Rattle.fm_script_text.specs.{Rules.{Made, is_new, made, maker_in, maker_of, or_else}, Scripts.{AreAdmitted}}
+use Rattle.fm_script_lines.specs.{Admitted.{AreNumbered, KeepRules}, Numbers.{is_made, number_from, unless}, Ordering.{in_order, worker_lines}}
 use Rattle.fm_script_lines.specs.Report.{is_first, is_last, is_worker, lines_by}
 
 -- one if the line makes the name

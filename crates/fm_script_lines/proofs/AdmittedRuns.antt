@@ -1,30 +1,17 @@
 -- Admitted lines that ran leave no hold and no handle.
 use Rattle.std.proofs.Common.{◌≡◌, refl, sym, ap, subst, ◌∙◌, ℕ, ◌+◌, ◌-◌, ◌≤◌, ◌<◌, ◌==◌, true, false, not, ◌||◌, Option, Some, None, List, [], ◌∷◌, ◌++◌, length, get_or, arith, ⊎_elim, IfSome, bytes_eq}
-use Rattle.std.specs.List.{list_any}
-use Rattle.std.proofs.lemmas.Bool.{and_parts, cases_eq, eq-eqb, ne_eqb, or_cases, or_left, or_right}
-use Rattle.std.proofs.lemmas.Slice.Eq.{bytes_eq-Decides}
+use Rattle.std.{specs.List.{list_any}, proofs.lemmas.{Bool.{and_parts, cases_eq, eq-eqb, ne_eqb, or_cases, or_left, or_right}, Slice.Eq.{bytes_eq-Decides}}}
 use Rattle.fm_base.specs.declared.caller.Caller.{Caller}
 use Rattle.fm_rule_facts.specs.Views.{View}
-use Rattle.fm_script_text.specs.declared.command.Command.{Command}
-use Rattle.fm_script_text.specs.declared.command.Command.TheVariants.{Unhold, Back}
-use Rattle.fm_script_text.specs.declared.line.Line.{Line}
-use Rattle.fm_script_text.specs.declared.thing.Role.TheVariants as role
-use Rattle.fm_script_text.specs.declared.thing.Thing.{Thing}
-use Rattle.fm_script_text.specs.declared.thing.Thing.TheVariants as thing
+use Rattle.fm_script_text.specs.declared.{command.Command.{Command, TheVariants.{Unhold, Back}}, line.Line.{Line}, thing.Thing.{Thing}}
 use Rattle.fm_script_text.specs.Rules.{Made, is_owed, made, plays}
-use Rattle.fm_script_lines.specs.declared.numbers.Numbers.{Numbers}
-use Rattle.fm_script_lines.specs.declared.reply.Reply.{Reply}
-use Rattle.fm_script_lines.specs.declared.standing.Standing.{Standing}
-use Rattle.fm_script_lines.specs.declared.standing.Standing.TheVariants.{Nothing}
-use Rattle.fm_script_lines.specs.Admitted.{AreNumbered, AreReturned, is_returned, returns}
-use Rattle.fm_script_lines.specs.Lines.{behind, is_number}
-use Rattle.fm_script_lines.specs.Numbers.{number_at}
-use Rattle.fm_script_lines.specs.Outcomes.{outcome}
-use Rattle.fm_script_lines.specs.Playing.{LinesRan}
-use Rattle.fm_script_lines.specs.Report.{AreRun, Done, lines_of, names_after, names_behind}
+use Rattle.fm_script_text.specs.declared.thing.Role.TheVariants as role
+use Rattle.fm_script_text.specs.declared.thing.Thing.TheVariants as thing
+use Rattle.fm_script_lines.specs.declared.{numbers.Numbers.{Numbers}, reply.Reply.{Reply}, standing.Standing.{Standing, TheVariants.{Nothing}}}
+use Rattle.fm_script_lines.specs.{Admitted.{AreNumbered, AreReturned, is_returned, returns}, Lines.{behind, is_number}, Numbers.{number_at}, Outcomes.{outcome}}
+use Rattle.fm_script_lines.specs.{Playing.{LinesRan}, Report.{AreRun, Done, lines_of, names_after, names_behind}}
 use Rattle.fm_script_lines.specs.Standings.{IsSpent, Names, standing_at, stands_of, unheld, handed_back}
-use Rattle.fm_script_lines.proofs.AdmittedMade.{CanMake, CanStand, behind-spent, behind-stands, line_makes}
-use Rattle.fm_script_lines.proofs.Naming.{standing-own, tokens_left}
+use Rattle.fm_script_lines.proofs.{AdmittedMade.{CanMake, CanStand, behind-spent, behind-stands, line_makes}, Naming.{standing-own, tokens_left}}
 
 -- What stands for number n is nothing that has to be given back, or a later line gives it back
 pub data Left (number : List ℕ → Option ℕ) (later : List Line) (n : ℕ) (s : Standing) : Type 0 where

@@ -2,36 +2,21 @@
 use Rattle.std.proofs.Common.{◌≡◌, ◌≢◌, ℕ, Bool, true, false, cond, List, [], ◌∷◌, ◌++◌, filter, refl, ap, sym, ◌∙◌, subst, inl, inr, Option, Some, None, Result, Ok, Err}
 use Rattle.std.specs.Prelude.{not, IfSome, ⊤}
 use Rattle.fm_words.specs.declared.shape.Shape.{Shape}
-use Rattle.fm_base.specs.declared.arena_id.ArenaId.{ArenaId}
-use Rattle.fm_base.specs.declared.caller.Caller.{Caller}
-use Rattle.fm_base.specs.declared.refusal.Refusal.{Refusal}
+use Rattle.fm_base.specs.declared.{arena_id.ArenaId.{ArenaId}, caller.Caller.{Caller}, refusal.Refusal.{Refusal}}
+use Rattle.fm_base.specs.{Calls.{Entry, Enter, Leave, Allocate, Given, NoRoom, Fine, entry_of}, Does.{DoesAllocate}, Finds.{Rest}, View.{but_loans, is_loan}}
 use Rattle.fm_base.specs.declared.refusal.Refusal.TheVariants as refusal
-use Rattle.fm_base.specs.Calls.{Entry, Enter, Leave, Allocate, Given, NoRoom, Fine, entry_of}
 use Rattle.fm_base.specs.Calls as machine
-use Rattle.fm_base.specs.Does.{DoesAllocate}
-use Rattle.fm_base.specs.Finds.{Rest}
-use Rattle.fm_base.specs.View.{but_loans, is_loan}
-use Rattle.fm_base_lists.specs.Among.{IsAmong}
-use Rattle.fm_base_lists.proofs.Among.{among_kept}
-use Rattle.fm_rule_facts.specs.Scarcity.{IsScarce}
-use Rattle.fm_rule_facts.specs.Views.{View}
+use Rattle.fm_base_lists.{specs.Among.{IsAmong}, proofs.Among.{among_kept}}
+use Rattle.fm_rule_facts.specs.{Scarcity.{IsScarce}, Views.{View}}
 use Rattle.fm_gate.specs.Pages.{FullExactly}
-use Rattle.fm_arena.specs.Allocating.{AllocatesExactly}
-use Rattle.fm_arena.specs.Opening.{HasNoSlot}
+use Rattle.fm_arena.specs.{Allocating.{AllocatesExactly}, Opening.{HasNoSlot}}
 use Rattle.fm_segment.specs.Region.{region_of}
-use Rattle.fm_script_text.specs.declared.command.Command.{Command}
-use Rattle.fm_script_text.specs.declared.command.Command.TheVariants.{Alloc}
-use Rattle.fm_script_lines.specs.declared.outcome.LineOutcome.{LineOutcome}
-use Rattle.fm_script_lines.specs.declared.reply.Reply.{Reply}
-use Rattle.fm_script_lines.specs.declared.reply.Reply.TheVariants.{Place, Refused, Skipped}
-use Rattle.fm_script_lines.specs.declared.standing.Standing.{Standing}
-use Rattle.fm_script_lines.specs.declared.standing.Standing.TheVariants.{Segment}
-use Rattle.fm_script_lines.specs.Calls.{Allocates, CallDoes, On, Skips, coming}
+use Rattle.fm_script_text.specs.declared.command.Command.{Command, TheVariants.{Alloc}}
+use Rattle.fm_script_lines.specs.declared.{outcome.LineOutcome.{LineOutcome}, reply.Reply.{Reply, TheVariants.{Place, Refused, Skipped}}}
+use Rattle.fm_script_lines.specs.{declared.standing.Standing.{Standing, TheVariants.{Segment}}, Calls.{Allocates, CallDoes, On, Skips, coming}}
 use Rattle.fm_script_lines.specs.Outcomes.{outcome}
 use Rattle.fm_script_lines.specs.Pages.{AllocatesRightly, HasEntered, IfAllocates, IsFullRightly, IsScarceBehind, PagesTold, PagesToldBy, answered}
-use Rattle.fm_script_lines.specs.Played.{Done}
-use Rattle.fm_script_lines.specs.Runs.{Went}
-use Rattle.fm_script_lines.specs.Standings.{arena_of}
+use Rattle.fm_script_lines.specs.{Played.{Done}, Runs.{Went}, Standings.{arena_of}}
 
 -- ---- one line
 

@@ -1,31 +1,21 @@
 -- A pass has what names stand for, as it goes on.
 use Rattle.std.proofs.Common.{◌≡◌, ◌≢◌, ℕ, zero, suc, ◌+◌, ◌<◌, List, [], ◌∷◌, ◌++◌, length, get_or, set, refl, ap, sym, ◌∙◌, subst, arith, Option, Some, None, All}
-use Rattle.std.specs.Prelude.{IfSome}
-use Rattle.std.specs.Option.{option_map}
-use Rattle.std.proofs.lemmas.List.Elements.{All-push, All-set, All-weaker}
-use Rattle.fm_base.specs.declared.arena_id.ArenaId.{ArenaId}
-use Rattle.fm_base.specs.Arenas.{same_id}
-use Rattle.fm_base.specs.Outcomes.{Lasts}
-use Rattle.fm_base.proofs.Names.{same_id-self}
-use Rattle.fm_gate.specs.declared.held.Hold as held
-use Rattle.fm_rule_facts.specs.Holds.{how_many, one_if, released}
+use Rattle.std.{specs.{Prelude.{IfSome}, Option.{option_map}}, proofs.lemmas.List.Elements.{All-push, All-set, All-weaker}}
+use Rattle.fm_base.{specs.{declared.arena_id.ArenaId.{ArenaId}, Arenas.{same_id}, Outcomes.{Lasts}}, proofs.Names.{same_id-self}}
 use Rattle.fm_base.specs.declared.kind.Kind.TheVariants.{Automatic}
-use Rattle.fm_arena.specs.declared.handle.AutoHandle.{AutoHandle}
-use Rattle.fm_arena.specs.Handles.{HasHandle}
+use Rattle.fm_gate.specs.declared.held.Hold as held
+use Rattle.fm_rule_facts.specs.{Holds.{how_many, one_if, released}, Views.{View, IsKnown}}
+use Rattle.fm_arena.specs.{declared.handle.AutoHandle.{AutoHandle}, Handles.{HasHandle}, Learnt.{CanUnhold}}
 use Rattle.fm_gate.specs.Makers.{made_by_pass}
-use Rattle.fm_arena.specs.Learnt.{CanUnhold}
 use Rattle.fm_segment.specs.Access as segment
-use Rattle.fm_rule_facts.specs.Views.{View, IsKnown}
 use Rattle.fm_rule_calls.specs.Told.{view_of_pass}
-use Rattle.fm_script_lines.specs.declared.bound.Bound.{Bound}
-use Rattle.fm_script_lines.specs.declared.bound.Bound.TheVariants as other
-use Rattle.fm_script_lines.specs.declared.standing.Standing.{Standing}
-use Rattle.fm_script_lines.specs.declared.standing.Standing.TheVariants as standing
-use Rattle.fm_script_lines.specs.declared.standing.Standing.TheVariants.{Nothing, Arena, Segment, Hold, Handle}
+use Rattle.fm_script_lines.specs.declared.{bound.Bound.{Bound}, standing.Standing.{Standing, TheVariants.{Nothing, Arena, Segment, Hold, Handle}}}
 use Rattle.fm_script_lines.specs.Standings.{IsBacked, IsHandleIn, standing_of, arena_of, segment_of, hold_in, handle_in, hold_of, handle_of, lent, unheld, handed_back, standing_as}
 use Rattle.fm_script_lines.specs.Tokens.{Backs, BacksWith, HasTokens, among, onto, holds_with, handles_with}
 use Rattle.fm_script_lines.proofs.Naming.{lent_none, of_name, owned, tokens_left}
 use Rattle.fm_script_lines.proofs.Counting.{among_push, among_set, how_many_onto, token_in, token_more, token_less}
+use Rattle.fm_script_lines.specs.declared.bound.Bound.TheVariants as other
+use Rattle.fm_script_lines.specs.declared.standing.Standing.TheVariants as standing
 
 -- What follows from what is known of a value, if there is one.
 pub some_weaker : {X : Type 0} (P Q : X → Type 0) (o : Option X) → ((x : X) → P x → Q x) → IfSome o P → IfSome o Q

@@ -1,15 +1,8 @@
 -- The holds and handles of names, as one is made or given back.
 use Rattle.std.proofs.Common.{◌≡◌, ℕ, zero, suc, ◌+◌, ◌<◌, Bool, true, false, if◌then◌else◌, List, [], ◌∷◌, ◌++◌, length, get_or, set, refl, ap, sym, ◌∙◌, subst, arith, Option, Some, None, inl, inr}
-use Rattle.fm_base.specs.declared.arena_id.ArenaId.{ArenaId}
-use Rattle.fm_base.specs.Arenas.{same_id}
-use Rattle.fm_base.proofs.Names.{same_id-self}
-use Rattle.fm_rule_facts.specs.Views.{In}
-use Rattle.fm_rule_facts.specs.Holds.{how_many, one_if, released}
-use Rattle.fm_rule_facts.proofs.Keeping.{in_left}
-use Rattle.fm_rule_facts.proofs.Summing.{one_less, swapped}
-use Rattle.fm_script_lines.specs.declared.standing.Standing.{Standing}
-use Rattle.fm_script_lines.specs.declared.standing.Standing.TheVariants.{Nothing}
-use Rattle.fm_script_lines.specs.Tokens.{onto, among, HasTokens}
+use Rattle.fm_base.{specs.{declared.arena_id.ArenaId.{ArenaId}, Arenas.{same_id}}, proofs.Names.{same_id-self}}
+use Rattle.fm_rule_facts.{specs.{Views.{In}, Holds.{how_many, one_if, released}}, proofs.{Keeping.{in_left}, Summing.{one_less, swapped}}}
+use Rattle.fm_script_lines.specs.{declared.standing.Standing.{Standing, TheVariants.{Nothing}}, Tokens.{onto, among, HasTokens}}
 use Rattle.fm_gate.proofs.Counted.{some_in}
 
 -- The first of them is released among those in front.

@@ -1,23 +1,15 @@
 -- A table's end: the names are gone one by one, with their holds and handles.
 use Rattle.std.proofs.Common.{◌≡◌, ◌+◌, ◌<◌, List, [], ◌∷◌, ◌++◌, length, length-append, map, reverse, append_assoc, get_or, refl, ap, sym, ◌∙◌, subst, arith, Option, Some, None, All}
-use Rattle.std.proofs.lemmas.List.{append-nil, get_or_push, get_or_append_left, map-append, reverse-append, reverse-reverse}
-use Rattle.std.proofs.lemmas.List.Elements.{All-weaker}
-use Rattle.fm_base.specs.declared.arena_id.ArenaId.{ArenaId}
-use Rattle.fm_base.specs.Arenas.{same_id}
-use Rattle.fm_base.specs.Outcomes.{Lasts}
-use Rattle.fm_base.proofs.Names.{same_id-self}
-use Rattle.fm_rule_facts.specs.Holds.{how_many, one_if}
-use Rattle.fm_rule_facts.specs.Views.{View}
+use Rattle.std.proofs.lemmas.List.{append-nil, get_or_push, get_or_append_left, map-append, reverse-append, reverse-reverse, Elements.{All-weaker}}
+use Rattle.fm_base.{specs.{declared.arena_id.ArenaId.{ArenaId}, Arenas.{same_id}, Outcomes.{Lasts}}, proofs.Names.{same_id-self}}
+use Rattle.fm_rule_facts.specs.{Holds.{how_many, one_if}, Views.{View}}
 use Rattle.fm_rule_calls.specs.Told.{view_of_pass}
-use Rattle.fm_script_lines.specs.declared.bound.Bound.{Bound}
-use Rattle.fm_script_lines.specs.declared.standing.Standing.{Standing}
-use Rattle.fm_script_lines.specs.declared.standing.Standing.TheVariants as standing
-use Rattle.fm_script_lines.specs.declared.standing.Standing.TheVariants.{Nothing, Arena, Segment, Hold, Handle}
+use Rattle.fm_script_lines.specs.declared.{bound.Bound.{Bound}, standing.Standing.{Standing, TheVariants.{Nothing, Arena, Segment, Hold, Handle}}}
 use Rattle.fm_script_lines.specs.Standings.{IsBacked, hold_in, handle_in, hold_of, handle_of, lent, standing_as}
-use Rattle.fm_script_lines.specs.Tokens.{Backs, CanSpend, HasTokens, among, onto, without}
-use Rattle.fm_gate.specs.Makers.{made_by_pass}
-use Rattle.fm_script_lines.proofs.Backing.{backed_later, can_unhold, has_handle}
+use Rattle.fm_script_lines.{specs.Tokens.{Backs, CanSpend, HasTokens, among, onto, without}, proofs.Backing.{backed_later, can_unhold, has_handle}}
 use Rattle.fm_script_lines.proofs.Counting.{among_push, token_less}
+use Rattle.fm_script_lines.specs.declared.standing.Standing.TheVariants as standing
+use Rattle.fm_gate.specs.Makers.{made_by_pass}
 
 -- No line yet.
 pub backs_none : (p : View) (base : List Standing) → All (λ s. IsBacked p (lent s)) base → Backs p p.holds p.handles base []

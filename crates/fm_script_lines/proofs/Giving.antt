@@ -1,28 +1,16 @@
 -- A line that gives a hold or a handle back.
-use Rattle.std.proofs.Common.{◌≡◌, ℕ, ◌<◌, List, set, get_or, length, refl, ap, sym, ◌∙◌, subst, Option, Some, None}
-use Rattle.std.specs.Option.{option_map}
+use Rattle.std.{proofs.Common.{◌≡◌, ℕ, ◌<◌, List, set, get_or, length, refl, ap, sym, ◌∙◌, subst, Option, Some, None}, specs.Option.{option_map}}
 use Rattle.std.proofs.lemmas.List.{length-set}
 use Rattle.fm_arena.specs.declared.handle.AutoHandle.{AutoHandle}
 use Rattle.fm_base.specs.declared.arena_id.ArenaId.{ArenaId}
 use Rattle.fm_gate.specs.declared.held.Hold as held
-use Rattle.fm_rule_facts.specs.Holds.{released}
-use Rattle.fm_rule_facts.specs.Views.{View}
+use Rattle.fm_rule_facts.specs.{Holds.{released}, Views.{View}}
 use Rattle.fm_script_text.specs.declared.command.Command.TheVariants.{Unhold, Back}
-use Rattle.fm_script_lines.specs.declared.outcome.LineOutcome.{LineOutcome}
-use Rattle.fm_script_lines.specs.declared.reply.Reply.{Reply}
-use Rattle.fm_script_lines.specs.declared.reply.Reply.TheVariants.{Fine, Skipped}
-use Rattle.fm_script_lines.specs.declared.standing.Standing.{Standing}
-use Rattle.fm_script_lines.specs.declared.standing.Standing.TheVariants.{Nothing}
-use Rattle.fm_script_lines.specs.declared.table.Table.{Table}
-use Rattle.fm_script_lines.specs.Calls.{On, GivesBack, Unholds}
-use Rattle.fm_script_lines.specs.Learnt.{CallRan, KeepsTable, Leaves, TookFrom, stands_by}
-use Rattle.fm_script_lines.specs.Numbers.{number_at}
-use Rattle.fm_script_lines.specs.Outcomes.{plain}
-use Rattle.fm_script_lines.specs.Runs.{RanLineWith, RanWith}
-use Rattle.fm_script_lines.specs.Standings.{handed_back, handle_in, hold_in, unheld}
-use Rattle.fm_script_lines.specs.Tokens.{BacksWith, without}
-use Rattle.fm_script_lines.proofs.Backing.{backs_handed, backs_unheld}
-use Rattle.fm_script_lines.proofs.Lines.{line_none}
+use Rattle.fm_script_lines.specs.declared.{outcome.LineOutcome.{LineOutcome}, reply.Reply.{Reply, TheVariants.{Fine, Skipped}}, standing.Standing.{Standing}}
+use Rattle.fm_script_lines.specs.{declared.{standing.Standing.TheVariants.{Nothing}, table.Table.{Table}}, Calls.{On, GivesBack, Unholds}}
+use Rattle.fm_script_lines.specs.{Learnt.{CallRan, KeepsTable, Leaves, TookFrom, stands_by}, Numbers.{number_at}, Outcomes.{plain}, Runs.{RanLineWith, RanWith}}
+use Rattle.fm_script_lines.specs.{Standings.{handed_back, handle_in, hold_in, unheld}, Tokens.{BacksWith, without}}
+use Rattle.fm_script_lines.proofs.{Backing.{backs_handed, backs_unheld}, Lines.{line_none}}
 use Rattle.fm_script_lines.proofs.Naming.{Left, handed-same, left-none, left-taken, standing-here, unheld-same}
 
 -- A token was taken out of a table by a name, or there was none.

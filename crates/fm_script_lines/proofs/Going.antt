@@ -1,20 +1,11 @@
 -- How a pass goes on: by a call of a memory, by one of its own, by none, and by one after another.
-use Rattle.std.proofs.Common.{◌≡◌, List, [], ◌++◌, refl, ap, sym, ◌∙◌, subst, append_assoc, All, None, inr, get_or, arith}
-use Rattle.std.proofs.lemmas.List.{append-nil}
+use Rattle.std.proofs.{Common.{◌≡◌, List, [], ◌++◌, refl, ap, sym, ◌∙◌, subst, append_assoc, All, None, inr, get_or, arith}, lemmas.List.{append-nil}}
 use Rattle.std.proofs.lemmas.List.Elements.{filter-append}
-use Rattle.fm_base.specs.declared.arena_id.ArenaId.{ArenaId}
-use Rattle.fm_base.specs.Calls.{Entry}
-use Rattle.fm_base.specs.Finds.{Rest, Gathered}
-use Rattle.fm_base.specs.Histories.{made_by}
-use Rattle.fm_base.specs.Outcomes.{Lasts}
-use Rattle.fm_base.specs.View.{Makes, Did, inside_after}
-use Rattle.fm_base.proofs.Making.{inside_after-append, FindsMore-trans, FindsMore-none}
-use Rattle.fm_base.proofs.Outcomes.{Makes-lasts}
+use Rattle.fm_base.specs.{declared.arena_id.ArenaId.{ArenaId}, Calls.{Entry}, Finds.{Rest, Gathered}, Histories.{made_by}, Outcomes.{Lasts}}
+use Rattle.fm_base.{specs.View.{Makes, Did, inside_after}, proofs.{Making.{inside_after-append, FindsMore-trans, FindsMore-none}, Outcomes.{Makes-lasts}}}
 use Rattle.fm_rule_facts.specs.Views.{View}
-use Rattle.fm_rule_calls.specs.Kept.{KeptAs, rest_of, shape_numbers}
+use Rattle.fm_rule_calls.{specs.{Kept.{KeptAs, rest_of, shape_numbers}, Told.{view_of_pass, silent_view}}, proofs.Telling.{silent_makes}}
 use Rattle.fm_gate.specs.Makers.{made_by_pass}
-use Rattle.fm_rule_calls.specs.Told.{view_of_pass, silent_view}
-use Rattle.fm_rule_calls.proofs.Telling.{silent_makes}
 use Rattle.fm_arena.proofs.Lasting.{stays}
 use Rattle.fm_script_lines.specs.Runs.{Went, WentOn, RanWith, Ran}
 

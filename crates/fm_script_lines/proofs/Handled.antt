@@ -1,27 +1,14 @@
 -- Lines that open an arena, and that take another handle of one.
 use Rattle.std.proofs.Common.{◌≡◌, ◌≢◌, ◌∙◌, ◌∷◌, refl, sym, subst, ap, Option, Some, None, Ok, Err}
-use Rattle.fm_base.specs.declared.arena_id.ArenaId.{ArenaId}
-use Rattle.fm_base.specs.declared.kind.Kind.{Kind}
+use Rattle.fm_base.specs.{declared.{arena_id.ArenaId.{ArenaId}, kind.Kind.{Kind}, refusal.Refusal.{Refusal}}, Learnt.{AfterOpen}, Outcomes.{MayRefuse}}
 use Rattle.fm_base.specs.declared.kind.Kind.TheVariants as kind
-use Rattle.fm_base.specs.declared.refusal.Refusal.{Refusal}
-use Rattle.fm_base.specs.Learnt.{AfterOpen}
-use Rattle.fm_base.specs.Outcomes.{MayRefuse}
 use Rattle.fm_rule_facts.specs.Views.{View}
 use Rattle.fm_rule_calls.specs.Told.{view_of_pass}
 use Rattle.fm_gate.specs.Makers.{Made, made_by_pass}
-use Rattle.fm_arena.specs.declared.handle.AutoHandle.{AutoHandle}
-use Rattle.fm_arena.specs.Handles.{AfterStart, AfterAgain}
-use Rattle.fm_arena.specs.Shares.{nature_of_shared}
-use Rattle.fm_script_lines.specs.declared.outcome.LineOutcome.{LineOutcome}
-use Rattle.fm_script_lines.specs.declared.reply.Reply.TheVariants.{Fine, Refused}
-use Rattle.fm_script_lines.specs.declared.standing.Standing.{Standing}
-use Rattle.fm_script_lines.specs.declared.standing.Standing.TheVariants.{Arena, Automatic, Handle}
-use Rattle.fm_script_lines.specs.Calls.{On, Opens, TakesAgain}
-use Rattle.fm_script_lines.specs.Outcomes.{plain, outcome}
-use Rattle.fm_script_lines.specs.Runs.{RanLine}
-use Rattle.fm_script_lines.specs.Standings.{opened_as}
-use Rattle.fm_script_lines.proofs.Going.{ran_by_memory, ran_by_pass}
-use Rattle.fm_script_lines.proofs.Lines.{ran_as, plain_line, line_some}
+use Rattle.fm_arena.specs.{declared.handle.AutoHandle.{AutoHandle}, Handles.{AfterStart, AfterAgain}, Shares.{nature_of_shared}}
+use Rattle.fm_script_lines.specs.declared.{outcome.LineOutcome.{LineOutcome}, reply.Reply.TheVariants.{Fine, Refused}, standing.Standing.{Standing}}
+use Rattle.fm_script_lines.specs.{declared.standing.Standing.TheVariants.{Arena, Automatic, Handle}, Calls.{On, Opens, TakesAgain}, Outcomes.{plain, outcome}}
+use Rattle.fm_script_lines.{specs.{Runs.{RanLine}, Standings.{opened_as}}, proofs.{Going.{ran_by_memory, ran_by_pass}, Lines.{ran_as, plain_line, line_some}}}
 
 -- An automatic arena that was opened.
 pub line_started : {p q : View} (handle : AutoHandle) → AfterStart p q (Ok handle)

@@ -1,37 +1,19 @@
 -- What a line that allocates found at points of its call, and what it lent.
 use Rattle.std.proofs.Common.{◌≡◌, ℕ, ◌*◌, ◌/◌, ◌<◌, ◌≤◌, true, arith, length, length-append, List, [], ◌∷◌, ◌++◌, refl, ap, sym, ◌∙◌, subst, append_assoc, inl, inr, Option, Some, None, Result, Err}
-use Rattle.std.specs.Prelude.{IfSome}
-use Rattle.std.proofs.lemmas.List.{append-nil}
-use Rattle.std.proofs.lemmas.List.Elements.{filter-append}
-use Rattle.fm_words.specs.declared.shape.Shape.{Shape}
-use Rattle.fm_words.specs.Places.{page_groups}
-use Rattle.fm_base.specs.declared.arena_id.ArenaId.{ArenaId}
-use Rattle.fm_base.specs.declared.caller.Caller.{Caller}
-use Rattle.fm_base.specs.declared.refusal.Refusal.{Refusal}
-use Rattle.fm_base.specs.declared.refusal.Refusal.TheVariants.{PoolFull}
-use Rattle.fm_base.specs.Calls.{Entry, Enter, Fine, entry_of}
-use Rattle.fm_base.specs.Histories.{made_by}
-use Rattle.fm_base.specs.View.{is_loan}
+use Rattle.std.{specs.Prelude.{IfSome}, proofs.lemmas.List.{append-nil, Elements.{filter-append}}}
+use Rattle.fm_words.specs.{declared.shape.Shape.{Shape}, Places.{page_groups}}
+use Rattle.fm_base.specs.declared.{arena_id.ArenaId.{ArenaId}, caller.Caller.{Caller}, refusal.Refusal.{Refusal, TheVariants.{PoolFull}}}
+use Rattle.fm_base.specs.{Calls.{Entry, Enter, Fine, entry_of}, Histories.{made_by}, View.{is_loan}}
 use Rattle.fm_base_lists.specs.Among.{IsAmong}
-use Rattle.fm_rule_facts.specs.Loans.{loans_of}
-use Rattle.fm_rule_facts.specs.Views.{View, Begins, In, unlent_in}
-use Rattle.fm_rule_facts.proofs.Keeping.{begins_on}
+use Rattle.fm_rule_facts.{specs.{Loans.{loans_of}, Views.{View, Begins, In, unlent_in}}, proofs.Keeping.{begins_on}}
 use Rattle.fm_gate.specs.Pages.{FoundNoPage, LendsInRange}
 use Rattle.fm_arena.specs.Allocating.{AllocatesExactly}
-use Rattle.fm_script_text.specs.declared.command.Command.{Command}
-use Rattle.fm_script_text.specs.declared.command.Command.TheVariants.{Alloc}
-use Rattle.fm_script_lines.specs.declared.outcome.LineOutcome.{LineOutcome}
-use Rattle.fm_script_lines.specs.declared.reply.Reply.TheVariants.{Refused, Skipped}
-use Rattle.fm_script_lines.specs.declared.standing.Standing.{Standing}
-use Rattle.fm_script_lines.specs.Calls.{Allocates, CallDoes, On}
-use Rattle.fm_script_lines.specs.Outcomes.{outcome}
-use Rattle.fm_script_lines.specs.Pages as pages
+use Rattle.fm_script_text.specs.declared.command.Command.{Command, TheVariants.{Alloc}}
+use Rattle.fm_script_lines.specs.declared.{outcome.LineOutcome.{LineOutcome}, reply.Reply.TheVariants.{Refused, Skipped}, standing.Standing.{Standing}}
+use Rattle.fm_script_lines.specs.{Calls.{Allocates, CallDoes, On}, Outcomes.{outcome}}
 use Rattle.fm_script_lines.specs.Pages.{EachBehind, FindsFew, FoundFew, HasEntered, IfAllocates, IsPointOf, LendsRightly, PagesTold, PagesToldBy}
-use Rattle.fm_script_lines.specs.Played.{Done, runs}
-use Rattle.fm_script_lines.specs.Runs.{Went}
-use Rattle.fm_script_lines.specs.Standings.{arena_of}
-use Rattle.fm_script_lines.proofs.Allocating.{answered_once}
-use Rattle.fm_script_lines.proofs.Opening.{made_after}
+use Rattle.fm_script_lines.{specs.{Played.{Done, runs}, Runs.{Went}, Standings.{arena_of}}, proofs.{Allocating.{answered_once}, Opening.{made_after}}}
+use Rattle.fm_script_lines.specs.Pages as pages
 
 -- ---- one call
 

@@ -1,10 +1,7 @@
 -- What others see of a name stays as its hold or its handle is given back.
 use Rattle.std.proofs.Common.{◌≡◌, refl, ap, sym, ◌∙◌}
-use Rattle.fm_script_lines.specs.declared.standing.Standing.{Standing}
-use Rattle.fm_script_lines.specs.declared.standing.Standing.TheVariants.{Nothing, Arena, Automatic, Segment, Hold, Handle}
-use Rattle.fm_script_lines.specs.Standings.{arena_of, handed_back, lent, segment_of, unheld}
-use Rattle.fm_script_lines.specs.Tables.{SeenAs}
-use Rattle.fm_script_lines.proofs.Naming.{lent_seen}
+use Rattle.fm_script_lines.specs.declared.standing.Standing.{Standing, TheVariants.{Nothing, Arena, Automatic, Segment, Hold, Handle}}
+use Rattle.fm_script_lines.{specs.{Standings.{arena_of, handed_back, lent, segment_of, unheld}, Tables.{SeenAs}}, proofs.Naming.{lent_seen}}
 
 -- what is left of a name, and what is lent of it, are lent as it is
 pub record StaysLent (s : Standing) : Type 0 where

@@ -1,12 +1,8 @@
 -- A call's answer is what its line comes to.
 use Rattle.std.proofs.Common.{◌≡◌, ◌≢◌, ℕ, ℤ, ◌+◌, nat_le, if◌then◌else◌, Bool, true, false, arith, ◌∷◌, List, [], refl, sym, subst, Option, Some, None, Result, Ok, Err}
-use Rattle.fm_base.specs.declared.arena_id.ArenaId.{ArenaId}
 use Rattle.std.proofs.lemmas.Bool.{leb-true}
-use Rattle.fm_base.specs.declared.kind.Kind.TheVariants.{Automatic}
-use Rattle.fm_base.specs.declared.refusal.Refusal.{Refusal}
-use Rattle.fm_base.specs.declared.refusal.Refusal.TheVariants.{Bounds}
-use Rattle.fm_base.specs.Calls.{Entry}
-use Rattle.fm_base.specs.View.{Did}
+use Rattle.fm_base.specs.declared.{arena_id.ArenaId.{ArenaId}, kind.Kind.TheVariants.{Automatic}, refusal.Refusal.{Refusal, TheVariants.{Bounds}}}
+use Rattle.fm_base.specs.{Calls.{Entry}, View.{Did}}
 use Rattle.fm_gate.specs.declared.held.Hold as held
 use Rattle.fm_gate.specs.Makers.{made_by_pass}
 use Rattle.fm_arena.specs.Learnt.{AfterHold}
@@ -15,21 +11,14 @@ use Rattle.fm_rule_calls.specs.Told.{view_of_pass}
 use Rattle.fm_lanes.specs.declared.value.Value.{Value}
 use Rattle.fm_layout.specs.Tree.{Tree}
 use Rattle.fm_path.specs.Resolution.{Resolution}
-use Rattle.fm_segment.specs.Access.{DoesGetAt, DoesSetAt, place_of, writable_place_of}
+use Rattle.fm_segment.specs.{Access.{DoesGetAt, DoesSetAt, place_of, writable_place_of}, Region.{Region, part_of}, Slices.{slice_of}}
 use Rattle.fm_segment.specs.Access as segment
-use Rattle.fm_segment.specs.Region.{Region, part_of}
-use Rattle.fm_segment.specs.Slices.{slice_of}
-use Rattle.fm_handle.specs.Access.{DoesAdd, DoesExchange}
-use Rattle.fm_handle.specs.Place.{update_place_of, can_update}
+use Rattle.fm_handle.specs.{Access.{DoesAdd, DoesExchange}, Place.{update_place_of, can_update}}
 use Rattle.fm_script_text.specs.declared.cell.Cell.{Cell}
-use Rattle.fm_script_lines.specs.declared.outcome.LineOutcome.{LineOutcome}
-use Rattle.fm_script_lines.specs.declared.reply.Reply.{Reply}
-use Rattle.fm_script_lines.specs.declared.reply.Reply.TheVariants.{Skipped, Fine, Refused}
+use Rattle.fm_script_lines.specs.declared.{outcome.LineOutcome.{LineOutcome}, reply.Reply.{Reply, TheVariants.{Skipped, Fine, Refused}}}
 use Rattle.fm_script_lines.specs.declared.standing.Standing.TheVariants.{Segment, Hold}
 use Rattle.fm_script_lines.specs.Calls.{On, Called, Skips, coming, number, fine, tree_of, IsValue, IsHandleOf, Gets, Sets, Adds, Exchanges, Holds, Answers, segment_made}
-use Rattle.fm_script_lines.specs.Outcomes.{plain, outcome}
-use Rattle.fm_script_lines.specs.Standings.{held_as}
-use Rattle.fm_script_lines.specs.Runs.{RanWith, Ran, RanLine}
+use Rattle.fm_script_lines.specs.{Outcomes.{plain, outcome}, Standings.{held_as}, Runs.{RanWith, Ran, RanLine}}
 use Rattle.fm_script_lines.proofs.Going.{ran_none, ran_by_memory, ran_by_pass}
 
 -- What a call did, said in other words.

@@ -1,21 +1,11 @@
 -- The numbers kept are those of one line more.
 use Rattle.std.proofs.Common.{◌≡◌, refl, ap, ◌∙◌, ℕ, ◌+◌, Bool, true, false, if◌then◌else◌, Option, Some, None, List, [], ◌∷◌, ◌++◌, length, take, get_or, ◌<◌, arith, length-take}
-use Rattle.std.proofs.lemmas.List.{length-map, take_more}
-use Rattle.std.specs.BTreeMap as tree
-use Rattle.std.specs.BTreeMap.{BTreeMap}
-use Rattle.std.specs.Cmp.Lexicographic.{slice_cmp}
-use Rattle.std.specs.Ordering.{nat_cmp}
-use Rattle.std.specs.Prelude.{String, string_bytes}
-use Rattle.std.specs.String.{string_cmp}
-use Rattle.std.specs.declared.alloc.Global.{Global}
-use Rattle.std.proofs.lemmas.Map.Text.{btree_map_updates_text}
+use Rattle.std.{proofs.lemmas.List.{length-map, take_more}, specs.{BTreeMap.{BTreeMap}, Cmp.Lexicographic.{slice_cmp}, Ordering.{nat_cmp}}}
+use Rattle.std.{specs.{Prelude.{String, string_bytes}, String.{string_cmp}, declared.alloc.Global.{Global}}, proofs.lemmas.Map.Text.{btree_map_updates_text}}
 use Rattle.std.specs.Borrow.{Bor}
-use Rattle.fm_script_text.specs.declared.line.Line.{Line}
-use Rattle.fm_script_text.specs.declared.thing.Thing.{Thing}
-use Rattle.fm_script_text.specs.Rules.{Made, as_thing, made}
-use Rattle.fm_script_lines.specs.Numbers.{is_made, number_from, unless}
-use Rattle.fm_script_lines.specs.Ordering.{lines_at}
-use Rattle.fm_script_lines.proofs.Picking.{lines_at-push}
+use Rattle.std.specs.BTreeMap as tree
+use Rattle.fm_script_text.specs.{declared.{line.Line.{Line}, thing.Thing.{Thing}}, Rules.{Made, as_thing, made}}
+use Rattle.fm_script_lines.{specs.{Numbers.{is_made, number_from, unless}, Ordering.{lines_at}}, proofs.Picking.{lines_at-push}}
 
 -- A map with one entry more has the number of its name, and the others' as before.
 pub number_more : (m n : BTreeMap (String Global) ℕ) (key : String Global) (number : ℕ) (thing : Thing) (name : List ℕ) (command : Option Made)

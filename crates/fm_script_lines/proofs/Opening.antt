@@ -1,39 +1,17 @@
 -- What a line that opens an arena tells of slots.
 use Rattle.std.proofs.Common.{◌≡◌, ℕ, zero, suc, ◌<◌, true, arith, get_or, length, List, [], ◌∷◌, ◌++◌, refl, ap, sym, ◌∙◌, subst, append_assoc, inl, inr, Ok, Err}
-use Rattle.std.proofs.lemmas.List.{append-nil}
-use Rattle.std.proofs.lemmas.List.Elements.{filter-append}
+use Rattle.std.proofs.lemmas.List.{append-nil, Elements.{filter-append}}
 use Rattle.fm_words.specs.declared.shape.Shape.{Shape}
-use Rattle.fm_base.specs.declared.arena_id.ArenaId.{ArenaId}
-use Rattle.fm_base.specs.declared.caller.Caller.{Caller}
-use Rattle.fm_base.specs.declared.kind.Kind.{Kind}
-use Rattle.fm_base.specs.declared.refusal.Refusal.{Refusal}
-use Rattle.fm_base.specs.declared.refusal.Refusal.TheVariants.{NoSlot, Memory}
-use Rattle.fm_base.specs.Calls.{Entry}
-use Rattle.fm_base.specs.Does.{DoesOpen}
-use Rattle.fm_base.specs.Finds.{Find, FindsMore, Rest}
-use Rattle.fm_base.specs.Histories.{made_by}
-use Rattle.fm_base.specs.Learnt.{AfterOpen}
-use Rattle.fm_base.specs.Outcomes.{MayRefuse}
-use Rattle.fm_base.specs.View.{but_loans}
-use Rattle.fm_base.proofs.Making.{but_loans-append}
-use Rattle.fm_rule_facts.specs.Views.{View, Begins, In}
-use Rattle.fm_rule_facts.proofs.Keeping.{begins_on, in_left, in_right}
+use Rattle.fm_base.specs.declared.{arena_id.ArenaId.{ArenaId}, caller.Caller.{Caller}, kind.Kind.{Kind}, refusal.Refusal.{Refusal}}
+use Rattle.fm_base.specs.{declared.refusal.Refusal.TheVariants.{NoSlot, Memory}, Calls.{Entry}, Does.{DoesOpen}, Finds.{Find, FindsMore, Rest}}
+use Rattle.fm_base.{specs.{Histories.{made_by}, Learnt.{AfterOpen}, Outcomes.{MayRefuse}, View.{but_loans}}, proofs.Making.{but_loans-append}}
+use Rattle.fm_rule_facts.{specs.Views.{View, Begins, In}, proofs.Keeping.{begins_on, in_left, in_right}}
 use Rattle.fm_rule_calls.specs.Told.{view_of_pass}
-use Rattle.fm_arena.specs.Shares.{nature_of_shared}
-use Rattle.fm_arena.specs.Opening.{FoundNoneLeft, HasNoSlot, OpensExactly}
-use Rattle.fm_script_text.specs.declared.command.Command.{Command}
-use Rattle.fm_script_text.specs.declared.command.Command.TheVariants.{Open}
-use Rattle.fm_script_lines.specs.declared.outcome.LineOutcome.{LineOutcome}
-use Rattle.fm_script_lines.specs.declared.reply.Reply.{Reply}
-use Rattle.fm_script_lines.specs.declared.reply.Reply.TheVariants.{Fine, Refused}
-use Rattle.fm_script_lines.specs.declared.standing.Standing.{Standing}
-use Rattle.fm_script_lines.specs.Calls.{CallDoes, CalledBut, OverPool}
-use Rattle.fm_script_lines.specs.Outcomes.{outcome}
-use Rattle.fm_script_lines.specs.Played.{Done, runs}
-use Rattle.fm_script_lines.specs.Runs.{Went}
-use Rattle.fm_script_lines.specs.Standings.{opened_as}
-use Rattle.fm_script_lines.specs.Slots.{AllBusyIn, AreFound, FindsNoSlot, FoundAt, OpenRightly, OpensRightly, SlotsTold, opens}
-use Rattle.fm_script_lines.proofs.Going.{went_then}
+use Rattle.fm_arena.specs.{Shares.{nature_of_shared}, Opening.{FoundNoneLeft, HasNoSlot, OpensExactly}}
+use Rattle.fm_script_text.specs.declared.command.Command.{Command, TheVariants.{Open}}
+use Rattle.fm_script_lines.specs.declared.{outcome.LineOutcome.{LineOutcome}, reply.Reply.{Reply, TheVariants.{Fine, Refused}}, standing.Standing.{Standing}}
+use Rattle.fm_script_lines.specs.{Calls.{CallDoes, CalledBut, OverPool}, Outcomes.{outcome}, Played.{Done, runs}, Runs.{Went}, Standings.{opened_as}}
+use Rattle.fm_script_lines.{specs.Slots.{AllBusyIn, AreFound, FindsNoSlot, FoundAt, OpenRightly, OpensRightly, SlotsTold, opens}, proofs.Going.{went_then}}
 
 -- ---- one line
 

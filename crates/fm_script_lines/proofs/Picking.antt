@@ -1,13 +1,9 @@
 -- Lines picked out of a script's one by one.
 use Rattle.std.proofs.Common.{◌≡◌, ℕ, zero, suc, ◌+◌, ◌<◌, ◌≤◌, nat_lt, append_assoc, Bool, true, false, if◌then◌else◌, List, [], ◌∷◌, ◌++◌, length, length-append, take, drop, get_or, refl, sym, ap, ◌∙◌, subst, arith}
-use Rattle.std.proofs.lemmas.Bool.{ltb-true, ltb-false}
-use Rattle.std.proofs.lemmas.List.{append-nil, get_or_append_left, get_or_push, map-append, take_more, take-append-drop}
-use Rattle.std.proofs.lemmas.List.Elements.{filter-append}
-use Rattle.fm_script_text.specs.declared.line.Line.{Line}
-use Rattle.fm_script_text.specs.declared.who.Who.{Who}
-use Rattle.std.specs.Borrow.{Bor}
-use Rattle.fm_script_lines.specs.Ordering.{AreStarts, lines_at, worker_lines}
-use Rattle.fm_script_lines.specs.Report.{is_first, is_worker, lines_by}
+use Rattle.std.proofs.lemmas.{Bool.{ltb-true, ltb-false}, List.{append-nil, get_or_append_left, get_or_push, map-append, take_more, take-append-drop}}
+use Rattle.std.{proofs.lemmas.List.Elements.{filter-append}, specs.Borrow.{Bor}}
+use Rattle.fm_script_text.specs.declared.{line.Line.{Line}, who.Who.{Who}}
+use Rattle.fm_script_lines.specs.{Ordering.{AreStarts, lines_at, worker_lines}, Report.{is_first, is_worker, lines_by}}
 
 module _ (is : Who → Bool) (ls : List Line) (k : ℕ) (l : Line) (below : k < length ls) (there : l ≡ get_or ls k l) where
   by_more : lines_by is (take (k + 1) ls) ≡ lines_by is (take k ls) ++ lines_by is (l ∷ [])

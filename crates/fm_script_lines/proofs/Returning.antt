@@ -2,23 +2,11 @@
 use Rattle.std.proofs.Common.{◌≡◌, ℕ, ◌+◌, ◌==◌, Bool, true, false, if◌then◌else◌, List, [], ◌∷◌, ◌++◌, length, length-append, refl, ap, sym, ◌∙◌, subst, Err}
 use Rattle.fm_base.specs.declared.arena_id.ArenaId.{ArenaId}
 use Rattle.fm_rule_facts.specs.Views.{View}
-use Rattle.fm_script_text.specs.declared.command.Command.{Command}
-use Rattle.fm_script_text.specs.declared.command.Command.TheVariants.{Unhold, Back}
-use Rattle.fm_script_lines.specs.declared.outcome.LineOutcome.{LineOutcome}
-use Rattle.fm_script_lines.specs.declared.reply.Reply.{Reply}
-use Rattle.fm_script_lines.specs.declared.standing.Standing.{Standing}
-use Rattle.fm_script_lines.specs.declared.table.Table.{Table}
-use Rattle.fm_script_lines.specs.Calls.{CallDoes}
-use Rattle.fm_script_lines.specs.Learnt.{AfterLine, CallRan, KeepsTable, Leaves, MadeNoCall, stands_by}
-use Rattle.fm_script_lines.specs.Lines.{LineRan}
-use Rattle.fm_script_lines.specs.Outcomes.{outcome}
-use Rattle.fm_script_lines.specs.Pages.{PagesToldBy}
-use Rattle.fm_script_lines.specs.Slots.{SlotsTold}
-use Rattle.fm_script_lines.specs.Standings.{standing_at}
-use Rattle.fm_script_lines.specs.Tokens.{Backs}
-use Rattle.fm_script_lines.proofs.Backing.{backs_more}
-use Rattle.fm_script_lines.proofs.Going.{went_made}
-use Rattle.fm_script_lines.proofs.Naming.{standing-push}
+use Rattle.fm_script_text.specs.declared.command.Command.{Command, TheVariants.{Unhold, Back}}
+use Rattle.fm_script_lines.specs.declared.{outcome.LineOutcome.{LineOutcome}, reply.Reply.{Reply}, standing.Standing.{Standing}, table.Table.{Table}}
+use Rattle.fm_script_lines.specs.{Calls.{CallDoes}, Learnt.{AfterLine, CallRan, KeepsTable, Leaves, MadeNoCall, stands_by}, Lines.{LineRan}, Outcomes.{outcome}}
+use Rattle.fm_script_lines.{specs.{Pages.{PagesToldBy}, Slots.{SlotsTold}, Standings.{standing_at}, Tokens.{Backs}}, proofs.Backing.{backs_more}}
+use Rattle.fm_script_lines.proofs.{Going.{went_made}, Naming.{standing-push}}
 
 -- the line gives back no hold and no handle
 abbrev pub keeps_tokens : Command → Bool

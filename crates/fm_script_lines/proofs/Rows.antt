@@ -1,34 +1,17 @@
 -- Lines in a row.
-use Rattle.std.specs.Prelude.{Vec, vec_capacity}
-use Rattle.std.specs.declared.alloc.Global.{Global}
+use Rattle.std.specs.{Prelude.{Vec, vec_capacity}, declared.alloc.Global.{Global}}
 use Rattle.std.proofs.Common.{◌≡◌, ℕ, ◌+◌, List, [], ◌∷◌, ◌++◌, length, length-append, refl, ap, sym, ◌∙◌, subst, arith, append_assoc, None, Option, Result, Ok, Err}
 use Rattle.std.proofs.lemmas.List.{length-map, map-append, append-nil}
-use Rattle.fm_base.specs.declared.arena_id.ArenaId.{ArenaId}
-use Rattle.fm_base.specs.declared.caller.Caller.{Caller}
-use Rattle.fm_base.specs.Calls.{Entry}
-use Rattle.fm_base.specs.Histories.{made_by}
+use Rattle.fm_base.specs.{declared.{arena_id.ArenaId.{ArenaId}, caller.Caller.{Caller}}, Calls.{Entry}, Histories.{made_by}}
 use Rattle.fm_rule_facts.specs.Views.{View, Begins}
 use Rattle.fm_script_text.specs.declared.line.Line.{Line}
-use Rattle.fm_script_lines.specs.declared.numbers.Numbers.{Numbers}
-use Rattle.fm_script_lines.specs.declared.reply.Reply.{Reply}
-use Rattle.fm_script_lines.specs.declared.standing.Standing.{Standing}
-use Rattle.fm_script_lines.specs.declared.table.Table.{Table}
-use Rattle.fm_script_lines.specs.Calls.{CallDoes}
-use Rattle.fm_script_lines.specs.Learnt.{AfterLine, AfterLines, KeepsTable, MadeNoCall}
-use Rattle.fm_script_lines.specs.Lines.{LineRan}
-use Rattle.fm_script_lines.specs.Numbers.{number_at}
-use Rattle.fm_script_lines.specs.Outcomes.{outcome}
-use Rattle.fm_script_lines.specs.Pages.{AllocatesRightly, FindsFew, LendsRightly}
-use Rattle.fm_script_lines.specs.Playing.{LinesRan}
-use Rattle.fm_script_lines.specs.Report.{Done, AreRun, names_after, names_behind, runs}
-use Rattle.fm_script_lines.specs.Runs.{Went, WentOn}
-use Rattle.fm_script_lines.specs.Standings.{Names, stands_of, standing_at, standing_of}
-use Rattle.fm_script_lines.specs.Tokens.{Backs}
-use Rattle.fm_script_lines.proofs.Allocating.{allocates_rightly}
-use Rattle.fm_script_lines.proofs.Going.{lasts_then, went_none, went_then}
-use Rattle.fm_script_lines.proofs.Lending.{behind_as, behind_more, few_later, finds_few, lends_later, lends_rightly}
-use Rattle.fm_script_lines.proofs.Returning.{keeps_then}
-use Rattle.fm_script_lines.proofs.Opening.{found_at, found_later, found_more, line_silent, opens_more, opens_rightly}
+use Rattle.fm_script_lines.specs.declared.{numbers.Numbers.{Numbers}, reply.Reply.{Reply}, standing.Standing.{Standing}, table.Table.{Table}}
+use Rattle.fm_script_lines.specs.{Calls.{CallDoes}, Learnt.{AfterLine, AfterLines, KeepsTable, MadeNoCall}, Lines.{LineRan}, Numbers.{number_at}}
+use Rattle.fm_script_lines.specs.{Outcomes.{outcome}, Pages.{AllocatesRightly, FindsFew, LendsRightly}, Playing.{LinesRan}}
+use Rattle.fm_script_lines.specs.{Report.{Done, AreRun, names_after, names_behind, runs}, Runs.{Went, WentOn}}
+use Rattle.fm_script_lines.{specs.{Standings.{Names, stands_of, standing_at, standing_of}, Tokens.{Backs}}, proofs.Allocating.{allocates_rightly}}
+use Rattle.fm_script_lines.proofs.{Going.{lasts_then, went_none, went_then}, Lending.{behind_as, behind_more, few_later, finds_few, lends_later, lends_rightly}}
+use Rattle.fm_script_lines.proofs.{Returning.{keeps_then}, Opening.{found_at, found_later, found_more, line_silent, opens_more, opens_rightly}}
 
 -- What one more line leaves of names.
 names_after-push : (number : List ℕ → Option ℕ) (k : ℕ) (ds : List Done) (d : Done) (names : Names)

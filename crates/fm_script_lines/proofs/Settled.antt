@@ -1,14 +1,10 @@
 -- A pass that has what it had went on as a memory does.
-use Rattle.std.proofs.Common.{List, [], ◌++◌, refl, ap, ◌∙◌, subst}
-use Rattle.std.proofs.lemmas.List.Elements.{filter-append}
-use Rattle.fm_base.specs.Calls.{Entry}
-use Rattle.fm_base.specs.Histories.{IsLegal, state_after, made_by}
-use Rattle.fm_base.proofs.Making.{IsLegal-split, state_after-append}
+use Rattle.std.proofs.{Common.{List, [], ◌++◌, refl, ap, ◌∙◌, subst}, lemmas.List.Elements.{filter-append}}
+use Rattle.fm_base.{specs.{Calls.{Entry}, Histories.{IsLegal, state_after, made_by}}, proofs.Making.{IsLegal-split, state_after-append}}
 use Rattle.fm_words.specs.declared.shape.Shape.{Shape}
 use Rattle.fm_rule_facts.specs.Views.{limit_of}
-use Rattle.fm_rule_calls.specs.Kept.{rest_of}
+use Rattle.fm_rule_calls.{specs.Kept.{rest_of}, proofs.Telling.{by_itself}}
 use Rattle.fm_script_lines.specs.Laws.{SettledIsMade}
-use Rattle.fm_rule_calls.proofs.Telling.{by_itself}
 
 pub settled : SettledIsMade
 settled p q own g hs ks sound =

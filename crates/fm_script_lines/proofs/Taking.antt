@@ -1,14 +1,7 @@
 -- What is found of a hold or a handle where the name is no line's own.
-use Rattle.std.proofs.Common.{◌≡◌, ℕ, length, List, refl, subst, sym, Option, None}
-use Rattle.std.specs.Prelude.{MatchOption}
-use Rattle.std.proofs.lemmas.Option.{MatchOption-at_none}
-use Rattle.fm_script_lines.specs.declared.standing.Standing.{Standing}
-use Rattle.fm_script_lines.specs.declared.table.Table.{Table}
-use Rattle.fm_script_lines.specs.Learnt.{TookFrom, stands_by}
-use Rattle.fm_script_lines.specs.Numbers.{number_at}
-use Rattle.fm_script_lines.specs.Standings.{handle_in, hold_in}
-use Rattle.fm_script_lines.specs.Tables.{IsOwn}
-use Rattle.fm_script_lines.proofs.Naming.{lent_none, not-own}
+use Rattle.std.{proofs.{Common.{◌≡◌, ℕ, length, List, refl, subst, sym, Option, None}, lemmas.Option.{MatchOption-at_none}}, specs.Prelude.{MatchOption}}
+use Rattle.fm_script_lines.specs.{declared.{standing.Standing.{Standing}, table.Table.{Table}}, Learnt.{TookFrom, stands_by}, Numbers.{number_at}}
+use Rattle.fm_script_lines.{specs.{Standings.{handle_in, hold_in}, Tables.{IsOwn}}, proofs.Naming.{lent_none, not-own}}
 
 -- the place of a name among the table's own, or that there is none
 abbrev IsPlace : Table → List ℕ → Option ℕ → Type 0

@@ -2,21 +2,11 @@
 use Rattle.std.specs.Prelude.{◌≡◌, ℕ, ◌+◌, ◌≤◌, ◌==◌, Bool, true, false, not, ◌&&◌, ◌||◌, length, List, [], ◌∷◌, ◌++◌, Option, Some, All, IfSome, bytes_eq, ⊤}
 use Rattle.std.specs.List.{AllByRecursion, list_any}
 use Rattle.fm_rule_facts.specs.Views.{View}
-use Rattle.fm_script_text.specs.declared.command.Command.{Command}
-use Rattle.fm_script_text.specs.declared.command.Command.TheVariants.{Unhold, Back}
-use Rattle.fm_script_text.specs.declared.line.Line.{Line}
+use Rattle.fm_script_text.specs.declared.{command.Command.{Command, TheVariants.{Unhold, Back}}, line.Line.{Line}, who.Who.{Who}}
+use Rattle.fm_script_text.specs.{Rules.{Made, made, is_owed, pass_of, plays}, Scripts.{AreAdmitted, IsSaid, IsSettled}}
 use Rattle.fm_script_text.specs.declared.thing.Role.TheVariants as role
-use Rattle.fm_script_text.specs.declared.who.Who.{Who}
-use Rattle.fm_script_text.specs.Rules.{Made, made, is_owed, pass_of, plays}
-use Rattle.fm_script_text.specs.Scripts.{AreAdmitted, IsSaid, IsSettled}
-use Rattle.fm_script_lines.specs.declared.numbers.Numbers.{Numbers}
-use Rattle.fm_script_lines.specs.declared.reply.Reply.{Reply}
-use Rattle.fm_script_lines.specs.declared.standing.Standing.{Standing}
-use Rattle.fm_script_lines.specs.Numbers.{number_at, number_from}
-use Rattle.fm_script_lines.specs.Ordering.{in_order}
-use Rattle.fm_script_lines.specs.Playing.{LinesRan}
-use Rattle.fm_script_lines.specs.Report.{is_first, is_last, is_worker, lines_by}
-use Rattle.fm_script_lines.specs.Standings.{IsSpent}
+use Rattle.fm_script_lines.specs.{declared.{numbers.Numbers.{Numbers}, reply.Reply.{Reply}, standing.Standing.{Standing}}, Numbers.{number_at, number_from}}
+use Rattle.fm_script_lines.specs.{Ordering.{in_order}, Playing.{LinesRan}, Report.{is_first, is_last, is_worker, lines_by}, Standings.{IsSpent}}
 
 -- a script's lines break no rule
 pub record KeepRules (ls : List Line) : Type 0 where

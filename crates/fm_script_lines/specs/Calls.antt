@@ -1,39 +1,22 @@
 -- What the line of each command does on what the names that it uses stand for: its reply, the caller's own entries, and
 -- what the name that it makes stands for.
 use Rattle.std.specs.Prelude.{◌≡◌, ℕ, ℤ, Bool, true, false, List, [], Option, Some, None, Result, Ok, Err}
-use Rattle.fm_base.specs.declared.caller.Caller.{Caller}
-use Rattle.fm_base.specs.declared.arena_id.ArenaId.{ArenaId}
-use Rattle.fm_base.specs.declared.kind.Kind.{Kind}
-use Rattle.fm_base.specs.declared.refusal.Refusal.{Refusal}
-use Rattle.fm_base.specs.Calls.{Entry}
-use Rattle.fm_base.specs.Does.{DoesOpen, DoesAllocate, DoesClose, DoesIsAlive, DoesHold, DoesUnhold, DoesAgain, DoesGiveBack}
-use Rattle.fm_base.specs.Outcomes.{MayCome}
+use Rattle.fm_base.specs.{declared.{caller.Caller.{Caller}, arena_id.ArenaId.{ArenaId}, kind.Kind.{Kind}, refusal.Refusal.{Refusal}}, Calls.{Entry}}
+use Rattle.fm_base.specs.{Does.{DoesOpen, DoesAllocate, DoesClose, DoesIsAlive, DoesHold, DoesUnhold, DoesAgain, DoesGiveBack}, Outcomes.{MayCome}}
 use Rattle.fm_base.specs.View.{but_loans}
 use Rattle.fm_arena.specs.Shares.{nature_of_shared}
 use Rattle.fm_gate.specs.Makers.{Made}
-use Rattle.fm_lanes.specs.declared.value.Value.{Value}
-use Rattle.fm_lanes.specs.declared.value_kind.ValueKind.{ValueKind}
-use Rattle.fm_lanes.specs.Value.{kind_of, number_of_value}
-use Rattle.fm_layout.specs.Made.{value_of, with_order}
-use Rattle.fm_layout.specs.Tree.{Tree}
+use Rattle.fm_lanes.specs.{declared.{value.Value.{Value}, value_kind.ValueKind.{ValueKind}}, Value.{kind_of, number_of_value}}
+use Rattle.fm_layout.specs.{Made.{value_of, with_order}, Tree.{Tree}}
 use Rattle.fm_path.specs.Resolution.{Resolution, IsResolved}
-use Rattle.fm_segment.specs.Access.{DoesGetAt, DoesSetAt, place_of, writable_place_of}
-use Rattle.fm_segment.specs.Comparisons.{DoesMismatch}
-use Rattle.fm_segment.specs.Copies.{DoesCopySegment}
-use Rattle.fm_segment.specs.Fills.{DoesFillSegment}
-use Rattle.fm_segment.specs.Region.{Region, region_of, read_only_of}
-use Rattle.fm_segment.specs.Slices.{slice_of}
-use Rattle.fm_handle.specs.Access.{DoesAdd, DoesExchange}
-use Rattle.fm_handle.specs.Place.{update_place_of, can_update}
-use Rattle.fm_script_text.specs.declared.cell.Cell.{Cell}
-use Rattle.fm_script_text.specs.declared.command.Command.{Command}
+use Rattle.fm_segment.specs.{Access.{DoesGetAt, DoesSetAt, place_of, writable_place_of}, Comparisons.{DoesMismatch}, Copies.{DoesCopySegment}}
+use Rattle.fm_segment.specs.{Fills.{DoesFillSegment}, Region.{Region, region_of, read_only_of}, Slices.{slice_of}}
+use Rattle.fm_handle.specs.{Access.{DoesAdd, DoesExchange}, Place.{update_place_of, can_update}}
+use Rattle.fm_script_text.specs.declared.{cell.Cell.{Cell}, command.Command.{Command}}
 use Rattle.fm_script_text.specs.declared.command.Command.TheVariants as command
-use Rattle.fm_script_lines.specs.declared.outcome.LineOutcome.{LineOutcome}
-use Rattle.fm_script_lines.specs.declared.reply.Reply.{Reply}
-use Rattle.fm_script_lines.specs.declared.reply.Reply.TheVariants.{Fine, Place, Number, Truth, Kept, Ended, Refused, Skipped}
-use Rattle.fm_script_lines.specs.declared.standing.Standing.{Standing}
-use Rattle.fm_script_lines.specs.declared.standing.Standing.TheVariants.{Segment}
-use Rattle.fm_script_lines.specs.Outcomes.{outcome, plain}
+use Rattle.fm_script_lines.specs.declared.{outcome.LineOutcome.{LineOutcome}, reply.Reply.{Reply}}
+use Rattle.fm_script_lines.specs.declared.{reply.Reply.TheVariants.{Fine, Place, Number, Truth, Kept, Ended, Refused, Skipped}, standing.Standing.{Standing}}
+use Rattle.fm_script_lines.specs.{declared.standing.Standing.TheVariants.{Segment}, Outcomes.{outcome, plain}}
 use Rattle.fm_script_lines.specs.Standings.{arena_of, segment_of, hold_of, handle_of, opened_as, held_as, handled_as}
 
 -- what a line comes to, and the entries of its caller

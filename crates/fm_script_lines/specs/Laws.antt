@@ -1,7 +1,6 @@
 -- What lines come to where all that they took was given back.
 use Rattle.std.specs.Prelude.{◌≡◌, List}
-use Rattle.fm_base.specs.Calls.{Entry}
-use Rattle.fm_base.specs.View.{IsSound, Makes}
+use Rattle.fm_base.specs.{Calls.{Entry}, View.{IsSound, Makes}}
 use Rattle.fm_rule_facts.specs.Views.{View}
 use Rattle.fm_rule_calls.specs.Told.{view_of_pass}
 use Rattle.fm_script_lines.specs.Runs.{Went}

@@ -3,27 +3,12 @@ use Rattle.std.specs.Prelude.{◌≡◌, ℕ, ◌+◌, ◌<◌, ◌≤◌, true,
 use Rattle.std.specs.declared.alloc.Global.{Global}
 use Rattle.fm_base.specs.declared.arena_id.ArenaId.{ArenaId}
 use Rattle.fm_rule_facts.specs.Views.{View}
-use Rattle.fm_script_text.specs.declared.command.Command.{Command}
-use Rattle.fm_script_text.specs.declared.line.Line.{Line}
-use Rattle.fm_script_text.specs.declared.who.Who.{Who}
-use Rattle.fm_script_text.specs.Syntax.{IsSpelled}
-use Rattle.fm_script_lines.specs.declared.bound.Bound.{Bound}
-use Rattle.fm_script_lines.specs.declared.numbers.Numbers.{Numbers}
-use Rattle.fm_script_lines.specs.declared.outcome.LineOutcome.{LineOutcome}
-use Rattle.fm_script_lines.specs.declared.reply.Reply.{Reply}
-use Rattle.fm_script_lines.specs.declared.standing.Standing.{Standing}
-use Rattle.fm_script_lines.specs.declared.table.Table.{Table}
-use Rattle.fm_script_lines.specs.Calls.{CallDoes, takes_memory}
-use Rattle.fm_script_lines.specs.Lines.{LineRan, behind, handle_back, hold_back}
-use Rattle.fm_script_lines.specs.Numbers.{number_at}
-use Rattle.fm_script_lines.specs.Ordering.{is_by}
-use Rattle.fm_script_lines.specs.Pages.{PagesToldBy}
-use Rattle.fm_script_lines.specs.Playing.{LinesRan, StopsAt}
-use Rattle.fm_script_lines.specs.Report.{lines_by}
-use Rattle.fm_script_lines.specs.Runs.{RanLineWith, WentOn}
-use Rattle.fm_script_lines.specs.Slots.{SlotsTold, opens}
-use Rattle.fm_script_lines.specs.Standings.{IsBacked, IsSpent, lent, standing_as, standing_at, standing_of}
-use Rattle.fm_script_lines.specs.Tables.{Took}
+use Rattle.fm_script_text.specs.{declared.{command.Command.{Command}, line.Line.{Line}, who.Who.{Who}}, Syntax.{IsSpelled}}
+use Rattle.fm_script_lines.specs.declared.{bound.Bound.{Bound}, numbers.Numbers.{Numbers}, outcome.LineOutcome.{LineOutcome}, reply.Reply.{Reply}}
+use Rattle.fm_script_lines.specs.{declared.{standing.Standing.{Standing}, table.Table.{Table}}, Calls.{CallDoes, takes_memory}}
+use Rattle.fm_script_lines.specs.{Lines.{LineRan, behind, handle_back, hold_back}, Numbers.{number_at}, Ordering.{is_by}, Pages.{PagesToldBy}}
+use Rattle.fm_script_lines.specs.{Playing.{LinesRan, StopsAt}, Report.{lines_by}, Runs.{RanLineWith, WentOn}, Slots.{SlotsTold, opens}}
+use Rattle.fm_script_lines.specs.{Standings.{IsBacked, IsSpent, lent, standing_as, standing_at, standing_of}, Tables.{Took}}
 use Rattle.fm_script_lines.specs.Tokens.{Backs, BacksWith, IsReady, without}
 
 -- what the names of a table's lines stand for

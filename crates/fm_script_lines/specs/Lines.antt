@@ -1,21 +1,12 @@
 -- What a pass's next line does, to the pass and to what names stand for.
 use Rattle.std.specs.Prelude.{◌≡◌, ℕ, ◌+◌, ◌==◌, Bool, true, false, if◌then◌else◌, length, None, Option, Some, List}
-use Rattle.fm_base.specs.declared.arena_id.ArenaId.{ArenaId}
-use Rattle.fm_base.specs.Calls.{Entry}
-use Rattle.fm_base.specs.Outcomes.{Lasts}
+use Rattle.fm_base.specs.{declared.arena_id.ArenaId.{ArenaId}, Calls.{Entry}, Outcomes.{Lasts}}
 use Rattle.fm_rule_facts.specs.Views.{View}
 use Rattle.fm_rule_calls.specs.Told.{view_of_pass}
 use Rattle.fm_script_text.specs.declared.command.Command.{Command}
 use Rattle.fm_script_text.specs.declared.command.Command.TheVariants as command
-use Rattle.fm_script_lines.specs.declared.numbers.Numbers.{Numbers}
-use Rattle.fm_script_lines.specs.declared.reply.Reply.{Reply}
-use Rattle.fm_script_lines.specs.declared.standing.Standing.{Standing}
-use Rattle.fm_script_lines.specs.Calls.{CallDoes}
-use Rattle.fm_script_lines.specs.Numbers.{number_at}
-use Rattle.fm_script_lines.specs.Outcomes.{outcome}
-use Rattle.fm_script_lines.specs.Pages.{PagesToldBy}
-use Rattle.fm_script_lines.specs.Runs.{Went}
-use Rattle.fm_script_lines.specs.Slots.{SlotsTold, opens}
+use Rattle.fm_script_lines.specs.{declared.{numbers.Numbers.{Numbers}, reply.Reply.{Reply}, standing.Standing.{Standing}}, Calls.{CallDoes}}
+use Rattle.fm_script_lines.specs.{Numbers.{number_at}, Outcomes.{outcome}, Pages.{PagesToldBy}, Runs.{Went}, Slots.{SlotsTold, opens}}
 use Rattle.fm_script_lines.specs.Standings.{handed_back, handle_of, hold_of, standing_at, standing_of, unheld}
 
 abbrev pub is_number : Option ℕ → ℕ → Bool

@@ -1,8 +1,6 @@
 -- The numbers of the lines that make names.
-use Rattle.std.specs.Prelude.{◌≡◌, ℕ, ◌+◌, Bool, false, if◌then◌else◌, List, [], ◌∷◌, Option, Some, None, bytes_eq}
-use Rattle.std.specs.BTreeMap.{get_by_text}
-use Rattle.fm_script_text.specs.declared.line.Line.{Line}
-use Rattle.fm_script_text.specs.Rules.{Made, made}
+use Rattle.std.specs.{Prelude.{◌≡◌, ℕ, ◌+◌, Bool, false, if◌then◌else◌, List, [], ◌∷◌, Option, Some, None, bytes_eq}, BTreeMap.{get_by_text}}
+use Rattle.fm_script_text.specs.{declared.line.Line.{Line}, Rules.{Made, made}}
 use Rattle.fm_script_lines.specs.declared.numbers.Numbers.{Numbers}
 
 abbrev pub is_made : List ℕ → Option Made → Bool

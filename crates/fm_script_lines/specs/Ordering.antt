@@ -1,9 +1,6 @@
 -- The order in which a script's lines are printed: the first lines, each worker's, the last ones.
-use Rattle.std.specs.Prelude.{◌≡◌, ℕ, ◌+◌, ◌<◌, zero, suc, Bool, List, [], ◌++◌, get_or, length, map}
-use Rattle.std.specs.Borrow.{Bor}
-use Rattle.fm_script_text.specs.declared.line.Line.{Line}
-use Rattle.fm_script_text.specs.declared.who.Who.{Who}
-use Rattle.fm_script_text.specs.declared.who.Who.TheVariants.{First, Worker, Last}
+use Rattle.std.specs.{Prelude.{◌≡◌, ℕ, ◌+◌, ◌<◌, zero, suc, Bool, List, [], ◌++◌, get_or, length, map}, Borrow.{Bor}}
+use Rattle.fm_script_text.specs.declared.{line.Line.{Line}, who.Who.{Who, TheVariants.{First, Worker, Last}}}
 use Rattle.fm_script_lines.specs.Report.{is_first, is_last, is_worker, lines_by}
 
 -- lines that are kept by reference

@@ -1,8 +1,5 @@
 -- What lines come to.
-use Rattle.fm_script_lines.specs.declared.outcome.LineOutcome.{LineOutcome}
-use Rattle.fm_script_lines.specs.declared.reply.Reply.{Reply}
-use Rattle.fm_script_lines.specs.declared.standing.Standing.{Standing}
-use Rattle.fm_script_lines.specs.declared.standing.Standing.TheVariants.{Nothing}
+use Rattle.fm_script_lines.specs.declared.{outcome.LineOutcome.{LineOutcome}, reply.Reply.{Reply}, standing.Standing.{Standing, TheVariants.{Nothing}}}
 
 abbrev pub outcome : Reply → Standing → LineOutcome
 outcome reply made = record { reply = reply; made = made }

@@ -1,29 +1,16 @@
 -- Where a line that allocates is refused for want of pages, and which parts of its arena it gives pages.
-use Rattle.std.specs.Prelude.{◌≡◌, ◌≢◌, ◌<◌, ◌≤◌, ◌+◌, ◌*◌, ◌/◌, ℕ, true, List, [], ◌∷◌, ◌++◌, Result, Ok, Err, IfSome, ⊤}
-use Rattle.std.specs.List.{AllByRecursion}
-use Rattle.fm_words.specs.declared.shape.Shape.{Shape}
-use Rattle.fm_words.specs.Places.{page_groups}
-use Rattle.fm_base.specs.declared.arena_id.ArenaId.{ArenaId}
-use Rattle.fm_base.specs.declared.caller.Caller.{Caller}
-use Rattle.fm_base.specs.declared.refusal.Refusal.{Refusal}
-use Rattle.fm_base.specs.declared.refusal.Refusal.TheVariants.{PoolFull}
+use Rattle.std.specs.{Prelude.{◌≡◌, ◌≢◌, ◌<◌, ◌≤◌, ◌+◌, ◌*◌, ◌/◌, ℕ, true, List, [], ◌∷◌, ◌++◌, Result, Ok, Err, IfSome, ⊤}, List.{AllByRecursion}}
+use Rattle.fm_words.specs.{declared.shape.Shape.{Shape}, Places.{page_groups}}
+use Rattle.fm_base.specs.declared.{arena_id.ArenaId.{ArenaId}, caller.Caller.{Caller}, refusal.Refusal.{Refusal, TheVariants.{PoolFull}}}
+use Rattle.fm_base.specs.{Calls.{Entry, Enter, Fine, Lend, entry_of}, Histories.{made_by, state_after}, Machine.{rounded_up}, View.{is_loan}}
 use Rattle.fm_base.specs.Arenas as machine
-use Rattle.fm_base.specs.Calls.{Entry, Enter, Fine, Lend, entry_of}
-use Rattle.fm_base.specs.Histories.{made_by, state_after}
-use Rattle.fm_base.specs.Machine.{rounded_up}
-use Rattle.fm_base.specs.View.{is_loan}
 use Rattle.fm_base_lists.specs.Among.{IsAmong}
-use Rattle.fm_rule_facts.specs.Loans.{loans_of}
-use Rattle.fm_rule_facts.specs.Scarcity.{lacking, parts_before}
-use Rattle.fm_rule_facts.specs.Views.{View, Begins, limit_of, unlent, unlent_in}
+use Rattle.fm_rule_facts.specs.{Loans.{loans_of}, Scarcity.{lacking, parts_before}, Views.{View, Begins, limit_of, unlent, unlent_in}}
 use Rattle.fm_arena.specs.Allocating.{AllocatesExactly}
 use Rattle.fm_script_text.specs.declared.command.Command.{Command}
 use Rattle.fm_script_text.specs.declared.command.Command.TheVariants as command
-use Rattle.fm_script_lines.specs.declared.reply.Reply.{Reply}
-use Rattle.fm_script_lines.specs.declared.reply.Reply.TheVariants.{Place, Refused}
-use Rattle.fm_script_lines.specs.declared.standing.Standing.{Standing}
-use Rattle.fm_script_lines.specs.Played.{Done, IsCut, Played, runs}
-use Rattle.fm_script_lines.specs.Standings.{arena_of}
+use Rattle.fm_script_lines.specs.declared.{reply.Reply.{Reply, TheVariants.{Place, Refused}}, standing.Standing.{Standing}}
+use Rattle.fm_script_lines.specs.{Played.{Done, IsCut, Played, runs}, Standings.{arena_of}}
 
 -- of a line that allocates so many bytes, of this alignment
 abbrev pub IfAllocates : Command → (ℕ → ℕ → Type 0) → Type 0

@@ -1,14 +1,9 @@
 -- Lines that ran, those of one caller and those of a script, and their entries in a history.
-use Rattle.std.specs.Prelude.{◌≡◌, ℕ, ◌<◌, List, ◌∷◌, ◌++◌, map}
-use Rattle.std.specs.List.{AllByRecursion, flat_map}
-use Rattle.fm_base.specs.declared.caller.Caller.{Caller}
-use Rattle.fm_base.specs.Arenas.{only_caller}
-use Rattle.fm_base.specs.Calls.{Entry}
-use Rattle.fm_base.specs.Histories.{made_by}
+use Rattle.std.specs.{Prelude.{◌≡◌, ℕ, ◌<◌, List, ◌∷◌, ◌++◌, map}, List.{AllByRecursion, flat_map}}
+use Rattle.fm_base.specs.{declared.caller.Caller.{Caller}, Arenas.{only_caller}, Calls.{Entry}, Histories.{made_by}}
 use Rattle.fm_base_lists.specs.Among.{IsAmong}
 use Rattle.fm_script_text.specs.declared.line.Line.{Line}
-use Rattle.fm_script_lines.specs.declared.reply.Reply.{Reply}
-use Rattle.fm_script_lines.specs.declared.standing.Standing.{Standing}
+use Rattle.fm_script_lines.specs.declared.{reply.Reply.{Reply}, standing.Standing.{Standing}}
 
 -- a line that ran: its reply, its caller's entries, and what its name stands for
 pub record Done : Type 0 where

@@ -1,21 +1,13 @@
 -- What a pass's lines in a row do.
 use Rattle.std.specs.Prelude.{◌≡◌, ℕ, ◌+◌, true, length, map, None, List, [], ◌∷◌, ◌++◌}
-use Rattle.fm_base.specs.Histories.{made_by}
-use Rattle.fm_base.specs.Outcomes.{Lasts}
+use Rattle.fm_base.specs.{Histories.{made_by}, Outcomes.{Lasts}}
 use Rattle.fm_rule_facts.specs.Views.{View}
 use Rattle.fm_rule_calls.specs.Told.{view_of_pass}
 use Rattle.fm_arena.specs.Opening.{HasNoSlot}
 use Rattle.fm_script_text.specs.declared.line.Line.{Line}
-use Rattle.fm_script_lines.specs.declared.numbers.Numbers.{Numbers}
-use Rattle.fm_script_lines.specs.declared.reply.Reply.{Reply}
-use Rattle.fm_script_lines.specs.declared.standing.Standing.{Standing}
-use Rattle.fm_script_lines.specs.Calls.{takes_memory}
-use Rattle.fm_script_lines.specs.Numbers.{number_at}
-use Rattle.fm_script_lines.specs.Pages.{AllocatesRightly, EachBehind, FindsFew, LendsRightly}
-use Rattle.fm_script_lines.specs.Report.{Done, AreRun, lines_of, names_after, runs}
-use Rattle.fm_script_lines.specs.Runs.{Went}
-use Rattle.fm_script_lines.specs.Slots.{AreFound, OpenRightly}
-use Rattle.fm_script_lines.specs.Standings.{standing_at}
+use Rattle.fm_script_lines.specs.{declared.{numbers.Numbers.{Numbers}, reply.Reply.{Reply}, standing.Standing.{Standing}}, Calls.{takes_memory}}
+use Rattle.fm_script_lines.specs.{Numbers.{number_at}, Pages.{AllocatesRightly, EachBehind, FindsFew, LendsRightly}}
+use Rattle.fm_script_lines.specs.{Report.{Done, AreRun, lines_of, names_after, runs}, Runs.{Went}, Slots.{AreFound, OpenRightly}, Standings.{standing_at}}
 
 -- The next of the pass's own lines ran, and were replied to so
 pub record LinesRan (old new : View) (names : Numbers) (base : List Standing) (start : ℕ) (own next : List Standing) (lines : List Line)

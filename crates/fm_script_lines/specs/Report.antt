@@ -1,21 +1,11 @@
 -- What a script's lines did in one history, line by line.
 use Rattle.std.specs.Prelude.{◌≡◌, ℕ, ◌+◌, ◌==◌, nat_lt, Bool, true, false, if◌then◌else◌, List, [], ◌∷◌, length, filter, Option, ⊤}
-use Rattle.fm_base.specs.declared.caller.Caller.{Caller}
-use Rattle.fm_base.specs.Calls.{Entry}
+use Rattle.fm_base.specs.{declared.caller.Caller.{Caller}, Calls.{Entry}}
 use Rattle.fm_base_lists.specs.Among.{AreApart}
-use Rattle.fm_script_text.specs.declared.line.Line.{Line}
-use Rattle.fm_script_text.specs.declared.who.Who.{Who}
-use Rattle.fm_script_text.specs.declared.who.Who.TheVariants.{First, Worker, Last}
-use Rattle.fm_script_text.specs.Scripts.{ScriptOf}
-use Rattle.fm_script_lines.specs.declared.standing.Standing.TheVariants.{Nothing}
-use Rattle.fm_script_lines.specs.Calls.{CallDoes}
-use Rattle.fm_script_lines.specs.Lines.{behind}
-use Rattle.fm_script_lines.specs.Numbers.{number_from}
-use Rattle.fm_script_lines.specs.Outcomes.{outcome}
+use Rattle.fm_script_text.specs.{declared.{line.Line.{Line}, who.Who.{Who, TheVariants.{First, Worker, Last}}}, Scripts.{ScriptOf}}
+use Rattle.fm_script_lines.specs.{declared.standing.Standing.TheVariants.{Nothing}, Calls.{CallDoes}, Lines.{behind}, Numbers.{number_from}, Outcomes.{outcome}}
+use Rattle.fm_script_lines.specs.{Pages.{HavePages}, Slots.{HaveSlots}, Standings.{Names, stands_of, lent}}
 pub use Rattle.fm_script_lines.specs.Played.{Done, Player, Played, IsCut, AreDrawn, runs, lines_of, worked, all_done, callers}
-use Rattle.fm_script_lines.specs.Pages.{HavePages}
-use Rattle.fm_script_lines.specs.Slots.{HaveSlots}
-use Rattle.fm_script_lines.specs.Standings.{Names, stands_of, lent}
 
 -- ---- names
 

@@ -1,17 +1,9 @@
 -- How a pass goes on by the call of a line.
 use Rattle.std.specs.Prelude.{◌≡◌, ◌++◌, true, List, [], All, None}
-use Rattle.fm_base.specs.declared.arena_id.ArenaId.{ArenaId}
-use Rattle.fm_base.specs.Calls.{Entry}
-use Rattle.fm_base.specs.Finds.{FindsMore}
-use Rattle.fm_base.specs.Histories.{made_by}
-use Rattle.fm_base.specs.Outcomes.{Lasts}
-use Rattle.fm_base.specs.View.{inside_after}
+use Rattle.fm_base.specs.{declared.arena_id.ArenaId.{ArenaId}, Calls.{Entry}, Finds.{FindsMore}, Histories.{made_by}, Outcomes.{Lasts}, View.{inside_after}}
 use Rattle.fm_rule_facts.specs.Views.{View}
-use Rattle.fm_rule_calls.specs.Kept.{rest_of}
-use Rattle.fm_rule_calls.specs.Told.{view_of_pass}
-use Rattle.fm_script_lines.specs.declared.outcome.LineOutcome.{LineOutcome}
-use Rattle.fm_script_lines.specs.Standings.{IsBacked}
-use Rattle.fm_script_lines.specs.Tokens.{holds_with, handles_with}
+use Rattle.fm_rule_calls.specs.{Kept.{rest_of}, Told.{view_of_pass}}
+use Rattle.fm_script_lines.specs.{declared.outcome.LineOutcome.{LineOutcome}, Standings.{IsBacked}, Tokens.{holds_with, handles_with}}
 
 -- The pass goes on by entries, of which these are its own. All that it has it had before, but for its holds and handles
 pub record Went (old new : View) (own : List Entry) : Type 0 where

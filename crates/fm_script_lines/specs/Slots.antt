@@ -1,22 +1,14 @@
 -- Where a line that opens an arena is refused for want of a slot.
 use Rattle.std.specs.Prelude.{◌≡◌, ◌≢◌, ℕ, ◌<◌, ◌≤◌, Bool, true, false, List, [], ◌∷◌, ◌++◌, length, Some, ⊤}
 use Rattle.fm_words.specs.declared.shape.Shape.{Shape}
-use Rattle.fm_base.specs.declared.arena_id.ArenaId.{ArenaId}
-use Rattle.fm_base.specs.declared.caller.Caller.{Caller}
-use Rattle.fm_base.specs.declared.refusal.Refusal.TheVariants.{NoSlot}
-use Rattle.fm_base.specs.Calls.{Entry}
-use Rattle.fm_base.specs.Finds.{Find, is_slot}
-use Rattle.fm_base.specs.Histories.{made_by, state_after}
-use Rattle.fm_base.specs.View.{but_loans}
+use Rattle.fm_base.specs.{declared.{arena_id.ArenaId.{ArenaId}, caller.Caller.{Caller}, refusal.Refusal.TheVariants.{NoSlot}}, Calls.{Entry}}
+use Rattle.fm_base.specs.{Finds.{Find, is_slot}, Histories.{made_by, state_after}, View.{but_loans}}
 use Rattle.fm_rule_facts.specs.Views.{View, Begins, In, IsBusyIn, limit_of}
 use Rattle.fm_gate.specs.Learnt.{AllBusy}
 use Rattle.fm_arena.specs.Opening.{FoundNoneLeft, HasNoSlot}
 use Rattle.fm_script_text.specs.declared.command.Command.{Command}
 use Rattle.fm_script_text.specs.declared.command.Command.TheVariants as command
-use Rattle.fm_script_lines.specs.declared.reply.Reply.{Reply}
-use Rattle.fm_script_lines.specs.declared.reply.Reply.TheVariants.{Fine, Refused}
-use Rattle.fm_script_lines.specs.Played.{Done, IsCut, Played, Player, worked}
-use Rattle.fm_script_lines.specs.Standings.{arena_of}
+use Rattle.fm_script_lines.specs.{declared.reply.Reply.{Reply, TheVariants.{Fine, Refused}}, Played.{Done, IsCut, Played, Player, worked}, Standings.{arena_of}}
 
 -- the line opens an arena
 abbrev pub opens : Command → Bool

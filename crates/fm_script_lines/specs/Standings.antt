@@ -1,8 +1,6 @@
 -- What the names of a running script stand for, and what a pass must have for it.
-use Rattle.std.specs.Prelude.{◌≡◌, ◌≢◌, ℕ, ◌-◌, nat_lt, if◌then◌else◌, get_or, length, List, Option, Some, None, IfSome, ⊤}
-use Rattle.std.specs.Option.{option_map}
-use Rattle.fm_base.specs.declared.arena_id.ArenaId.{ArenaId}
-use Rattle.fm_base.specs.declared.kind.Kind.{Kind}
+use Rattle.std.specs.{Prelude.{◌≡◌, ◌≢◌, ℕ, ◌-◌, nat_lt, if◌then◌else◌, get_or, length, List, Option, Some, None, IfSome, ⊤}, Option.{option_map}}
+use Rattle.fm_base.specs.declared.{arena_id.ArenaId.{ArenaId}, kind.Kind.{Kind}}
 use Rattle.fm_base.specs.declared.kind.Kind.TheVariants as kind
 use Rattle.fm_segment.specs.Access as segment
 use Rattle.fm_segment.specs.Region.{Region}
@@ -11,10 +9,8 @@ use Rattle.fm_gate.specs.declared.held.Hold as held
 use Rattle.fm_gate.specs.Makers.{Made, made_by_pass}
 use Rattle.fm_rule_facts.specs.Views.{View, IsKnown}
 use Rattle.fm_rule_calls.specs.Told.{view_of_pass}
-use Rattle.fm_script_lines.specs.declared.bound.Bound.{Bound}
+use Rattle.fm_script_lines.specs.declared.{bound.Bound.{Bound}, standing.Standing.{Standing, TheVariants.{Nothing, Arena, Automatic, Segment, Hold, Handle}}}
 use Rattle.fm_script_lines.specs.declared.bound.Bound.TheVariants as other
-use Rattle.fm_script_lines.specs.declared.standing.Standing.{Standing}
-use Rattle.fm_script_lines.specs.declared.standing.Standing.TheVariants.{Nothing, Arena, Automatic, Segment, Hold, Handle}
 
 -- ---- what a line may use it as
 

@@ -1,8 +1,6 @@
 -- What is kept of names: looking one up, and taking its hold or handle out.
 use Rattle.std.specs.Prelude.{◌≡◌, ℕ, ◌+◌, ◌<◌, ◌≤◌, set, get_or, length, List, Option, Some, None}
-use Rattle.fm_script_lines.specs.declared.standing.Standing.{Standing}
-use Rattle.fm_script_lines.specs.declared.standing.Standing.TheVariants.{Nothing}
-use Rattle.fm_script_lines.specs.Standings.{arena_of, segment_of, standing_of}
+use Rattle.fm_script_lines.specs.{declared.standing.Standing.{Standing, TheVariants.{Nothing}}, Standings.{arena_of, segment_of, standing_of}}
 
 -- the first may be used as an arena and as a segment as the second may
 pub record SeenAs (s t : Standing) : Type 0 where

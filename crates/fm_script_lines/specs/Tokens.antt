@@ -1,13 +1,9 @@
 -- The holds and handles that a pass has for the names of its lines.
 use Rattle.std.specs.Prelude.{◌≡◌, List, [], ◌∷◌, ◌++◌, Option, Some, None, All, IfSome, ⊤}
 use Rattle.fm_base.specs.declared.arena_id.ArenaId.{ArenaId}
-use Rattle.fm_rule_facts.specs.Holds.{how_many, released}
-use Rattle.fm_rule_facts.specs.Views.{View}
-use Rattle.fm_arena.specs.Handles.{HasHandle}
-use Rattle.fm_arena.specs.Learnt.{CanUnhold}
-use Rattle.fm_script_lines.specs.declared.standing.Standing.{Standing}
-use Rattle.fm_script_lines.specs.declared.standing.Standing.TheVariants.{Automatic, Hold, Handle}
-use Rattle.fm_script_lines.specs.Standings.{IsBacked, hold_of, handle_of, lent}
+use Rattle.fm_rule_facts.specs.{Holds.{how_many, released}, Views.{View}}
+use Rattle.fm_arena.specs.{Handles.{HasHandle}, Learnt.{CanUnhold}}
+use Rattle.fm_script_lines.specs.{declared.standing.Standing.{Standing, TheVariants.{Automatic, Hold, Handle}}, Standings.{IsBacked, hold_of, handle_of, lent}}
 
 abbrev pub onto : Option ArenaId → List ArenaId → List ArenaId
 onto None ids = ids

@@ -1,10 +1,8 @@
 -- Texts and replies, joined one by one.
-use Rattle.std.proofs.Common.{◌≡◌, ℕ, ◌+◌, ◌<◌, List, [], ◌∷◌, ◌++◌, length, get_or, map, take, sym, ap, ◌∙◌}
-use Rattle.std.proofs.lemmas.List.{map-append, take_more}
+use Rattle.std.proofs.{Common.{◌≡◌, ℕ, ◌+◌, ◌<◌, List, [], ◌∷◌, ◌++◌, length, get_or, map, take, sym, ap, ◌∙◌}, lemmas.List.{map-append, take_more}}
 use Rattle.fm_script_lines.specs.declared.reply.Reply.{Reply}
 use Rattle.fm_script_text.specs.declared.line.Line.{Line}
-use Rattle.fm_script_report.specs.declared.line.ReportLine.{ReportLine}
-use Rattle.fm_script_report.specs.Told.{AreTold, told}
+use Rattle.fm_script_report.specs.{declared.line.ReportLine.{ReportLine}, Told.{AreTold, told}}
 
 -- One more line is told.
 pub told_more : (ts : List ReportLine) (k : ℕ) (ls : List Line) (rs : List Reply) (l : Line) (r : Reply) → AreTold (take k ls) (take k rs) ts

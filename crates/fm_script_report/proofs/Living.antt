@@ -1,22 +1,11 @@
 -- A finished pool has no more living arenas than slots.
 use Rattle.std.proofs.Common.{◌≡◌, ◌≢◌, ℕ, zero, suc, ◌+◌, ◌<◌, ◌≤◌, ◌==◌, Bool, true, false, List, [], ◌∷◌, length, map, refl, sym, ◌∙◌, subst, inl, inr, arith}
-use Rattle.std.specs.Prelude.{slice_index}
-use Rattle.std.specs.List.{AllByRecursion}
-use Rattle.std.proofs.lemmas.Bool.{eqb-true, eqb-false}
-use Rattle.std.proofs.lemmas.List.{length-map}
-use Rattle.fm_base.specs.declared.arena_id.ArenaId.{ArenaId}
-use Rattle.fm_base.specs.Arenas.{State, has_arena}
-use Rattle.fm_base.proofs.Growing.{there_by_life}
-use Rattle.fm_base_lists.specs.Among.{AreApart, IsAmong}
-use Rattle.fm_base_lists.proofs.Among.{among_back}
-use Rattle.fm_base_lists.proofs.Each.{all_among}
-use Rattle.fm_rule_facts.specs.Rest.{IsOnly, ShowsSlot}
-use Rattle.fm_rule_facts.specs.Views.{Fits}
-use Rattle.fm_words.specs.declared.session.Session.{Session}
-use Rattle.fm_words.specs.Places.{at, session}
-use Rattle.fm_words.specs.Sessions.{session_of}
-use Rattle.fm_rule.specs.Finishing.{FinishedView, IsFinished}
-use Rattle.fm_rule.specs.GivenBytes.{state_of}
+use Rattle.std.{specs.{Prelude.{slice_index}, List.{AllByRecursion}}, proofs.lemmas.{Bool.{eqb-true, eqb-false}, List.{length-map}}}
+use Rattle.fm_base.{specs.{declared.arena_id.ArenaId.{ArenaId}, Arenas.{State, has_arena}}, proofs.Growing.{there_by_life}}
+use Rattle.fm_base_lists.{specs.Among.{AreApart, IsAmong}, proofs.{Among.{among_back}, Each.{all_among}}}
+use Rattle.fm_rule_facts.specs.{Rest.{IsOnly, ShowsSlot}, Views.{Fits}}
+use Rattle.fm_words.specs.{declared.session.Session.{Session}, Places.{at, session}, Sessions.{session_of}}
+use Rattle.fm_rule.specs.{Finishing.{FinishedView, IsFinished}, GivenBytes.{state_of}}
 use Rattle.fm_script_report.specs.Living.{Lives, LivingAlwaysFit}
 
 -- ---- numbers

@@ -1,18 +1,14 @@
 -- What a line opened is what its name stands for at the end.
 use Rattle.std.proofs.Common.{◌≡◌, ◌≢◌, ℕ, ◌+◌, ◌-◌, ◌<◌, ◌≤◌, ◌==◌, nat_lt, Bool, true, false, if◌then◌else◌, List, [], ◌∷◌, ◌++◌, length, length-append, Option, None, get_or, map, refl, sym, ap, ◌∙◌, arith, suc, zero}
-use Rattle.std.proofs.lemmas.Bool.{lt-ltb, ltb-true, ltb-false, eqb-true, eqb-false}
-use Rattle.std.proofs.lemmas.Bool.Decides.{nat_tests}
+use Rattle.std.proofs.lemmas.Bool.{lt-ltb, ltb-true, ltb-false, eqb-true, eqb-false, Decides.{nat_tests}}
 use Rattle.std.proofs.lemmas.List.{get_or_append_left, get_or-append-add, get_or_default, get_or-map, get_or_past, map-append, length-map, same_lists}
 use Rattle.fm_base.specs.declared.arena_id.ArenaId.{ArenaId}
 use Rattle.fm_script_text.specs.declared.command.Command.{Command}
 use Rattle.fm_script_text.specs.declared.command.Command.TheVariants.{Open, Alloc, Slice, Readonly, Get, Set, Add, Cas, Fill, Copy, Mismatch, Alive, Hold, Unhold, Again, Back, Close}
-use Rattle.fm_script_lines.specs.declared.standing.Standing.{Standing}
-use Rattle.fm_script_lines.specs.declared.standing.Standing.TheVariants as standing
-use Rattle.fm_script_lines.specs.Lines.{behind, is_number}
+use Rattle.fm_script_lines.specs.{declared.standing.Standing.{Standing}, Lines.{behind, is_number}}
 use Rattle.fm_script_lines.specs.Report.{Done, Played, Player, all_done, gathered_names, names_after, names_behind, none_stands, number_of, worked}
-use Rattle.fm_script_lines.specs.Standings.{Names, arena_of, unheld, handed_back}
-use Rattle.fm_script_lines.proofs.Lent.{seen_alike, stays_lent}
-use Rattle.fm_script_lines.proofs.Naming.{lent_seen}
+use Rattle.fm_script_lines.{specs.Standings.{Names, arena_of, unheld, handed_back}, proofs.{Lent.{seen_alike, stays_lent}, Naming.{lent_seen}}}
+use Rattle.fm_script_lines.specs.declared.standing.Standing.TheVariants as standing
 use Rattle.fm_script_report.specs.Told.{opened_of}
 
 -- ---- a name that stays the name of an arena

@@ -1,16 +1,10 @@
 -- What a report tells, of lines that were played.
 use Rattle.std.proofs.Common.{◌≡◌, ℕ, List, [], ◌∷◌, map, Option, refl, sym, ap, ◌∙◌, subst}
-use Rattle.fm_base.specs.declared.arena_id.ArenaId.{ArenaId}
-use Rattle.fm_base.specs.declared.caller.Caller.{Caller}
+use Rattle.fm_base.specs.declared.{arena_id.ArenaId.{ArenaId}, caller.Caller.{Caller}}
 use Rattle.fm_rule.specs.Finishing.{FinishedView}
-use Rattle.fm_script_lines.specs.declared.reply.Reply.{Reply}
-use Rattle.fm_script_lines.specs.Numbers.{number_from}
-use Rattle.fm_script_lines.specs.Report.{Done, IsReport, Played, all_done, callers, lines_of, number_of}
-use Rattle.fm_script_text.specs.declared.line.Line.{Line}
-use Rattle.fm_script_text.specs.Scripts.{ScriptOf}
-use Rattle.fm_script_report.specs.declared.line.ReportLine.{ReportLine}
-use Rattle.fm_script_report.specs.Alive.{alive_of, arena_by}
-use Rattle.fm_script_report.specs.Told.{AreTold, IsReportOf, opened_of, report_of, told_of}
+use Rattle.fm_script_lines.specs.{declared.reply.Reply.{Reply}, Numbers.{number_from}, Report.{Done, IsReport, Played, all_done, callers, lines_of, number_of}}
+use Rattle.fm_script_text.specs.{declared.line.Line.{Line}, Scripts.{ScriptOf}}
+use Rattle.fm_script_report.specs.{declared.line.ReportLine.{ReportLine}, Alive.{alive_of, arena_by}, Told.{AreTold, IsReportOf, opened_of, report_of, told_of}}
 use Rattle.fm_script_report.specs.Views.{ReportView}
 
 -- Lines that are told with their replies are told one by one.

@@ -1,13 +1,8 @@
 -- The arenas that are alive at the end of a script's run, and the bytes that they have given.
-use Rattle.std.specs.Prelude.{◌≡◌, ℕ, true, List, [], ◌∷◌, Option, Some, None, IfSome, get_or}
-use Rattle.std.specs.List.{AllByRecursion, flat_map}
-use Rattle.fm_base.specs.declared.arena_id.ArenaId.{ArenaId}
-use Rattle.fm_base.specs.Arenas.{Life, Alive, Closing, Ended, arena_of, has_arena}
-use Rattle.fm_rule.specs.Finishing.{FinishedView}
-use Rattle.fm_rule.specs.GivenBytes.{state_of, given_bytes}
-use Rattle.fm_script_text.specs.declared.command.Command.{Command}
-use Rattle.fm_script_text.specs.declared.command.Command.TheVariants.{Open}
-use Rattle.fm_script_text.specs.declared.line.Line.{Line}
+use Rattle.std.specs.{Prelude.{◌≡◌, ℕ, true, List, [], ◌∷◌, Option, Some, None, IfSome, get_or}, List.{AllByRecursion, flat_map}}
+use Rattle.fm_base.specs.{declared.arena_id.ArenaId.{ArenaId}, Arenas.{Life, Alive, Closing, Ended, arena_of, has_arena}}
+use Rattle.fm_rule.specs.{Finishing.{FinishedView}, GivenBytes.{state_of, given_bytes}}
+use Rattle.fm_script_text.specs.declared.{command.Command.{Command, TheVariants.{Open}}, line.Line.{Line}}
 use Rattle.fm_script_report.specs.declared.arena.AliveArena.{AliveArena}
 
 -- what the line of this number opened, where these are what each line opened

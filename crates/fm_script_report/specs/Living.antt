@@ -1,12 +1,9 @@
 -- How many arenas of a finished pool have not ended.
-use Rattle.std.specs.Prelude.{◌≡◌, ◌≢◌, ◌≤◌, List, length}
-use Rattle.std.specs.List.{AllByRecursion}
-use Rattle.fm_base.specs.declared.arena_id.ArenaId.{ArenaId}
-use Rattle.fm_base.specs.Arenas.{Ended, arena_of}
+use Rattle.std.specs.{Prelude.{◌≡◌, ◌≢◌, ◌≤◌, List, length}, List.{AllByRecursion}}
+use Rattle.fm_base.specs.{declared.arena_id.ArenaId.{ArenaId}, Arenas.{Ended, arena_of}}
 use Rattle.fm_base_lists.specs.Among.{AreApart}
 use Rattle.fm_rule_facts.specs.Views.{Fits}
-use Rattle.fm_rule.specs.Finishing.{FinishedView, IsFinished}
-use Rattle.fm_rule.specs.GivenBytes.{state_of}
+use Rattle.fm_rule.specs.{Finishing.{FinishedView, IsFinished}, GivenBytes.{state_of}}
 
 -- the history leaves the arena alive or closing
 abbrev pub Lives : FinishedView → ArenaId → Type 0

@@ -1,14 +1,9 @@
 -- The text of a report.
-use Rattle.std.specs.Prelude.{ℕ, Bool, true, false, List, [], ◌∷◌, ◌++◌, codes}
-use Rattle.std.specs.Fmt.{decimal, signed_decimal}
-use Rattle.std.specs.List.{flat_map}
+use Rattle.std.specs.{Prelude.{ℕ, Bool, true, false, List, [], ◌∷◌, ◌++◌, codes}, Fmt.{decimal, signed_decimal}, List.{flat_map}}
 use Rattle.hex.specs.Hex.{encode_lower}
 use Rattle.fm_base.specs.Printed.{refusal_text}
-use Rattle.fm_script_lines.specs.declared.reply.Reply.{Reply}
-use Rattle.fm_script_lines.specs.declared.reply.Reply.TheVariants.{Fine, Place, Number, Truth, Kept, Ended, Refused, Skipped}
-use Rattle.fm_script_report.specs.declared.arena.AliveArena.{AliveArena}
-use Rattle.fm_script_report.specs.declared.line.ReportLine.{ReportLine}
-use Rattle.fm_script_report.specs.Views.{ReportView}
+use Rattle.fm_script_lines.specs.declared.reply.Reply.{Reply, TheVariants.{Fine, Place, Number, Truth, Kept, Ended, Refused, Skipped}}
+use Rattle.fm_script_report.specs.{declared.{arena.AliveArena.{AliveArena}, line.ReportLine.{ReportLine}}, Views.{ReportView}}
 
 abbrev pub truth_text : Bool → List ℕ
 truth_text true = codes "true"

@@ -1,18 +1,11 @@
 -- What a report tells of a script's run.
 use Rattle.std.specs.Prelude.{◌≡◌, ℕ, List, [], map, Option}
-use Rattle.fm_base.specs.declared.arena_id.ArenaId.{ArenaId}
-use Rattle.fm_base.specs.declared.caller.Caller.{Caller}
-use Rattle.fm_base.specs.Histories.{IsTidy}
+use Rattle.fm_base.specs.{declared.{arena_id.ArenaId.{ArenaId}, caller.Caller.{Caller}}, Histories.{IsTidy}}
 use Rattle.fm_rule_facts.specs.Views.{limit_of}
 use Rattle.fm_rule.specs.Finishing.{FinishedView, IsFinished}
-use Rattle.fm_script_lines.specs.declared.reply.Reply.{Reply}
-use Rattle.fm_script_lines.specs.Report.{Done, IsReport, Played, all_done, callers, number_of}
-use Rattle.fm_script_lines.specs.Standings.{arena_of}
-use Rattle.fm_script_text.specs.declared.line.Line.{Line}
-use Rattle.fm_script_text.specs.Scripts.{ScriptOf}
-use Rattle.fm_script_report.specs.declared.line.ReportLine.{ReportLine}
-use Rattle.fm_script_report.specs.Alive.{alive_of, arena_by}
-use Rattle.fm_script_report.specs.Views.{ReportView}
+use Rattle.fm_script_lines.specs.{declared.reply.Reply.{Reply}, Report.{Done, IsReport, Played, all_done, callers, number_of}, Standings.{arena_of}}
+use Rattle.fm_script_text.specs.{declared.line.Line.{Line}, Scripts.{ScriptOf}}
+use Rattle.fm_script_report.specs.{declared.line.ReportLine.{ReportLine}, Alive.{alive_of, arena_by}, Views.{ReportView}}
 
 abbrev pub told : List ℕ → Reply → ReportLine
 told text reply = record { text = text; reply = reply }

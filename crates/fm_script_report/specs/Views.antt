@@ -2,8 +2,7 @@
 use Rattle.std.specs.Prelude.{List}
 use Rattle.fm_base.specs.declared.caller.Caller.{Caller}
 use Rattle.fm_rule.specs.Finishing.{FinishedView}
-use Rattle.fm_script_report.specs.declared.arena.AliveArena.{AliveArena}
-use Rattle.fm_script_report.specs.declared.line.ReportLine.{ReportLine}
+use Rattle.fm_script_report.specs.declared.{arena.AliveArena.{AliveArena}, line.ReportLine.{ReportLine}}
 
 pub record ReportView : Type 0 where
   -- the pool that the script ran on: its shape, its whole history, and its words

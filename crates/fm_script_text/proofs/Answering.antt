@@ -1,20 +1,12 @@
 -- What was read of a text is its answer.
-use Rattle.std.proofs.Common.{◌≡◌, refl, sym, ◌∙◌, ℕ, ◌≤◌, Bool, true, false, Option, Some, None, List, [], ◌∷◌}
-use Rattle.std.specs.List.{AllByRecursion}
+use Rattle.std.{proofs.Common.{◌≡◌, refl, sym, ◌∙◌, ℕ, ◌≤◌, Bool, true, false, Option, Some, None, List, [], ◌∷◌}, specs.List.{AllByRecursion}}
 use Rattle.std.specs.Option.{option_map}
-use Rattle.fm_base.specs.declared.refusal.Refusal.{Refusal}
-use Rattle.fm_base.specs.declared.refusal.Refusal.TheVariants.{BadScript, Memory}
+use Rattle.fm_base.specs.declared.refusal.Refusal.{Refusal, TheVariants.{BadScript, Memory}}
 use Rattle.fm_words.specs.declared.shape.Shape.{Shape}
-use Rattle.fm_script_text.proofs.Arguments.{map_some}
-use Rattle.fm_script_text.proofs.Pools.{with_passes}
-use Rattle.fm_script_text.proofs.Taking.{found_first, found_none}
-use Rattle.fm_script_text.specs.declared.line.Line.{Line}
-use Rattle.fm_script_text.specs.declared.names.Names.{Names}
-use Rattle.fm_script_text.specs.Knowing.{Knows, is_spent_at}
-use Rattle.fm_script_text.specs.Rules.{Made, made, is_settled, is_given_back}
+use Rattle.fm_script_text.{proofs.{Arguments.{map_some}, Pools.{with_passes}, Taking.{found_first, found_none}}, specs.declared.line.Line.{Line}}
+use Rattle.fm_script_text.specs.{declared.names.Names.{Names}, Knowing.{Knows, is_spent_at}, Rules.{Made, made, is_settled, is_given_back}}
 use Rattle.fm_script_text.specs.Scripts.{IsNoScript, IsScript, IsSettled, KeptAt, Source, bad_line, lines_of, numbered, script_of, sources_of}
-use Rattle.fm_script_text.specs.Syntax.{SaysPool}
-use Rattle.fm_script_text.specs.Taking.{AreNoLines, IsAll, first_kept}
+use Rattle.fm_script_text.specs.{Syntax.{SaysPool}, Taking.{AreNoLines, IsAll, first_kept}}
 
 -- the sources of a text are those from its first line on
 pub from_the_first : (bytes rest : List ℕ) (number : ℕ) → rest ≡ bytes → number ≡ 1 → sources_of bytes ≡ numbered number (lines_of rest)

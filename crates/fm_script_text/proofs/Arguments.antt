@@ -1,18 +1,10 @@
 -- The arguments of commands: each row of words is read as what it spells, and spells what it is read as.
 use Rattle.std.proofs.Common.{◌≡◌, refl, ap, subst, ◌∙◌, ℕ, ◌<◌, ◌≤◌, ◌^◌, suc, true, false, not, ◌||◌, eqb, Option, Some, None, List, [], ◌∷◌, ◌++◌, arith, lit<}
-use Rattle.std.specs.Prelude.{ℤ, pos, negsuc, IsTrue}
-use Rattle.std.specs.Char.{digit_value}
-use Rattle.std.specs.Fmt.{decimal, signed_decimal}
-use Rattle.std.specs.Int.Signed.{mag}
-use Rattle.std.specs.List.{list_all}
-use Rattle.std.specs.Option.{option_zip, option_map, option_and_then}
-use Rattle.std.specs.Str.Parse.{AllDigits}
-use Rattle.std.proofs.lemmas.Bool.{and_parts, not-true, eqb-false}
-use Rattle.std.proofs.lemmas.Fmt.{decimal_is_IsNumeral}
-use Rattle.std.proofs.lemmas.Option.{same_Some, option_and_then_some}
+use Rattle.std.specs.{Prelude.{ℤ, pos, negsuc, IsTrue}, Char.{digit_value}, Fmt.{decimal, signed_decimal}, Int.Signed.{mag}, List.{list_all}}
+use Rattle.std.{specs.{Option.{option_zip, option_map, option_and_then}, Str.Parse.{AllDigits}}, proofs.lemmas.Bool.{and_parts, not-true, eqb-false}}
+use Rattle.std.proofs.lemmas.{Fmt.{decimal_is_IsNumeral}, Option.{same_Some, option_and_then_some}}
 use Rattle.fm_base.specs.declared.kind.Kind.{Kind}
-use Rattle.fm_lanes.specs.declared.order.Order.{Order}
-use Rattle.fm_lanes.specs.declared.value_kind.ValueKind.{ValueKind}
+use Rattle.fm_lanes.specs.declared.{order.Order.{Order}, value_kind.ValueKind.{ValueKind}}
 use Rattle.fm_layout.specs.Name.{IsName, IsNameEnd, is_letter, is_digit}
 use Rattle.fm_script_text.proofs.Cuts.{IsFree, cut_behind, cut_gives, row3, row4, row5, cut3_row, cut4_row, cut5_row, cut3_gives, cut4_gives, cut5_gives}
 use Rattle.fm_script_text.proofs.Spelling.{named_name, name_is, named_up_to, number_is, named_value, value_is, named_kind, kind_is, every_type, named_type, type_is}

@@ -1,22 +1,13 @@
 -- A line is read as what it says, and says what it is read as.
 use Rattle.std.proofs.Common.{◌≡◌, refl, sym, ap, subst, ◌∙◌, ℕ, true, false, Option, Some, None, List, [], ◌∷◌, not, eqb, if◌then◌else◌, arith, codes}
-use Rattle.std.specs.List.{list_all}
-use Rattle.std.specs.Option.{option_zip, option_map, option_and_then}
-use Rattle.std.specs.Str.{bytes_eq}
-use Rattle.std.proofs.lemmas.Bool.{cond_both, false_from_ne_true}
-use Rattle.std.proofs.lemmas.Option.{none-some, same_Some, option_and_then_some}
-use Rattle.std.proofs.lemmas.Slice.Eq.{bytes_eq-Decides}
+use Rattle.std.{specs.{List.{list_all}, Option.{option_zip, option_map, option_and_then}, Str.{bytes_eq}}, proofs.lemmas.Bool.{cond_both, false_from_ne_true}}
+use Rattle.std.proofs.lemmas.{Option.{none-some, same_Some, option_and_then_some}, Slice.Eq.{bytes_eq-Decides}}
 use Rattle.fm_script_text.proofs.Arguments.{free_tested, free_decimal, map_some, zip_parts, name_gives, opening_row, opening_gives, two_row, two_gives, filled_row, filled_gives, sized_row, sized_gives, got_row, got_gives, valued_row, valued_gives, swapped_row, swapped_gives}
-use Rattle.fm_script_text.proofs.Cuts.{IsFree, cut3_row, cut3_gives, row3}
-use Rattle.fm_script_text.proofs.Spelling.{named_name, named_who, who_is, small_value}
+use Rattle.fm_script_text.proofs.{Cuts.{IsFree, cut3_row, cut3_gives, row3}, Spelling.{named_name, named_who, who_is, small_value}}
 use Rattle.fm_script_text.specs.declared.command.Command.{Command}
 use Rattle.fm_script_text.specs.declared.command.Command.TheVariants.{Open, Alloc, Slice, Readonly, Get, Set, Add, Cas, Fill, Copy, Mismatch, Alive, Hold, Unhold, Again, Back, Close}
-use Rattle.fm_script_text.specs.declared.who.Who.{Who}
-use Rattle.fm_script_text.specs.declared.who.Who.TheVariants.{First, Worker, Last}
-use Rattle.fm_script_text.specs.declared.line.Line.{Line}
-use Rattle.fm_script_text.specs.Rules.{IsAdmitted}
-use Rattle.fm_script_text.specs.Reader.{who_named, cut3, command_named, line_named}
-use Rattle.fm_script_text.specs.Syntax.{Says, who_text, words_of, spaced, IsWho, IsSpelled}
+use Rattle.fm_script_text.specs.{declared.{who.Who.{Who, TheVariants.{First, Worker, Last}}, line.Line.{Line}}, Rules.{IsAdmitted}}
+use Rattle.fm_script_text.specs.{Reader.{who_named, cut3, command_named, line_named}, Syntax.{Says, who_text, words_of, spaced, IsWho, IsSpelled}}
 
 -- the verb and the arguments are the command's
 pub record Spells (verb args : List ℕ) (c : Command) : Type 0 where

@@ -1,10 +1,7 @@
 -- Where texts are cut at their first space.
 use Rattle.std.proofs.Common.{◌≡◌, ◌≢◌, refl, ap, subst, ◌∙◌, eqb, ℕ, ◌<◌, suc, Option, Some, None, List, [], ◌∷◌, ◌++◌, length, get_or, Bor, arith}
-use Rattle.std.specs.Prelude.{MatchOption}
-use Rattle.std.specs.List.{AllByRecursion}
-use Rattle.std.proofs.lemmas.Bool.{cond_both, eqb-true, ne_eqb}
-use Rattle.std.proofs.lemmas.Option.{same_Some, option_and_then_some}
-use Rattle.std.specs.Option.{option_and_then}
+use Rattle.std.{specs.{Prelude.{MatchOption}, List.{AllByRecursion}}, proofs.lemmas.Bool.{cond_both, eqb-true, ne_eqb}}
+use Rattle.std.{proofs.lemmas.Option.{same_Some, option_and_then_some}, specs.Option.{option_and_then}}
 use Rattle.fm_script_text.specs.Reader.{cut, onto, in_front2, in_front3, in_front4, cut3, cut4, cut5}
 
 -- no byte of it is this one

@@ -1,18 +1,12 @@
 -- The definitions at small scripts.
-use Rattle.std.proofs.Common.{◌≡◌, refl, true, false, Some, None, List, [], ◌∷◌, codes}
-use Rattle.std.specs.Prelude.{pos, negsuc}
-use Rattle.std.specs.Fmt.{digits}
+use Rattle.std.{proofs.Common.{◌≡◌, refl, true, false, Some, None, List, [], ◌∷◌, codes}, specs.{Prelude.{pos, negsuc}, Fmt.{digits}}}
 use Rattle.fm_base.specs.declared.kind.Kind.TheVariants.{Shared, Automatic}
-use Rattle.fm_lanes.specs.declared.order.Order.TheVariants.{Little, Big}
-use Rattle.fm_lanes.specs.declared.value_kind.ValueKind.TheVariants.{Int, Long}
-use Rattle.fm_script_text.specs.declared.command.Command.TheVariants.{Open, Alloc, Set, Cas}
-use Rattle.fm_script_text.specs.declared.line.Line.{Line}
+use Rattle.fm_lanes.specs.declared.{order.Order.TheVariants.{Little, Big}, value_kind.ValueKind.TheVariants.{Int, Long}}
+use Rattle.fm_script_text.specs.declared.{command.Command.TheVariants.{Open, Alloc, Set, Cas}, line.Line.{Line}, who.Who.TheVariants.{First, Worker, Last}}
+use Rattle.fm_script_text.specs.{Rules.{is_given_back, maker_of, may_use, passes_of, reached}, Scripts.{lines_of, source, sources_of}}
+use Rattle.fm_script_text.specs.Syntax.{line_text, pool_text}
 use Rattle.fm_script_text.specs.declared.thing.Role.TheVariants as role
 use Rattle.fm_script_text.specs.declared.thing.Thing.TheVariants as thing
-use Rattle.fm_script_text.specs.declared.who.Who.TheVariants.{First, Worker, Last}
-use Rattle.fm_script_text.specs.Rules.{is_given_back, maker_of, may_use, passes_of, reached}
-use Rattle.fm_script_text.specs.Scripts.{lines_of, source, sources_of}
-use Rattle.fm_script_text.specs.Syntax.{line_text, pool_text}
 
 -- an empty line is a line
 newlines : lines_of (codes "a\n\nbc") ≡ codes "a" ∷ [] ∷ codes "bc" ∷ []

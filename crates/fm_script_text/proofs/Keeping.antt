@@ -1,28 +1,12 @@
 -- What is kept of names is that of one line more.
 use Rattle.std.proofs.Common.{◌≡◌, refl, sym, ap, subst, ◌∙◌, ℕ, ◌+◌, ◌≤◌, max, Bool, true, false, not, ◌||◌, if◌then◌else◌, Option, Some, None, List, [], ◌∷◌, ◌++◌, arith, ⊎_elim}
-use Rattle.std.specs.Prelude.{is_some}
+use Rattle.std.specs.{Prelude.{is_some, String, string_bytes}, BTreeMap.{BTreeMap}, BTreeSet.{BTreeSet}, Cmp.Lexicographic.{slice_cmp}, Ordering.{nat_cmp}}
+use Rattle.std.{specs.{String.{string_cmp}, declared.alloc.Global.{Global}}, proofs.lemmas.Map.Text.{btree_map_updates_text, btree_set_updates_text}}
+use Rattle.std.{specs.Str.{bytes_eq}, proofs.lemmas.{Bool.{cases_Bool, leb-true}, List.Folds.{list_any-append}, Slice.Eq.{bytes_eq-Decides}}}
 use Rattle.std.specs.BTreeMap as tree
 use Rattle.std.specs.BTreeSet as sorted
-use Rattle.std.specs.BTreeMap.{BTreeMap}
-use Rattle.std.specs.BTreeSet.{BTreeSet}
-use Rattle.std.specs.Cmp.Lexicographic.{slice_cmp}
-use Rattle.std.specs.Ordering.{nat_cmp}
-use Rattle.std.specs.Prelude.{String, string_bytes}
-use Rattle.std.specs.String.{string_cmp}
-use Rattle.std.specs.declared.alloc.Global.{Global}
-use Rattle.std.proofs.lemmas.Map.Text.{btree_map_updates_text, btree_set_updates_text}
-use Rattle.fm_script_text.specs.declared.thing.Thing.{Thing}
-use Rattle.std.specs.Str.{bytes_eq}
-use Rattle.std.proofs.lemmas.Bool.{cases_Bool, leb-true}
-use Rattle.std.proofs.lemmas.List.Folds.{list_any-append}
-use Rattle.std.proofs.lemmas.Slice.Eq.{bytes_eq-Decides}
-use Rattle.fm_script_text.proofs.Taking.{passes_more}
-use Rattle.fm_script_text.specs.declared.command.Command.{Command}
-use Rattle.fm_script_text.specs.declared.line.Line.{Line}
-use Rattle.fm_script_text.specs.declared.maker.Maker.{Maker}
-use Rattle.fm_script_text.specs.declared.names.Names.{Names}
-use Rattle.fm_script_text.specs.declared.who.Who.{Who}
-use Rattle.fm_script_text.specs.Knowing.{Knows, maker_at, is_spent_at, newer, spent_more}
+use Rattle.fm_script_text.{specs.declared.{thing.Thing.{Thing}, command.Command.{Command}, line.Line.{Line}, maker.Maker.{Maker}}, proofs.Taking.{passes_more}}
+use Rattle.fm_script_text.specs.{declared.{names.Names.{Names}, who.Who.{Who}}, Knowing.{Knows, maker_at, is_spent_at, newer, spent_more}}
 use Rattle.fm_script_text.specs.Rules.{Made, as_thing, IsAdmitted, made, given_back, maker_in, or_else, maker_of, is_this, is_given_back, is_new, phase, reached, pass_of, passes_of}
 
 -- ---- makers

@@ -1,12 +1,7 @@
 -- A text is cut into lines at its newlines.
 use Rattle.std.proofs.Common.{◌≡◌, refl, sym, ◌∙◌, ℕ, ◌+◌, ◌-◌, ◌<◌, ◌≤◌, zero, suc, true, false, eqb, nat_lt, Some, None, List, [], ◌∷◌, length, get_or, take, drop, arith, length-drop, add-one}
-use Rattle.std.specs.Prelude.{position}
-use Rattle.std.specs.List.{position_or_len}
-use Rattle.std.proofs.lemmas.Bool.{cond-true, ltb-false, false_from_ne_true}
-use Rattle.std.proofs.lemmas.List.{take_all}
-use Rattle.std.proofs.lemmas.List.Quantifiers.{position-Some}
-use Rattle.std.proofs.lemmas.List.Sums.{fails_before_first}
-use Rattle.std.proofs.lemmas.Option.{none-some}
+use Rattle.std.{specs.{Prelude.{position}, List.{position_or_len}}, proofs.lemmas.{Bool.{cond-true, ltb-false, false_from_ne_true}, List.{take_all}}}
+use Rattle.std.proofs.lemmas.{List.{Quantifiers.{position-Some}, Sums.{fails_before_first}}, Option.{none-some}}
 use Rattle.fm_script_text.specs.Scripts.{lines_of}
 
 -- the first line ends at the first newline

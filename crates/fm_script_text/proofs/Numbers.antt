@@ -1,20 +1,11 @@
 -- Words that spell numbers.
 use Rattle.std.proofs.Common.{◌≡◌, refl, sym, ap, subst, ◌∙◌, ℕ, ◌<◌, ◌≤◌, ◌^◌, suc, true, false, if◌then◌else◌, nat_le, eqb, Option, Some, None, List, [], ◌∷◌, arith, w64}
-use Rattle.std.specs.Prelude.{ℤ, pos, negsuc, neg_ℤ}
-use Rattle.std.specs.Fmt.{decimal, signed_decimal}
-use Rattle.std.specs.Int.Signed.{mag}
-use Rattle.std.specs.Char.{digit_value}
-use Rattle.std.specs.Str.{bytes_eq}
-use Rattle.std.specs.Str.Parse.{IsNumeral, digits_value}
-use Rattle.std.proofs.lemmas.Bool.{cond_both, eqb-true, ltb-true}
-use Rattle.std.proofs.lemmas.Fmt.{decimal_is_IsNumeral}
-use Rattle.std.proofs.lemmas.Int.{ints, to_z-of_z}
+use Rattle.std.specs.{Prelude.{ℤ, pos, negsuc, neg_ℤ}, Fmt.{decimal, signed_decimal}, Int.Signed.{mag}, Char.{digit_value}, Str.{bytes_eq}}
+use Rattle.std.{specs.Str.Parse.{IsNumeral, digits_value}, proofs.lemmas.{Bool.{cond_both, eqb-true, ltb-true}, Fmt.{decimal_is_IsNumeral}}}
+use Rattle.std.proofs.lemmas.{Int.{ints, to_z-of_z}, Slice.Eq.{bytes_eq-Decides}}
 use mir.Val.{to_z, of_z}
-use Rattle.std.proofs.lemmas.Slice.Eq.{bytes_eq-Decides}
-use Rattle.fm_lanes.specs.declared.value_kind.ValueKind.{ValueKind}
-use Rattle.fm_lanes.specs.declared.value_kind.ValueKind.TheVariants.{Byte, Boolean, Char, Short, Int, Long}
-use Rattle.fm_script_text.specs.Syntax.{above, below}
-use Rattle.fm_script_text.specs.Reader.{number_named, literal_named, number_value, is_of_kind}
+use Rattle.fm_lanes.specs.declared.value_kind.ValueKind.{ValueKind, TheVariants.{Byte, Boolean, Char, Short, Int, Long}}
+use Rattle.fm_script_text.specs.{Syntax.{above, below}, Reader.{number_named, literal_named, number_value, is_of_kind}}
 
 -- ---- without a sign
 

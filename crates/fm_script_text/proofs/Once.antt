@@ -1,16 +1,9 @@
 -- A text has one answer.
-use Rattle.std.proofs.Common.{◌≡◌, refl, sym, ap, subst, ◌∙◌, ℕ, Option, Some, List, [], ◌∷◌, ◌++◌, map, append_assoc}
-use Rattle.std.specs.List.{AllByRecursion}
-use Rattle.std.proofs.lemmas.List.{append-nil}
-use Rattle.std.proofs.lemmas.Option.{same_Some}
+use Rattle.std.{proofs.Common.{◌≡◌, refl, sym, ap, subst, ◌∙◌, ℕ, Option, Some, List, [], ◌∷◌, ◌++◌, map, append_assoc}, specs.List.{AllByRecursion}}
+use Rattle.std.proofs.lemmas.{List.{append-nil}, Option.{same_Some}}
 use Rattle.fm_words.specs.declared.shape.Shape.{Shape}
-use Rattle.fm_script_text.proofs.Commands.{says_named}
-use Rattle.fm_script_text.proofs.Pools.{shape_row, with_one}
-use Rattle.fm_script_text.specs.declared.command.Command.{Command}
-use Rattle.fm_script_text.specs.declared.line.Line.{Line}
-use Rattle.fm_script_text.specs.declared.who.Who.{Who}
-use Rattle.fm_script_text.specs.Reader.{line_named, shape_named}
-use Rattle.fm_script_text.specs.Rules.{IsAdmitted, passes_of}
+use Rattle.fm_script_text.{proofs.{Commands.{says_named}, Pools.{shape_row, with_one}}, specs.declared.{command.Command.{Command}, line.Line.{Line}}}
+use Rattle.fm_script_text.specs.{declared.who.Who.{Who}, Reader.{line_named, shape_named}, Rules.{IsAdmitted, passes_of}}
 use Rattle.fm_script_text.specs.Scripts.{Source, source, source_of, ScriptOf, script_of, sources_of, AreAdmitted, AreLines, BreaksAt, IsSaid, IsSettled, IsScript, KeptAt, IsRefused, no_pool, bad_pool, bad_line, not_settled}
 use Rattle.fm_script_text.specs.Syntax.{Says, SaysPool}
 

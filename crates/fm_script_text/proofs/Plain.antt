@@ -1,25 +1,16 @@
 -- The lines of scripts are text.
-use Rattle.std.proofs.Common.{◌≡◌, refl, sym, subst, ℕ, ◌<◌, ◌≤◌, ◌^◌, true, ◌||◌, nat_lt, List, [], ◌∷◌, arith, codes}
-use Rattle.std.specs.Prelude.{ℤ, IsTrue}
-use Rattle.std.specs.Fmt.{decimal, signed_decimal}
-use Rattle.std.specs.List.{AllByRecursion, list_all}
-use Rattle.std.specs.Str.{IsAscii, IsUtf8}
-use Rattle.std.proofs.lemmas.Bool.{and_parts, ltb-true}
-use Rattle.std.proofs.lemmas.Bool.Decides.{nat_tests}
-use Rattle.std.proofs.lemmas.Fmt.{IsAscii-decimal, IsAscii-signed}
-use Rattle.std.proofs.lemmas.Str.{IsUtf8-nil, IsUtf8-append, IsUtf8-from_ascii}
+use Rattle.std.{proofs.Common.{◌≡◌, refl, sym, subst, ℕ, ◌<◌, ◌≤◌, ◌^◌, true, ◌||◌, nat_lt, List, [], ◌∷◌, arith, codes}, specs.Prelude.{ℤ, IsTrue}}
+use Rattle.std.{specs.{Fmt.{decimal, signed_decimal}, List.{AllByRecursion, list_all}, Str.{IsAscii, IsUtf8}}, proofs.lemmas.Bool.{and_parts, ltb-true}}
+use Rattle.std.proofs.lemmas.{Bool.Decides.{nat_tests}, Fmt.{IsAscii-decimal, IsAscii-signed}, Str.{IsUtf8-nil, IsUtf8-append, IsUtf8-from_ascii}}
 use Rattle.std.proofs.lemmas.Str.Ascii.{IsAscii-nil, IsAscii-cons}
 use Rattle.fm_base.specs.declared.kind.Kind.{Kind}
 use Rattle.fm_base.specs.declared.kind.Kind.TheVariants as kind
-use Rattle.fm_lanes.specs.declared.order.Order.{Order}
-use Rattle.fm_lanes.specs.declared.value_kind.ValueKind.{ValueKind}
+use Rattle.fm_lanes.specs.declared.{order.Order.{Order}, value_kind.ValueKind.{ValueKind}}
 use Rattle.fm_layout.specs.Name.{IsName, IsNameEnd, is_letter, is_digit}
 use Rattle.fm_words.specs.declared.shape.Shape.{Shape}
-use Rattle.fm_script_text.proofs.Spelling.{every_type, small_value}
-use Rattle.fm_script_text.specs.declared.command.Command.{Command}
+use Rattle.fm_script_text.{proofs.Spelling.{every_type, small_value}, specs.declared.command.Command.{Command}}
 use Rattle.fm_script_text.specs.declared.command.Command.TheVariants.{Open, Alloc, Slice, Readonly, Get, Set, Add, Cas, Fill, Copy, Mismatch, Alive, Hold, Unhold, Again, Back, Close}
-use Rattle.fm_script_text.specs.declared.who.Who.{Who}
-use Rattle.fm_script_text.specs.declared.who.Who.TheVariants.{First, Worker, Last}
+use Rattle.fm_script_text.specs.declared.who.Who.{Who, TheVariants.{First, Worker, Last}}
 use Rattle.fm_script_text.specs.Syntax.{Says, SaysPool, who_text, words_of, spaced, arena_kind_text, type_text, IsWho, IsSpelled, IsOfKind, most}
 
 -- bytes that were tested are ASCII

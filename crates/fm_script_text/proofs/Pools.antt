@@ -1,18 +1,11 @@
 -- The pool's line is read as the shape that it says, and says what it is read as.
 use Rattle.std.proofs.Common.{◌≡◌, refl, sym, ap, subst, ◌∙◌, ℕ, ◌*◌, ◌<◌, ◌≤◌, if◌then◌else◌, Option, Some, None, List, ◌∷◌, ◌++◌, arith, lit<, codes}
-use Rattle.std.specs.Fmt.{decimal}
-use Rattle.std.specs.Option.{option_zip, option_and_then}
-use Rattle.std.specs.Str.{bytes_eq}
-use Rattle.std.proofs.lemmas.Bool.{cond_both}
-use Rattle.std.proofs.lemmas.Option.{option_and_then_some, none-some, same_Some}
-use Rattle.std.proofs.lemmas.Slice.Eq.{bytes_eq-Decides}
-use Rattle.fm_words.specs.declared.shape.Shape.{Shape}
-use Rattle.fm_words.specs.Shapes.{IsValid}
-use Rattle.fm_script_text.proofs.Arguments.{free_tested, free_decimal, map_some, zip_parts}
-use Rattle.fm_script_text.proofs.Cuts.{cut_behind, cut_gives, row5, cut5_row, cut5_gives}
+use Rattle.std.{specs.{Fmt.{decimal}, Option.{option_zip, option_and_then}, Str.{bytes_eq}}, proofs.lemmas.Bool.{cond_both}}
+use Rattle.std.proofs.lemmas.{Option.{option_and_then_some, none-some, same_Some}, Slice.Eq.{bytes_eq-Decides}}
+use Rattle.fm_words.specs.{declared.shape.Shape.{Shape}, Shapes.{IsValid}}
+use Rattle.fm_script_text.proofs.{Arguments.{free_tested, free_decimal, map_some, zip_parts}, Cuts.{cut_behind, cut_gives, row5, cut5_row, cut5_gives}}
 use Rattle.fm_script_text.proofs.Spelling.{named_up_to, number_is}
-use Rattle.fm_script_text.specs.Reader.{number_named, cut, cut5, most_of_shape, shape_from, numbers_named, shape_named}
-use Rattle.fm_script_text.specs.Syntax.{SaysPool, pool_text}
+use Rattle.fm_script_text.specs.{Reader.{number_named, cut, cut5, most_of_shape, shape_from, numbers_named, shape_named}, Syntax.{SaysPool, pool_text}}
 
 -- a shape with one pass
 abbrev pub with_one : Shape → Shape

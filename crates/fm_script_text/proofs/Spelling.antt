@@ -1,27 +1,15 @@
 -- Each word is read as what it spells, and spells what it is read as.
 use Rattle.std.proofs.Common.{◌≡◌, refl, sym, ap, subst, ◌∙◌, ℕ, ◌<◌, ◌≤◌, ◌^◌, true, false, ◌||◌, if◌then◌else◌, nat_eq, Option, Some, None, List, [], ◌∷◌, find, arith, lit<, codes}
-use Rattle.std.specs.Prelude.{ℤ, pos, negsuc, IsSome, IfSome, ◌↔◌}
-use Rattle.std.specs.Fmt.{decimal, signed_decimal}
-use Rattle.std.specs.Int.Signed.{mag}
-use Rattle.std.specs.List.{AllByRecursion, list_all}
-use Rattle.std.specs.Char.{digit_value}
-use Rattle.std.specs.Str.{bytes_eq}
-use Rattle.std.specs.Str.Parse.{IsNumeral}
-use Rattle.std.proofs.lemmas.Bool.{cond_both, and_parts, and_from, leb-true, le-leb, ltb-true, lt-ltb, ne_eqb, false_from_ne_true}
-use Rattle.std.proofs.lemmas.Bool.Decides.{nat_tests}
-use Rattle.std.proofs.lemmas.Fmt.{decimal_is_IsNumeral}
-use Rattle.std.proofs.lemmas.Option.{cond_some, same_Some}
-use Rattle.std.proofs.lemmas.Slice.Eq.{bytes_eq-Decides}
+use Rattle.std.specs.{Prelude.{ℤ, pos, negsuc, IsSome, IfSome, ◌↔◌}, Fmt.{decimal, signed_decimal}, Int.Signed.{mag}, List.{AllByRecursion, list_all}}
+use Rattle.std.specs.{Char.{digit_value}, Str.{bytes_eq, Parse.{IsNumeral}}}
+use Rattle.std.proofs.lemmas.Bool.{cond_both, and_parts, and_from, leb-true, le-leb, ltb-true, lt-ltb, ne_eqb, false_from_ne_true, Decides.{nat_tests}}
+use Rattle.std.proofs.lemmas.{Fmt.{decimal_is_IsNumeral}, Option.{cond_some, same_Some}, Slice.Eq.{bytes_eq-Decides}}
 use Rattle.fm_base.specs.declared.kind.Kind.{Kind}
 use Rattle.fm_base.specs.declared.kind.Kind.TheVariants as kind
-use Rattle.fm_lanes.specs.declared.order.Order.{Order}
-use Rattle.fm_lanes.specs.declared.order.Order.TheVariants.{Little, Big}
-use Rattle.fm_lanes.specs.declared.value_kind.ValueKind.{ValueKind}
+use Rattle.fm_lanes.specs.declared.{order.Order.{Order, TheVariants.{Little, Big}}, value_kind.ValueKind.{ValueKind}}
 use Rattle.fm_lanes.specs.declared.value_kind.ValueKind.TheVariants.{Byte, Boolean, Char, Short, Int, Long}
 use Rattle.fm_layout.specs.Name.{IsName, IsNameEnd, is_letter, is_digit}
-use Rattle.fm_script_text.proofs.Numbers.{named_number, named_literal, kind_is_small}
-use Rattle.fm_script_text.specs.declared.who.Who.{Who}
-use Rattle.fm_script_text.specs.declared.who.Who.TheVariants.{First, Worker, Last}
+use Rattle.fm_script_text.{proofs.Numbers.{named_number, named_literal, kind_is_small}, specs.declared.who.Who.{Who, TheVariants.{First, Worker, Last}}}
 use Rattle.fm_script_text.specs.Reader.{is_name, name_named, number_named, literal_named, is_of_kind, arena_kind_named, type_named, types, who_named, worker}
 use Rattle.fm_script_text.specs.Syntax.{who_text, arena_kind_text, type_text, IsWho, IsOfKind, most, most_workers}
 

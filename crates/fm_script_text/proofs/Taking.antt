@@ -1,18 +1,9 @@
 -- Lines are taken one after the other.
 use Rattle.std.proofs.Common.{◌≡◌, ℕ, refl, sym, ap, subst, ◌∙◌, ◌+◌, max, Bool, true, false, not, Some, None, List, [], ◌∷◌, ◌++◌, map, arith, append_assoc}
-use Rattle.std.specs.Prelude.{find}
-use Rattle.std.specs.List.{AllByRecursion}
-use Rattle.std.proofs.lemmas.Bool.{cond_both, not-true, not-false}
-use Rattle.std.proofs.lemmas.List.{append-nil}
-use Rattle.std.proofs.lemmas.Option.{same_Some}
-use Rattle.fm_base.specs.declared.refusal.Refusal.{Refusal}
-use Rattle.fm_base.specs.declared.refusal.Refusal.TheVariants.{BadScript, Memory}
-use Rattle.fm_script_text.specs.declared.line.Line.{Line}
-use Rattle.fm_script_text.specs.declared.names.Names.{Names}
-use Rattle.fm_script_text.specs.Knowing.{Knows}
-use Rattle.fm_script_text.specs.Rules.{IsAdmitted, pass_of, passes_of}
-use Rattle.fm_script_text.specs.Scripts.{AreAdmitted, AreLines, IsSaid, Source, source, source_of}
-use Rattle.fm_script_text.specs.Taking.{AreNoLines, IsNoLine}
+use Rattle.std.{specs.{Prelude.{find}, List.{AllByRecursion}}, proofs.lemmas.{Bool.{cond_both, not-true, not-false}, List.{append-nil}, Option.{same_Some}}}
+use Rattle.fm_base.specs.declared.refusal.Refusal.{Refusal, TheVariants.{BadScript, Memory}}
+use Rattle.fm_script_text.specs.{declared.{line.Line.{Line}, names.Names.{Names}}, Knowing.{Knows}, Rules.{IsAdmitted, pass_of, passes_of}}
+use Rattle.fm_script_text.specs.{Scripts.{AreAdmitted, AreLines, IsSaid, Source, source, source_of}, Taking.{AreNoLines, IsNoLine}}
 
 -- ---- one line more
 

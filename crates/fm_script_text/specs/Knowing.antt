@@ -1,12 +1,6 @@
 -- What is kept of the names of the lines before.
-use Rattle.std.specs.Prelude.{◌≡◌, ℕ, Bool, true, if◌then◌else◌, Option, Some, None, List, bytes_eq}
-use Rattle.std.specs.BTreeMap.{get_by_text}
-use Rattle.std.specs.BTreeSet.{contains_text}
-use Rattle.fm_script_text.specs.declared.line.Line.{Line}
-use Rattle.fm_script_text.specs.declared.maker.Maker.{Maker}
-use Rattle.fm_script_text.specs.declared.names.Names.{Names}
-use Rattle.fm_script_text.specs.declared.thing.Role.{Role}
-use Rattle.fm_script_text.specs.declared.who.Who.{Who}
+use Rattle.std.specs.{Prelude.{◌≡◌, ℕ, Bool, true, if◌then◌else◌, Option, Some, None, List, bytes_eq}, BTreeMap.{get_by_text}, BTreeSet.{contains_text}}
+use Rattle.fm_script_text.specs.declared.{line.Line.{Line}, maker.Maker.{Maker}, names.Names.{Names}, thing.Role.{Role}, who.Who.{Who}}
 use Rattle.fm_script_text.specs.Rules.{Made, is_given_back, maker_of, may_use, passes_of, reached}
 
 -- who is kept as the maker of a name

@@ -1,22 +1,15 @@
 -- What the words of a line are read as.
 use Rattle.std.specs.Prelude.{ℤ, pos, negsuc, neg_ℤ, ℕ, ◌==◌, Bool, false, ◌&&◌, ◌||◌, if◌then◌else◌, nat_lt, nat_le, Option, Some, None, List, [], ◌∷◌, length, codes, bytes_eq, find}
-use Rattle.std.specs.List.{list_all}
-use Rattle.std.specs.Fmt.{decimal, signed_decimal}
-use Rattle.std.specs.Option.{option_zip, option_map, option_and_then}
-use Rattle.std.specs.Str.Parse.{digits_value}
+use Rattle.std.specs.{List.{list_all}, Fmt.{decimal, signed_decimal}, Option.{option_zip, option_map, option_and_then}, Str.Parse.{digits_value}}
 use Rattle.fm_base.specs.declared.kind.Kind.{Kind}
 use Rattle.fm_base.specs.declared.kind.Kind.TheVariants as kind
-use Rattle.fm_lanes.specs.declared.order.Order.{Order}
-use Rattle.fm_lanes.specs.declared.order.Order.TheVariants.{Little, Big}
-use Rattle.fm_lanes.specs.declared.value_kind.ValueKind.{ValueKind}
+use Rattle.fm_lanes.specs.declared.{order.Order.{Order, TheVariants.{Little, Big}}, value_kind.ValueKind.{ValueKind}}
 use Rattle.fm_lanes.specs.declared.value_kind.ValueKind.TheVariants.{Byte, Boolean, Char, Short, Int, Long}
 use Rattle.fm_layout.specs.Name.{is_letter, is_digit}
 use Rattle.fm_words.specs.declared.shape.Shape.{Shape}
-use Rattle.fm_script_text.specs.declared.cell.Cell.{Cell}
-use Rattle.fm_script_text.specs.declared.command.Command.{Command}
+use Rattle.fm_script_text.specs.declared.{cell.Cell.{Cell}, command.Command.{Command}}
 use Rattle.fm_script_text.specs.declared.command.Command.TheVariants.{Open, Alloc, Slice, Readonly, Get, Set, Add, Cas, Fill, Copy, Mismatch, Alive, Hold, Unhold, Again, Back, Close}
-use Rattle.fm_script_text.specs.declared.who.Who.{Who}
-use Rattle.fm_script_text.specs.declared.who.Who.TheVariants.{First, Worker, Last}
+use Rattle.fm_script_text.specs.declared.who.Who.{Who, TheVariants.{First, Worker, Last}}
 use Rattle.fm_script_text.specs.Syntax.{above, below, most, most_workers, arena_kind_text, type_text}
 
 -- ---- words

@@ -1,18 +1,13 @@
 -- The rules on names: which lines may stand behind which.
 use Rattle.std.specs.Prelude.{◌≡◌, ℕ, ◌+◌, ◌==◌, Bool, true, false, not, ◌&&◌, ◌||◌, if◌then◌else◌, nat_le, max, Option, Some, None, List, [], ◌∷◌, is_some, bytes_eq}
 use Rattle.std.specs.List.{list_any}
-use Rattle.fm_base.specs.declared.kind.Kind.{Kind}
-use Rattle.fm_base.specs.declared.kind.Kind.TheVariants.{Global, Automatic, Confined, Shared}
+use Rattle.fm_base.specs.declared.kind.Kind.{Kind, TheVariants.{Global, Automatic, Confined, Shared}}
 use Rattle.fm_script_text.specs.declared.command.Command.{Command}
 use Rattle.fm_script_text.specs.declared.command.Command.TheVariants.{Open, Alloc, Slice, Readonly, Get, Set, Add, Cas, Fill, Copy, Mismatch, Alive, Hold, Unhold, Again, Back, Close}
-use Rattle.fm_script_text.specs.declared.line.Line.{Line}
-use Rattle.fm_script_text.specs.declared.maker.Maker.{Maker}
-use Rattle.fm_script_text.specs.declared.thing.Role.{Role}
-use Rattle.fm_script_text.specs.declared.thing.Role.TheVariants as role
-use Rattle.fm_script_text.specs.declared.thing.Thing.{Thing}
-use Rattle.fm_script_text.specs.declared.thing.Thing.TheVariants as thing
-use Rattle.fm_script_text.specs.declared.who.Who.{Who}
+use Rattle.fm_script_text.specs.declared.{line.Line.{Line}, maker.Maker.{Maker}, thing.{Role.{Role}, Thing.{Thing}}, who.Who.{Who}}
 use Rattle.fm_script_text.specs.declared.who.Who.TheVariants.{First, Worker, Last}
+use Rattle.fm_script_text.specs.declared.thing.Role.TheVariants as role
+use Rattle.fm_script_text.specs.declared.thing.Thing.TheVariants as thing
 
 -- ---- what a line does to names
 

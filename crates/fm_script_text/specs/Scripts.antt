@@ -1,12 +1,9 @@
 -- Which texts are scripts, and at which line another text is refused.
 use Rattle.std.specs.Prelude.{◌≡◌, ℕ, ◌+◌, ◌==◌, Bool, true, ◌&&◌, if◌then◌else◌, nat_lt, List, [], ◌∷◌, ◌++◌, length, map}
 use Rattle.std.specs.List.{AllByRecursion, list_all, onto_first}
-use Rattle.fm_base.specs.declared.refusal.Refusal.{Refusal}
-use Rattle.fm_base.specs.declared.refusal.Refusal.TheVariants.{BadScript, Memory}
+use Rattle.fm_base.specs.declared.refusal.Refusal.{Refusal, TheVariants.{BadScript, Memory}}
 use Rattle.fm_words.specs.declared.shape.Shape.{Shape}
-use Rattle.fm_script_text.specs.declared.line.Line.{Line}
-use Rattle.fm_script_text.specs.Rules.{IsAdmitted, made, is_settled, is_given_back, passes_of}
-use Rattle.fm_script_text.specs.Syntax.{Says, SaysPool}
+use Rattle.fm_script_text.specs.{declared.line.Line.{Line}, Rules.{IsAdmitted, made, is_settled, is_given_back, passes_of}, Syntax.{Says, SaysPool}}
 
 -- the lines of a text, each ended by a newline, which the last may lack
 abbrev pub lines_of : List ℕ → List (List ℕ)

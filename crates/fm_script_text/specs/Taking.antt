@@ -1,15 +1,8 @@
 -- What the parts of the reader of scripts answer.
 use Rattle.std.specs.Prelude.{◌≡◌, ℕ, not, Option, List, [], ◌∷◌, ◌++◌, find}
-use Rattle.fm_base.specs.declared.refusal.Refusal.{Refusal}
-use Rattle.fm_base.specs.declared.refusal.Refusal.TheVariants.{BadScript, Memory}
-use Rattle.fm_script_text.specs.declared.command.Command.{Command}
-use Rattle.fm_script_text.specs.declared.line.Line.{Line}
-use Rattle.fm_script_text.specs.declared.names.Names.{Names}
-use Rattle.fm_script_text.specs.declared.who.Who.{Who}
-use Rattle.fm_script_text.specs.Knowing.{Knows, is_spent_at}
-use Rattle.fm_script_text.specs.Rules.{IsAdmitted, made, is_settled}
-use Rattle.fm_script_text.specs.Scripts.{AreLines, BreaksAt, IsSaid, Source, WantsAt, source, source_of}
-use Rattle.fm_script_text.specs.Syntax.{Says}
+use Rattle.fm_base.specs.declared.refusal.Refusal.{Refusal, TheVariants.{BadScript, Memory}}
+use Rattle.fm_script_text.specs.{declared.{command.Command.{Command}, line.Line.{Line}, names.Names.{Names}, who.Who.{Who}}, Knowing.{Knows, is_spent_at}}
+use Rattle.fm_script_text.specs.{Rules.{IsAdmitted, made, is_settled}, Scripts.{AreLines, BreaksAt, IsSaid, Source, WantsAt, source, source_of}, Syntax.{Says}}
 
 -- the line is what this one says, which is admitted, and its names are taken in
 pub record IsTaken (number : ℕ) (text : List ℕ) (old new : Names) (l : Line) : Type 0 where

@@ -1,22 +1,14 @@
 -- What accesses do, from what the accesses to bytes did.
 use Rattle.std.proofs.Common.{nat_le, min, inl, inr, Bool, true, false, if◌then◌else◌, ◌≡◌, ℕ, ◌+◌, ◌<◌, ◌*◌, Result, Ok, Err, List, refl, sym, ap, ◌∙◌, arith}
 use Rattle.std.proofs.lemmas.Bool.{cases_lt, lt-leb}
-use Rattle.fm_base.specs.declared.arena_id.ArenaId.{ArenaId}
-use Rattle.fm_base.specs.declared.refusal.Refusal.{Refusal}
-use Rattle.fm_base.specs.declared.refusal.Refusal.TheVariants.{Bounds, ReadOnly, Unsupported}
-use Rattle.fm_base.specs.Calls.{Entry}
-use Rattle.fm_base.specs.Outcomes.{Lasts}
-use Rattle.fm_base.specs.View.{View, Did}
-use Rattle.fm_lanes.specs.declared.order.Order.{Order}
-use Rattle.fm_lanes.specs.declared.value_kind.ValueKind.{ValueKind}
+use Rattle.fm_base.specs.{declared.{arena_id.ArenaId.{ArenaId}, refusal.Refusal.{Refusal, TheVariants.{Bounds, ReadOnly, Unsupported}}}, Calls.{Entry}}
+use Rattle.fm_base.specs.{Outcomes.{Lasts}, View.{View, Did}}
+use Rattle.fm_lanes.specs.declared.{order.Order.{Order}, value_kind.ValueKind.{ValueKind}}
 use Rattle.fm_layout.specs.declared.form.Form.TheVariants as form
 use Rattle.fm_layout.specs.Tree as tree
-use Rattle.fm_layout.specs.Tree.{Tree, Label, alignment_of}
-use Rattle.fm_layout.specs.Size.{size_of}
-use Rattle.fm_layout.specs.Parts.{form_of, IsValue}
+use Rattle.fm_layout.specs.{Tree.{Tree, Label, alignment_of}, Size.{size_of}, Parts.{form_of, IsValue}}
 use Rattle.fm_segment_access.specs.Found.{DoesAt}
-use Rattle.fm_segment.specs.Access.{if_tiling, HasKind, IsKnown, place_of, writable_place_of, offset_of_index, StandsAtIndex}
-use Rattle.fm_segment.specs.Region.{Region}
+use Rattle.fm_segment.specs.{Access.{if_tiling, HasKind, IsKnown, place_of, writable_place_of, offset_of_index, StandsAtIndex}, Region.{Region}}
 
 -- ---- by the layout
 

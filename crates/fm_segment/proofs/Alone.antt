@@ -1,25 +1,15 @@
 -- Where a value stands in a segment, and what its only caller sees there.
 use Rattle.std.proofs.Common.{◌≡◌, ℕ, ◌+◌, ◌-◌, ◌*◌, ◌^◌, ◌<◌, ◌≤◌, List, take, drop, Result, Ok, sym, ap, subst, ◌∙◌, arith}
 use Rattle.std.proofs.lemmas.List.{drop-drop, drop-take, take-take}
-use Rattle.fm_base.specs.declared.refusal.Refusal.{Refusal}
-use Rattle.fm_base.specs.View.{View}
-use Rattle.fm_lanes.specs.declared.order.Order.{Order}
-use Rattle.fm_lanes.specs.declared.value.Value.{Value}
-use Rattle.fm_lanes.specs.declared.value_kind.ValueKind.{ValueKind}
-use Rattle.fm_lanes.specs.Coding.{encoded, decoded, value_of, bytes_of_value}
-use Rattle.fm_lanes.specs.Kind.{width_of}
-use Rattle.fm_lanes.specs.Value.{kind_of}
+use Rattle.fm_base.specs.{declared.refusal.Refusal.{Refusal}, View.{View}}
+use Rattle.fm_lanes.specs.declared.{order.Order.{Order}, value.Value.{Value}, value_kind.ValueKind.{ValueKind}}
+use Rattle.fm_lanes.specs.{Coding.{encoded, decoded, value_of, bytes_of_value}, Kind.{width_of}, Value.{kind_of}}
 use Rattle.fm_layout.specs.Tree as tree
-use Rattle.fm_layout.specs.Tree.{Tree, Label, alignment_of}
-use Rattle.fm_layout.specs.Size.{size_of}
-use Rattle.fm_segment_access.specs.Alone.{bytes_of_arena, ChangesBytes}
+use Rattle.fm_layout.specs.{Tree.{Tree, Label, alignment_of}, Size.{size_of}}
+use Rattle.fm_segment_access.{specs.Alone.{bytes_of_arena, ChangesBytes}, proofs.{Causes.{placed_ok}, Values.{puts_then_gets}}}
 use Rattle.fm_segment_access.specs.Values as here
-use Rattle.fm_segment_access.proofs.Causes.{placed_ok}
-use Rattle.fm_segment_access.proofs.Values.{puts_then_gets}
-use Rattle.fm_segment.specs.Access.{HasKind, place_of, writable_place_of, if_tiling, Fits}
-use Rattle.fm_segment.specs.Alone.{bytes_of_region, FindsValue, PutsValue, SetsThenGets}
-use Rattle.fm_segment.specs.Region.{Region}
-use Rattle.fm_segment.proofs.Causes.{write_ok, when_tiling}
+use Rattle.fm_segment.specs.{Access.{HasKind, place_of, writable_place_of, if_tiling, Fits}, Alone.{bytes_of_region, FindsValue, PutsValue, SetsThenGets}}
+use Rattle.fm_segment.{specs.Region.{Region}, proofs.Causes.{write_ok, when_tiling}}
 
 -- ---- where a value stands
 

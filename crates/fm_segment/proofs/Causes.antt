@@ -1,15 +1,9 @@
 -- Why accesses to values are refused.
-use Rattle.std.proofs.Common.{◌≡◌, ℕ, ◌+◌, ◌≤◌, true, false, nat_le, Result, Ok}
-use Rattle.std.proofs.lemmas.Bool.{leb-true, leb-false}
-use Rattle.fm_base.specs.declared.caller.Caller.{Caller}
-use Rattle.fm_base.specs.declared.arena_id.ArenaId.{ArenaId}
-use Rattle.fm_base.specs.declared.refusal.Refusal.{Refusal}
-use Rattle.fm_base.specs.declared.refusal.Refusal.TheVariants.{ReadOnly, Unsupported}
-use Rattle.fm_layout.specs.Tree.{Tree, alignment_of}
-use Rattle.fm_layout.specs.Size.{size_of}
+use Rattle.std.proofs.{Common.{◌≡◌, ℕ, ◌+◌, ◌≤◌, true, false, nat_le, Result, Ok}, lemmas.Bool.{leb-true, leb-false}}
+use Rattle.fm_base.specs.declared.{caller.Caller.{Caller}, arena_id.ArenaId.{ArenaId}, refusal.Refusal.{Refusal, TheVariants.{ReadOnly, Unsupported}}}
+use Rattle.fm_layout.specs.{Tree.{Tree, alignment_of}, Size.{size_of}}
 use Rattle.fm_segment_access.proofs.Causes.{Causes, place_causes, placed_causes, write_causes, tested_causes, tested_ok, if_tested, unless_tested}
-use Rattle.fm_segment.specs.Access.{place_of, writable_place_of, if_tiling, GetCause, SetCause, IndexCause}
-use Rattle.fm_segment.specs.Region.{Region}
+use Rattle.fm_segment.specs.{Access.{place_of, writable_place_of, if_tiling, GetCause, SetCause, IndexCause}, Region.{Region}}
 
 module _ (offset : ℕ) (t : Tree) (r : Region) (c : Caller) where
   pub get_causes : Causes (place_of offset t r) r.arena c (GetCause offset t r c)

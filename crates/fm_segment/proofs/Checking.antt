@@ -1,24 +1,12 @@
 -- Calls that are checked before an arena is entered.
 use Rattle.std.proofs.Common.{◌≡◌, ◌⊎◌, inl, inr, ℕ, ◌+◌, ◌<◌, ◌&&◌, Bool, true, false, nat_lt, nat_le, if◌then◌else◌, Result, Ok, Err, List, None, refl, sym, subst, ◌∙◌, arith}
-use Rattle.std.specs.Prelude.{IsErrAnd, ⊤}
-use Rattle.std.proofs.lemmas.Bool.{and_parts, lt-ltb, ltb-true, le-leb, leb-true, leb-false}
-use Rattle.fm_base.specs.declared.caller.Caller.{Caller}
-use Rattle.fm_base.specs.declared.refusal.Refusal.{Refusal}
-use Rattle.fm_base.specs.declared.refusal.Refusal.TheVariants.{ReadOnly, Bounds, WrongThread, Closed}
-use Rattle.fm_base.specs.Calls.{Entry}
-use Rattle.fm_base.specs.Outcomes.{Lasts}
-use Rattle.fm_base.specs.View.{View}
-use Rattle.fm_segment_access.specs.Found.{UseCause}
-use Rattle.fm_segment_access.specs.Learnt.{After}
-use Rattle.fm_segment_access.proofs.Learning.{if_err, after_none, after_said}
-use Rattle.fm_segment_copies.specs.Learnt.{BothCause}
-use Rattle.fm_segment_copies.specs.Sides.{side}
-use Rattle.fm_segment.specs.Alone.{StaysOutAfter}
-use Rattle.fm_segment.specs.Copies.{checked_copy, FitBoth, CopyCause}
-use Rattle.fm_segment.specs.Fills.{DoesAfter, FillCause, checked_write}
-use Rattle.fm_segment.specs.Puts.{checked_put, MayPutAt, PutCause}
-use Rattle.fm_segment.specs.Region.{Region}
-use Rattle.fm_segment.proofs.Exits.{gave}
+use Rattle.std.{specs.Prelude.{IsErrAnd, ⊤}, proofs.lemmas.Bool.{and_parts, lt-ltb, ltb-true, le-leb, leb-true, leb-false}}
+use Rattle.fm_base.specs.{declared.{caller.Caller.{Caller}, refusal.Refusal.{Refusal, TheVariants.{ReadOnly, Bounds, WrongThread, Closed}}}, Calls.{Entry}}
+use Rattle.fm_base.specs.{Outcomes.{Lasts}, View.{View}}
+use Rattle.fm_segment_access.{specs.{Found.{UseCause}, Learnt.{After}}, proofs.Learning.{if_err, after_none, after_said}}
+use Rattle.fm_segment_copies.specs.{Learnt.{BothCause}, Sides.{side}}
+use Rattle.fm_segment.specs.{Alone.{StaysOutAfter}, Copies.{checked_copy, FitBoth, CopyCause}, Fills.{DoesAfter, FillCause, checked_write}}
+use Rattle.fm_segment.{specs.{Puts.{checked_put, MayPutAt, PutCause}, Region.{Region}}, proofs.Exits.{gave}}
 
 -- A call that its checks refuse.
 pub refused_before : {v : View} {x checked : Result (Unit {0}) Refusal} (Does : Result (Unit {0}) Refusal → List Entry → Type 0) {Cause : Refusal → Type 0}

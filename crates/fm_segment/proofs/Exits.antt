@@ -1,12 +1,7 @@
 -- What the exits of `?` answer.
-use Rattle.std.proofs.Common.{◌≡◌, ℕ, Result, Err, List, ap, ◌∙◌}
-use Rattle.std.specs.Prelude.{IsErrAnd}
-use Rattle.std.proofs.lemmas.Result.{err_from_is_err_and}
-use Rattle.fm_base.specs.declared.refusal.Refusal.{Refusal}
-use Rattle.fm_base.specs.Calls.{Entry}
-use Rattle.fm_base.specs.View.{View, Did}
-use Rattle.fm_segment_access.specs.Found.{DoesAt}
-use Rattle.fm_segment_access.proofs.Learning.{refused_at}
+use Rattle.std.{proofs.{Common.{◌≡◌, ℕ, Result, Err, List, ap, ◌∙◌}, lemmas.Result.{err_from_is_err_and}}, specs.Prelude.{IsErrAnd}}
+use Rattle.fm_base.specs.{declared.refusal.Refusal.{Refusal}, Calls.{Entry}, View.{View, Did}}
+use Rattle.fm_segment_access.{specs.Found.{DoesAt}, proofs.Learning.{refused_at}}
 
 -- The refusal that came.
 pub gave : {X : Type 0} {result : Result X Refusal} {e : Refusal} → IsErrAnd result (λ y. y ≡ e) → result ≡ Err e

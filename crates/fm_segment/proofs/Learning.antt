@@ -1,23 +1,15 @@
 -- What a caller learns of accesses to a segment, from what they did.
 use Rattle.std.proofs.Common.{◌≡◌, ℕ, ℤ, ◌*◌, Option, Result, Ok, Err, ap, ◌∙◌, arith}
-use Rattle.fm_base.specs.declared.refusal.Refusal.{Refusal}
-use Rattle.fm_base.specs.Outcomes.{Lasts}
-use Rattle.fm_base.specs.View.{View, Did}
+use Rattle.fm_base.specs.{declared.refusal.Refusal.{Refusal}, Outcomes.{Lasts}, View.{View, Did}}
 use Rattle.fm_lanes.specs.declared.value.Value.{Value}
 use Rattle.fm_layout.specs.Tree as tree
-use Rattle.fm_layout.specs.Tree.{Tree}
-use Rattle.fm_layout.specs.Size.{size_of}
-use Rattle.fm_segment_access.proofs.Causes.{Causes}
-use Rattle.fm_segment_access.proofs.Learning.{after_get_at, after_put_at, after_said}
-use Rattle.fm_segment_copies.specs.Alone.{bytes_at, first_difference}
-use Rattle.fm_segment_copies.specs.Learnt.{AfterCompare}
-use Rattle.fm_segment_copies.specs.Sides.{side}
-use Rattle.fm_segment.specs.Access.{DoesGetAt, DoesSetAt, place_of, writable_place_of, place_at_index, writable_place_at_index}
-use Rattle.fm_segment.specs.Alone.{common_bytes}
+use Rattle.fm_layout.specs.{Tree.{Tree}, Size.{size_of}}
+use Rattle.fm_segment_access.proofs.{Causes.{Causes}, Learning.{after_get_at, after_put_at, after_said}}
+use Rattle.fm_segment_copies.specs.{Alone.{bytes_at, first_difference}, Learnt.{AfterCompare}, Sides.{side}}
+use Rattle.fm_segment.specs.{Access.{DoesGetAt, DoesSetAt, place_of, writable_place_of, place_at_index, writable_place_at_index}, Alone.{common_bytes}}
 use Rattle.fm_segment.specs.Comparisons.{common_size, mismatch_of}
 use Rattle.fm_segment.specs.Learnt.{CanGet, CanSet, CanUseBoth, KnowsSegments, AfterMismatch, AfterGetAt, AfterSetAt, AfterGet, AfterSet, AfterGetIndex, AfterSetIndex}
-use Rattle.fm_segment.specs.Region.{Region}
-use Rattle.fm_segment.proofs.Access.{known_still}
+use Rattle.fm_segment.{specs.Region.{Region}, proofs.Access.{known_still}}
 use Rattle.fm_segment.proofs.Alone.{StandsIf, place_stands, writable_stands, tiled_stands, finds_there, puts_there}
 use Rattle.fm_segment.proofs.Causes.{get_causes, set_causes, index_causes}
 

@@ -1,19 +1,11 @@
 -- What accesses to the values of a segment do (`get` and `set` of `MemorySegment`, Java SE 22).
 use Rattle.std.specs.Prelude.{◌<◌, ◌≡◌, ℕ, ◌+◌, ◌*◌, ◌≤◌, true, List, Result, Ok, Err, if◌then◌else◌, nat_le, min}
-use Rattle.fm_base.specs.declared.caller.Caller.{Caller}
-use Rattle.fm_base.specs.declared.arena_id.ArenaId.{ArenaId}
-use Rattle.fm_base.specs.declared.refusal.Refusal.{Refusal}
-use Rattle.fm_base.specs.declared.refusal.Refusal.TheVariants.{ReadOnly, Unsupported}
-use Rattle.fm_base.specs.Arenas.{has_arena}
-use Rattle.fm_base.specs.Calls.{Entry}
-use Rattle.fm_base.specs.View.{View, given_in}
-use Rattle.fm_lanes.specs.declared.value.Value.{Value}
-use Rattle.fm_lanes.specs.declared.value_kind.ValueKind.{ValueKind}
+use Rattle.fm_base.specs.declared.{caller.Caller.{Caller}, arena_id.ArenaId.{ArenaId}, refusal.Refusal.{Refusal, TheVariants.{ReadOnly, Unsupported}}}
+use Rattle.fm_base.specs.{Arenas.{has_arena}, Calls.{Entry}, View.{View, given_in}}
+use Rattle.fm_lanes.specs.declared.{value.Value.{Value}, value_kind.ValueKind.{ValueKind}}
 use Rattle.fm_layout.specs.Tree as tree
-use Rattle.fm_layout.specs.Tree.{Tree, alignment_of}
-use Rattle.fm_layout.specs.Size.{size_of}
-use Rattle.fm_segment_access.specs.Found.{DoesAt, if_placed, PlaceCause, WriteCause}
-use Rattle.fm_segment_access.specs.Values.{DoesGetValue, DoesPutValue}
+use Rattle.fm_layout.specs.{Tree.{Tree, alignment_of}, Size.{size_of}}
+use Rattle.fm_segment_access.specs.{Found.{DoesAt, if_placed, PlaceCause, WriteCause}, Values.{DoesGetValue, DoesPutValue}}
 use Rattle.fm_segment.specs.Region.{Region}
 
 -- the memory knows its arena, and has given its bytes there

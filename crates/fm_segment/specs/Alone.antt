@@ -1,19 +1,12 @@
 -- What the only caller of a memory sees of accesses to a segment.
 use Rattle.std.specs.Prelude.{◌≡◌, ℕ, ℤ, ◌+◌, ◌≤◌, List, [], length, take, drop, replicate, Result, Ok, Err}
-use Rattle.fm_base.specs.declared.refusal.Refusal.{Refusal}
-use Rattle.fm_base.specs.Arenas.{State}
-use Rattle.fm_base.specs.View.{View}
-use Rattle.fm_lanes.specs.declared.value.Value.{Value}
-use Rattle.fm_lanes.specs.Coding.{value_of, bytes_of_value}
+use Rattle.fm_base.specs.{declared.refusal.Refusal.{Refusal}, Arenas.{State}, View.{View}}
+use Rattle.fm_lanes.specs.{declared.value.Value.{Value}, Coding.{value_of, bytes_of_value}}
 use Rattle.fm_layout.specs.Tree as tree
-use Rattle.fm_layout.specs.Tree.{Tree}
-use Rattle.fm_layout.specs.Size.{size_of}
+use Rattle.fm_layout.specs.{Tree.{Tree}, Size.{size_of}}
 use Rattle.fm_segment_access.specs.Alone.{bytes_of_arena, ChangesBytes}
-use Rattle.fm_segment_copies.specs.Sides.{side}
-use Rattle.fm_segment_copies.specs.Alone.{bytes_at, first_difference, TakesBytes}
-use Rattle.fm_segment.specs.Access.{Fits}
-use Rattle.fm_segment.specs.Comparisons.{common_size, mismatch_of}
-use Rattle.fm_segment.specs.Region.{Region}
+use Rattle.fm_segment_copies.specs.{Sides.{side}, Alone.{bytes_at, first_difference, TakesBytes}}
+use Rattle.fm_segment.specs.{Access.{Fits}, Comparisons.{common_size, mismatch_of}, Region.{Region}}
 
 -- the region's bytes
 abbrev pub bytes_of_region : State → Region → List ℕ

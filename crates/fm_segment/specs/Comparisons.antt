@@ -1,11 +1,7 @@
 -- What a comparison of segments does (`mismatch` of `MemorySegment`, Java SE 22), and why it is refused.
 use Rattle.std.specs.Prelude.{◌≡◌, ℕ, ℤ, pos, negsuc, ◌==◌, min, Option, Some, None, Result, Ok, Err, if◌then◌else◌, List}
-use Rattle.fm_base.specs.declared.caller.Caller.{Caller}
-use Rattle.fm_base.specs.declared.refusal.Refusal.{Refusal}
-use Rattle.fm_base.specs.Calls.{Entry}
-use Rattle.fm_segment_copies.specs.Sides.{side}
-use Rattle.fm_segment_copies.specs.Comparisons.{DoesCompare}
-use Rattle.fm_segment_copies.specs.Learnt.{BothCause}
+use Rattle.fm_base.specs.{declared.{caller.Caller.{Caller}, refusal.Refusal.{Refusal}}, Calls.{Entry}}
+use Rattle.fm_segment_copies.specs.{Sides.{side}, Comparisons.{DoesCompare}, Learnt.{BothCause}}
 use Rattle.fm_segment.specs.Region.{Region}
 
 -- how many bytes are compared

@@ -1,15 +1,9 @@
 -- What a copy between segments does (`copy` and `copyFrom` of `MemorySegment`, Java SE 22), and why it is refused.
 use Rattle.std.specs.Prelude.{◌≡◌, ℕ, ◌+◌, ◌<◌, ◌≤◌, ◌&&◌, true, false, nat_lt, nat_le, Result, Ok, Err, if◌then◌else◌, List}
-use Rattle.fm_base.specs.declared.caller.Caller.{Caller}
-use Rattle.fm_base.specs.declared.arena_id.ArenaId.{ArenaId}
-use Rattle.fm_base.specs.declared.refusal.Refusal.{Refusal}
-use Rattle.fm_base.specs.declared.refusal.Refusal.TheVariants.{ReadOnly, Bounds, WrongThread, Closed}
-use Rattle.fm_base.specs.Arenas.{MayUse}
-use Rattle.fm_base.specs.Calls.{Entry}
-use Rattle.fm_segment_copies.specs.Sides.{side}
-use Rattle.fm_segment_copies.specs.Copies.{DoesCopy}
-use Rattle.fm_segment.specs.Fills.{DoesAfter}
-use Rattle.fm_segment.specs.Region.{Region}
+use Rattle.fm_base.specs.declared.{caller.Caller.{Caller}, arena_id.ArenaId.{ArenaId}, refusal.Refusal.{Refusal}}
+use Rattle.fm_base.specs.{declared.refusal.Refusal.TheVariants.{ReadOnly, Bounds, WrongThread, Closed}, Arenas.{MayUse}, Calls.{Entry}}
+use Rattle.fm_segment_copies.specs.{Sides.{side}, Copies.{DoesCopy}}
+use Rattle.fm_segment.specs.{Fills.{DoesAfter}, Region.{Region}}
 
 -- the caller may use both arenas
 abbrev pub MayUseArenas : ArenaId → ArenaId → Caller → Type 0

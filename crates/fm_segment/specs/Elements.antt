@@ -1,10 +1,7 @@
 -- The elements of a segment: its consecutive slices of one size (`elements`).
-use Rattle.std.specs.Prelude.{ℕ, ◌+◌, ◌*◌, ◌/◌, ◌%◌, ◌≤◌, Result, Ok, Err, List, map, if◌then◌else◌, nat_eq}
-use Rattle.std.specs.List.{range_with_len}
-use Rattle.fm_base.specs.declared.refusal.Refusal.{Refusal}
-use Rattle.fm_base.specs.declared.refusal.Refusal.TheVariants.{NoSize, Ragged, ElementRagged, Misaligned}
-use Rattle.fm_layout.specs.Tree.{Tree, alignment_of}
-use Rattle.fm_layout.specs.Size.{size_of}
+use Rattle.std.specs.{Prelude.{ℕ, ◌+◌, ◌*◌, ◌/◌, ◌%◌, ◌≤◌, Result, Ok, Err, List, map, if◌then◌else◌, nat_eq}, List.{range_with_len}}
+use Rattle.fm_base.specs.declared.refusal.Refusal.{Refusal, TheVariants.{NoSize, Ragged, ElementRagged, Misaligned}}
+use Rattle.fm_layout.specs.{Tree.{Tree, alignment_of}, Size.{size_of}}
 use Rattle.fm_segment.specs.Region.{Region, part_of, EndsByLimit}
 
 -- element i, where each has this size

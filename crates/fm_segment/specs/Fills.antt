@@ -1,11 +1,7 @@
 -- What filling a segment does (`fill` of `MemorySegment`, Java SE 22), and why it is refused.
 use Rattle.std.specs.Prelude.{◌≡◌, ℕ, ◌<◌, ◌&&◌, nat_lt, Result, Ok, Err, if◌then◌else◌, List, []}
-use Rattle.fm_base.specs.declared.caller.Caller.{Caller}
-use Rattle.fm_base.specs.declared.refusal.Refusal.{Refusal}
-use Rattle.fm_base.specs.declared.refusal.Refusal.TheVariants.{ReadOnly}
-use Rattle.fm_base.specs.Calls.{Entry}
-use Rattle.fm_segment_access.specs.Found.{UseCause, WriteCause}
-use Rattle.fm_segment_access.specs.Ranges.{DoesFill}
+use Rattle.fm_base.specs.{declared.{caller.Caller.{Caller}, refusal.Refusal.{Refusal, TheVariants.{ReadOnly}}}, Calls.{Entry}}
+use Rattle.fm_segment_access.specs.{Found.{UseCause, WriteCause}, Ranges.{DoesFill}}
 use Rattle.fm_segment.specs.Region.{Region}
 
 -- a write of so many bytes is refused where there is a byte, and the segment is read-only

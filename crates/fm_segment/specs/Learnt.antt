@@ -1,23 +1,14 @@
 -- What the accesses of a segment ask for, and what their caller learns: one record each.
 use Rattle.std.specs.Prelude.{◌≡◌, ℕ, ℤ, ◌+◌, ◌*◌, List, length, None, Result, ⊤}
-use Rattle.fm_base.specs.declared.refusal.Refusal.{Refusal}
-use Rattle.fm_base.specs.View.{View}
-use Rattle.fm_lanes.specs.declared.value.Value.{Value}
-use Rattle.fm_lanes.specs.Value.{kind_of}
-use Rattle.fm_layout.specs.Parts.{IsValue}
-use Rattle.fm_layout.specs.Size.{size_of}
-use Rattle.fm_layout.specs.Tree.{Tree}
-use Rattle.fm_segment_access.specs.Alone.{ChangesBytes, StaysOut}
-use Rattle.fm_segment_access.specs.Found.{StaysOutOf}
-use Rattle.fm_segment_access.specs.Learnt.{After}
+use Rattle.fm_base.specs.{declared.refusal.Refusal.{Refusal}, View.{View}}
+use Rattle.fm_lanes.specs.{declared.value.Value.{Value}, Value.{kind_of}}
+use Rattle.fm_layout.specs.{Parts.{IsValue}, Size.{size_of}, Tree.{Tree}}
+use Rattle.fm_segment_access.specs.{Alone.{ChangesBytes, StaysOut}, Found.{StaysOutOf}, Learnt.{After}}
 use Rattle.fm_segment_copies.specs.Alone as copies
 use Rattle.fm_segment.specs.Access.{DoesGetAt, DoesSetAt, GetCause, SetCause, IndexCause, HasKind, IsKnown, place_of, writable_place_of, place_at_index, writable_place_at_index}
-use Rattle.fm_segment.specs.Alone.{FindsValue, PutsValue, FillsBytes, CopiesBytes, FindsMismatch, StaysOutAfter}
-use Rattle.fm_segment.specs.Comparisons.{DoesMismatch, MismatchCause}
-use Rattle.fm_segment.specs.Copies.{DoesCopySegment, CopyCause, checked_copy}
-use Rattle.fm_segment.specs.Fills.{DoesFillSegment, FillCause, checked_write}
-use Rattle.fm_segment.specs.Puts.{DoesPutSegment, PutCause, checked_put}
-use Rattle.fm_segment.specs.Region.{Region}
+use Rattle.fm_segment.specs.{Alone.{FindsValue, PutsValue, FillsBytes, CopiesBytes, FindsMismatch, StaysOutAfter}, Comparisons.{DoesMismatch, MismatchCause}}
+use Rattle.fm_segment.specs.{Copies.{DoesCopySegment, CopyCause, checked_copy}, Fills.{DoesFillSegment, FillCause, checked_write}}
+use Rattle.fm_segment.specs.{Puts.{DoesPutSegment, PutCause, checked_put}, Region.{Region}}
 
 -- ---- what is asked for
 

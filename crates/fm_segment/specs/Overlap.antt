@@ -1,8 +1,7 @@
 -- Which bytes two segments share (`asOverlappingSlice`).
 use Rattle.std.specs.Prelude.{◌≡◌, ℕ, ◌+◌, ◌-◌, ◌<◌, ◌≤◌, Ok}
 use Rattle.fm_base.specs.declared.arena_id.ArenaId.{ArenaId}
-use Rattle.fm_segment.specs.Region.{Region}
-use Rattle.fm_segment.specs.Slices.{slice_of}
+use Rattle.fm_segment.specs.{Region.{Region}, Slices.{slice_of}}
 
 -- the byte at this place of this arena is in the region
 pub record HasByte (r : Region) (arena : ArenaId) (place : ℕ) : Type 0 where

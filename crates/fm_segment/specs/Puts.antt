@@ -1,13 +1,9 @@
 -- What putting bytes through a segment does (`copy` from an array, of `MemorySegment`), and why it is refused.
 use Rattle.std.specs.Prelude.{◌≡◌, ℕ, ◌+◌, ◌<◌, ◌≤◌, ◌&&◌, true, false, nat_lt, nat_le, Result, Ok, Err, if◌then◌else◌, List, length}
-use Rattle.fm_base.specs.declared.caller.Caller.{Caller}
-use Rattle.fm_base.specs.declared.refusal.Refusal.{Refusal}
-use Rattle.fm_base.specs.declared.refusal.Refusal.TheVariants.{ReadOnly, Bounds, WrongThread, Closed}
-use Rattle.fm_base.specs.Arenas.{MayUse}
+use Rattle.fm_base.specs.{declared.{caller.Caller.{Caller}, refusal.Refusal.{Refusal, TheVariants.{ReadOnly, Bounds, WrongThread, Closed}}}, Arenas.{MayUse}}
 use Rattle.fm_base.specs.Calls.{Entry}
 use Rattle.fm_segment_access.specs.Runs.{DoesPutAll}
-use Rattle.fm_segment.specs.Fills.{DoesAfter}
-use Rattle.fm_segment.specs.Region.{Region}
+use Rattle.fm_segment.specs.{Fills.{DoesAfter}, Region.{Region}}
 
 -- `n` bytes at an offset
 module _ (r : Region) (offset n : ℕ) where

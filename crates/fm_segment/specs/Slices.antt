@@ -1,8 +1,6 @@
 -- What slicing answers: a slice, or the first refusal that applies (`asSlice`).
-use Rattle.std.specs.Prelude.{ℕ, ◌+◌, ◌-◌, ◌%◌, Result, Ok, Err, if◌then◌else◌, nat_eq, nat_le}
-use Rattle.std.specs.Int.{is_power_of_two}
-use Rattle.fm_base.specs.declared.refusal.Refusal.{Refusal}
-use Rattle.fm_base.specs.declared.refusal.Refusal.TheVariants.{BadAlignment, Bounds, Misaligned}
+use Rattle.std.specs.{Prelude.{ℕ, ◌+◌, ◌-◌, ◌%◌, Result, Ok, Err, if◌then◌else◌, nat_eq, nat_le}, Int.{is_power_of_two}}
+use Rattle.fm_base.specs.declared.refusal.Refusal.{Refusal, TheVariants.{BadAlignment, Bounds, Misaligned}}
 use Rattle.fm_segment.specs.Region.{Region, part_of}
 
 -- so many bytes from an offset on

@@ -1,28 +1,15 @@
 -- What runs of visits of the only caller do to the bytes of an arena.
 use Rattle.std.proofs.Common.{◌≡◌, ◌≢◌, ℕ, ◌+◌, ◌-◌, ◌*◌, ◌%◌, ◌^◌, ◌<◌, ◌≤◌, true, List, [], ◌++◌, length, take, drop, get_or, refl, sym, ap, subst, ◌∙◌, arith, append_assoc, Option, Some, None, Ok, Err}
-use Rattle.std.proofs.lemmas.List.{append-nil, drop-drop, length-take-le}
-use Rattle.std.proofs.lemmas.List.Elements.{All-take, All-from_get_or}
-use Rattle.std.proofs.Math.Seq.{take-add}
+use Rattle.std.proofs.{lemmas.List.{append-nil, drop-drop, length-take-le, Elements.{All-take, All-from_get_or}}, Math.Seq.{take-add}}
 use mir.Syntax.{w8}
 use mir.Val.{Fits}
-use Rattle.fm_base.specs.declared.caller.Caller.{Caller}
-use Rattle.fm_base.specs.declared.arena_id.ArenaId.{ArenaId}
-use Rattle.fm_base.specs.declared.refusal.Refusal.{Refusal}
-use Rattle.fm_base.specs.declared.refusal.Refusal.TheVariants.{Closed, WrongThread}
-use Rattle.fm_base.specs.Arenas.{Alive, Arena, State, arena_of, has_arena, changed}
-use Rattle.fm_base.specs.Calls.{Entry}
-use Rattle.fm_base.specs.Histories.{IsLegal, state_after}
-use Rattle.fm_base.specs.View.{View, Did, IsByItself}
-use Rattle.fm_base.specs.Visits.{Run, ends, goes_on, piece_width}
-use Rattle.fm_base.proofs.Faith.{Makes-alone}
-use Rattle.fm_base.proofs.Lookup.{arena_of-id, changed_lookup, changed_same, changed_twice, lookup_changed}
-use Rattle.fm_base.proofs.Making.{IsLegal-split, state_after-append}
-use Rattle.fm_base_bytes.specs.Bytes.{AreBytes, bytes_of, number_of}
-use Rattle.fm_base_bytes.specs.Words.{bytes_in}
-use Rattle.fm_base_bytes.proofs.Bytes.{bytes_of-number_of, number_of-lt}
+use Rattle.fm_base.specs.declared.{caller.Caller.{Caller}, arena_id.ArenaId.{ArenaId}, refusal.Refusal.{Refusal, TheVariants.{Closed, WrongThread}}}
+use Rattle.fm_base.specs.{Arenas.{Alive, Arena, State, arena_of, has_arena, changed}, Calls.{Entry}, Histories.{IsLegal, state_after}}
+use Rattle.fm_base.{specs.{View.{View, Did, IsByItself}, Visits.{Run, ends, goes_on, piece_width}}, proofs.Faith.{Makes-alone}}
+use Rattle.fm_base.proofs.{Lookup.{arena_of-id, changed_lookup, changed_same, changed_twice, lookup_changed}, Making.{IsLegal-split, state_after-append}}
+use Rattle.fm_base_bytes.{specs.{Bytes.{AreBytes, bytes_of, number_of}, Words.{bytes_in}}, proofs.Bytes.{bytes_of-number_of, number_of-lt}}
 use Rattle.fm_segment_access.specs.Alone.{bytes_of_arena, with_bytes, with_words, FindsAs, ChangesBytes, StaysOut}
-use Rattle.fm_segment_access.specs.Ranges.{Reading, ReadsOn, EndsReading, ReadsRange, DoesRefuse, DoesRead}
-use Rattle.fm_segment_access.proofs.Splicing.{with_none}
+use Rattle.fm_segment_access.{specs.Ranges.{Reading, ReadsOn, EndsReading, ReadsRange, DoesRefuse, DoesRead}, proofs.Splicing.{with_none}}
 use Rattle.fm_segment_access.proofs.Visits.{VisitRefused, visit_refused, visit_reads}
 
 -- ---- refusals

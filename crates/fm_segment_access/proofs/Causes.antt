@@ -1,15 +1,10 @@
 -- Why accesses are refused, from what they did.
 use Rattle.std.proofs.Common.{◌≡◌, ℕ, ◌+◌, ◌%◌, ◌⊎◌, inl, inr, Bool, true, false, if◌then◌else◌, nat_eq, nat_le, Result, Ok, Err, List, refl, sym, subst, ◌∙◌, arith}
-use Rattle.std.proofs.lemmas.Bool.{leb-true, leb-false}
-use Rattle.std.proofs.lemmas.Bool.Decides.{nat_tests}
-use Rattle.fm_base.specs.declared.caller.Caller.{Caller}
-use Rattle.fm_base.specs.declared.arena_id.ArenaId.{ArenaId}
-use Rattle.fm_base.specs.declared.refusal.Refusal.{Refusal}
-use Rattle.fm_base.specs.declared.refusal.Refusal.TheVariants.{Bounds, Misaligned, ReadOnly, Unsupported, WrongThread, Closed}
-use Rattle.fm_base.specs.Calls.{Entry}
+use Rattle.std.proofs.lemmas.Bool.{leb-true, leb-false, Decides.{nat_tests}}
+use Rattle.fm_base.specs.declared.{caller.Caller.{Caller}, arena_id.ArenaId.{ArenaId}, refusal.Refusal.{Refusal}}
+use Rattle.fm_base.specs.{declared.refusal.Refusal.TheVariants.{Bounds, Misaligned, ReadOnly, Unsupported, WrongThread, Closed}, Calls.{Entry}}
 use Rattle.fm_base.specs.Does.{DoesEnter}
-use Rattle.fm_segment_access.specs.Found.{UseCause, WriteCause, SupportCause, IsWithin, IsEven, if_placed, PlaceCause}
-use Rattle.fm_segment_access.specs.Ranges.{DoesRefuse}
+use Rattle.fm_segment_access.specs.{Found.{UseCause, WriteCause, SupportCause, IsWithin, IsEven, if_placed, PlaceCause}, Ranges.{DoesRefuse}}
 
 -- the causes of an access to the arena at the place that was found, or refused before
 pub record Causes (found : Result ℕ Refusal) (id : ArenaId) (c : Caller) (Cause : Refusal → Type 0) : Type 0 where

@@ -1,9 +1,7 @@
 -- A range that is filled with one byte.
 use Rattle.std.proofs.Common.{◌≡◌, ℕ, ◌+◌, ◌-◌, ◌*◌, ◌<◌, ◌≤◌, take, drop, replicate, sym, ap, ◌∙◌, arith}
-use Rattle.std.proofs.lemmas.List.{length-replicate, take-replicate, drop-replicate}
-use Rattle.std.proofs.lemmas.List.Elements.{All-replicate}
-use Rattle.fm_base_bytes.specs.Bytes.{AreBytes, bytes_of, number_of, lane}
-use Rattle.fm_base_bytes.proofs.Bytes.{bytes_of-number_of, lane-number_of}
+use Rattle.std.proofs.lemmas.List.{length-replicate, take-replicate, drop-replicate, Elements.{All-replicate}}
+use Rattle.fm_base_bytes.{specs.Bytes.{AreBytes, bytes_of, number_of, lane}, proofs.Bytes.{bytes_of-number_of, lane-number_of}}
 use Rattle.fm_segment_access.proofs.Putting.{put_starts, puts_piece_on}
 
 -- Copies of a byte are bytes.

@@ -1,20 +1,11 @@
 -- A number that is read, in one piece or in two.
 use Rattle.std.proofs.Common.{◌≡◌, ℕ, ◌+◌, ◌*◌, ◌%◌, ◌^◌, ◌<◌, ◌≤◌, List, [], ◌++◌, length, refl, sym, ap, ◌∙◌, subst, arith, Some, None, Result, Ok, Err}
-use Rattle.std.proofs.Math.Pow.{pow_mono}
-use Rattle.std.proofs.lemmas.Nat.{shl_whole}
-use Rattle.fm_base.specs.declared.caller.Caller.{Caller}
-use Rattle.fm_base.specs.declared.arena_id.ArenaId.{ArenaId}
-use Rattle.fm_base.specs.declared.refusal.Refusal.{Refusal}
-use Rattle.fm_base.specs.Calls.{Entry}
-use Rattle.fm_base.specs.Does.{DoesEnter}
-use Rattle.fm_base.specs.View.{View, Did}
-use Rattle.fm_base.specs.Visits.{piece_width}
-use Rattle.fm_base_bytes.specs.Bytes.{bytes_of, number_of}
-use Rattle.fm_base_bytes.proofs.Bytes.{lane-lt, length-bytes_of, number_of-append, number_of-bytes_of, pow_bytes}
-use Rattle.fm_segment_access.specs.Pieces.{ReadsPiece, DoesGetPiece}
-use Rattle.fm_segment_access.specs.Ranges.{Reading, ReadsOn, EndsReading, DoesGet}
-use Rattle.fm_segment_access.proofs.Going.{Going, going_start, going_more, going_done, going_refused}
-use Rattle.fm_segment_access.proofs.Touching.{said}
+use Rattle.std.proofs.{Math.Pow.{pow_mono}, lemmas.Nat.{shl_whole}}
+use Rattle.fm_base.specs.{declared.{caller.Caller.{Caller}, arena_id.ArenaId.{ArenaId}, refusal.Refusal.{Refusal}}, Calls.{Entry}, Does.{DoesEnter}}
+use Rattle.fm_base.specs.{View.{View, Did}, Visits.{piece_width}}
+use Rattle.fm_base_bytes.{specs.Bytes.{bytes_of, number_of}, proofs.Bytes.{lane-lt, length-bytes_of, number_of-append, number_of-bytes_of, pow_bytes}}
+use Rattle.fm_segment_access.specs.{Pieces.{ReadsPiece, DoesGetPiece}, Ranges.{Reading, ReadsOn, EndsReading, DoesGet}}
+use Rattle.fm_segment_access.proofs.{Going.{Going, going_start, going_more, going_done, going_refused}, Touching.{said}}
 
 abbrev reading : ℕ → List ℕ → Reading
 reading at bytes = record { at = at; bytes = bytes }

@@ -1,17 +1,8 @@
 -- A run of visits to an arena, as far as it has come.
-use Rattle.std.proofs.Common.{◌≡◌, ◌⊎◌, inl, inr, List, [], ◌++◌, refl, subst, sym, Err}
-use Rattle.std.proofs.lemmas.List.{append-nil}
-use Rattle.fm_base.specs.declared.caller.Caller.{Caller}
-use Rattle.fm_base.specs.declared.arena_id.ArenaId.{ArenaId}
-use Rattle.fm_base.specs.declared.refusal.Refusal.{Refusal}
-use Rattle.fm_base.specs.declared.refusal.Refusal.TheVariants.{Closed, WrongThread}
-use Rattle.fm_base.specs.Arenas.{MayUse}
-use Rattle.fm_base.specs.Calls.{Entry}
-use Rattle.fm_base.specs.View.{View, Makes, Did}
-use Rattle.fm_base.specs.Visits.{refused_visit, Run, ends, goes_on}
-use Rattle.fm_base.specs.Does.{DoesEnter}
-use Rattle.fm_base.proofs.Making.{Makes-then, Makes-none}
-use Rattle.fm_base.proofs.Running.{Led, led_start, led_more, led_ends}
+use Rattle.std.proofs.{Common.{◌≡◌, ◌⊎◌, inl, inr, List, [], ◌++◌, refl, subst, sym, Err}, lemmas.List.{append-nil}}
+use Rattle.fm_base.specs.declared.{caller.Caller.{Caller}, arena_id.ArenaId.{ArenaId}, refusal.Refusal.{Refusal, TheVariants.{Closed, WrongThread}}}
+use Rattle.fm_base.specs.{Arenas.{MayUse}, Calls.{Entry}, View.{View, Makes, Did}, Visits.{refused_visit, Run, ends, goes_on}, Does.{DoesEnter}}
+use Rattle.fm_base.proofs.{Making.{Makes-then, Makes-none}, Running.{Led, led_start, led_more, led_ends}}
 use Rattle.fm_segment_access.specs.Ranges.{DoesRefuse}
 
 -- no visit was made

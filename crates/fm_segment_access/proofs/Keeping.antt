@@ -1,12 +1,7 @@
 -- What holds of all entries of a call, where it holds of those of each visit.
-use Rattle.std.proofs.Common.{◌≡◌, ℕ, ◌+◌, Bool, true, false, List, [], ◌++◌, sym, subst, Option, Some, None, Result, Ok, Err}
-use Rattle.std.specs.Prelude.{⊤}
-use Rattle.fm_base.specs.declared.caller.Caller.{Caller}
-use Rattle.fm_base.specs.declared.arena_id.ArenaId.{ArenaId}
-use Rattle.fm_base.specs.declared.refusal.Refusal.{Refusal}
-use Rattle.fm_base.specs.declared.refusal.Refusal.TheVariants.{Closed, WrongThread}
-use Rattle.fm_base.specs.Calls.{Entry}
-use Rattle.fm_base.specs.Visits.{refused_visit, Run, ends, goes_on}
+use Rattle.std.{proofs.Common.{◌≡◌, ℕ, ◌+◌, Bool, true, false, List, [], ◌++◌, sym, subst, Option, Some, None, Result, Ok, Err}, specs.Prelude.{⊤}}
+use Rattle.fm_base.specs.declared.{caller.Caller.{Caller}, arena_id.ArenaId.{ArenaId}, refusal.Refusal.{Refusal, TheVariants.{Closed, WrongThread}}}
+use Rattle.fm_base.specs.{Calls.{Entry}, Visits.{refused_visit, Run, ends, goes_on}}
 use Rattle.fm_segment_access.specs.Pieces.{ReadsPiece}
 use Rattle.fm_segment_access.specs.Ranges.{DoesRefuse, Reading, EndsReading, ReadsRange, DoesRead, Putting, putting, EndsPutting, PutsBy, DoesPutBy}
 

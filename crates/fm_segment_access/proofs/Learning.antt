@@ -1,34 +1,14 @@
 -- What a caller learns of an access, from what it did.
-use Rattle.std.proofs.Common.{◌≡◌, ℕ, ◌+◌, true, false, List, [], refl, sym, ap, subst, ◌∙◌, None, Result, Ok, Err, IfOk, IfErr}
-use Rattle.std.specs.Prelude.{OnErr, ⊤}
-use Rattle.fm_base.specs.declared.caller.Caller.{Caller}
-use Rattle.fm_base.specs.declared.arena_id.ArenaId.{ArenaId}
-use Rattle.fm_base.specs.declared.refusal.Refusal.{Refusal}
-use Rattle.fm_base.specs.Arenas.{has_arena}
-use Rattle.fm_base.specs.Calls.{Entry}
-use Rattle.fm_base.specs.Histories.{state_after}
-use Rattle.fm_base.specs.Outcomes.{Lasts}
-use Rattle.fm_base.specs.View.{View, Did, IsByItself, inside_after}
-use Rattle.fm_base.proofs.Faith.{Makes-alone}
-use Rattle.fm_base.proofs.Making.{Makes-none}
-use Rattle.fm_base.proofs.Outcomes.{Makes-lasts}
-use Rattle.fm_lanes.specs.declared.order.Order.{Order}
-use Rattle.fm_lanes.specs.declared.value.Value.{Value}
-use Rattle.fm_lanes.specs.declared.value_kind.ValueKind.{ValueKind}
-use Rattle.fm_lanes.specs.Coding.{value_of, bytes_of_value}
-use Rattle.fm_lanes.specs.Kind.{width_of}
-use Rattle.fm_lanes.specs.Value.{kind_of}
-use Rattle.fm_segment_access.specs.Alone.{StaysOut}
-use Rattle.fm_segment_access.specs.Found.{DoesAt, UseCause, StaysOutOf}
-use Rattle.fm_segment_access.specs.Learnt.{After}
-use Rattle.fm_segment_access.specs.Ranges.{ReadsRange, DoesRead, Putting, DoesPut, DoesPutBy, PutsBy}
-use Rattle.fm_segment_access.specs.Values.{DoesGetValue, FindsValue, PutsValue}
-use Rattle.fm_segment_access.proofs.Alone.{read_alone, read_shut}
-use Rattle.fm_segment_access.proofs.Causes.{Causes, going}
-use Rattle.fm_segment_access.proofs.Keeping.{read_kept, put_kept}
-use Rattle.fm_segment_access.proofs.Outside.{EndsOutside, outside}
-use Rattle.fm_segment_access.proofs.PuttingAlone.{ArePuts, pieces_put, put_shut}
-use Rattle.fm_segment_access.proofs.Values.{AreBytes-value, puts_value, got_kind}
+use Rattle.std.{proofs.Common.{◌≡◌, ℕ, ◌+◌, true, false, List, [], refl, sym, ap, subst, ◌∙◌, None, Result, Ok, Err, IfOk, IfErr}, specs.Prelude.{OnErr, ⊤}}
+use Rattle.fm_base.specs.{declared.{caller.Caller.{Caller}, arena_id.ArenaId.{ArenaId}, refusal.Refusal.{Refusal}}, Arenas.{has_arena}, Calls.{Entry}}
+use Rattle.fm_base.{specs.{Histories.{state_after}, Outcomes.{Lasts}, View.{View, Did, IsByItself, inside_after}}, proofs.Faith.{Makes-alone}}
+use Rattle.fm_base.proofs.{Making.{Makes-none}, Outcomes.{Makes-lasts}}
+use Rattle.fm_lanes.specs.{declared.{order.Order.{Order}, value.Value.{Value}, value_kind.ValueKind.{ValueKind}}, Coding.{value_of, bytes_of_value}}
+use Rattle.fm_lanes.specs.{Kind.{width_of}, Value.{kind_of}}
+use Rattle.fm_segment_access.specs.{Alone.{StaysOut}, Found.{DoesAt, UseCause, StaysOutOf}, Learnt.{After}}
+use Rattle.fm_segment_access.specs.{Ranges.{ReadsRange, DoesRead, Putting, DoesPut, DoesPutBy, PutsBy}, Values.{DoesGetValue, FindsValue, PutsValue}}
+use Rattle.fm_segment_access.proofs.{Alone.{read_alone, read_shut}, Causes.{Causes, going}, Keeping.{read_kept, put_kept}, Outside.{EndsOutside, outside}}
+use Rattle.fm_segment_access.proofs.{PuttingAlone.{ArePuts, pieces_put, put_shut}, Values.{AreBytes-value, puts_value, got_kind}}
 
 module _ {X : Type 0} {old new : View} {Does : Result X Refusal → List Entry → Type 0} {Cause : Refusal → Type 0} {Alone : X
     → Type 0} {Shut : Type 0} {Known : View → Type 0} {Kind : X → Type 0} {result : Result X Refusal} where

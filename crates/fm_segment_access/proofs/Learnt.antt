@@ -1,27 +1,13 @@
 -- What a caller learns of each access of this crate, from what it did.
-use Rattle.std.proofs.Common.{◌≡◌, ℕ, ◌<◌, ◌==◌, true, false, List, [], refl, None, Result, Ok, arith}
-use Rattle.std.proofs.lemmas.Bool.Decides.{nat_tests}
-use Rattle.fm_segment_access.proofs.Alone.{read_alone, read_shut, puts_none, changes}
-use Rattle.fm_segment_access.proofs.Learning.{reads, puts, after_did, after_call, after_said, if_err}
-use Rattle.fm_segment_access.proofs.PuttingAlone.{ArePuts, pieces_put, put_alone, put_shut}
-use Rattle.fm_segment_access.proofs.Values.{AreBytes-value, got_fits, got_kind, puts_value}
-use Rattle.fm_segment_access.specs.Found.{UseCause}
-use Rattle.fm_segment_access.specs.Learnt.{CanTouch, CanTouchNumber, AfterGet, AfterPutBy, AfterSome, AfterGetValue, AfterPutValue}
-use Rattle.fm_segment_access.specs.Ranges.{DoesGet, Putting, DoesPut, DoesPutBy}
-use Rattle.fm_segment_access.specs.Values.{DoesGetValue}
-use Rattle.fm_base.proofs.Making.{Makes-none}
-use Rattle.fm_base.specs.Arenas.{has_arena}
-use Rattle.fm_base.specs.Calls.{Entry}
-use Rattle.fm_base.specs.View.{View, Did}
-use Rattle.fm_base.specs.declared.arena_id.ArenaId.{ArenaId}
-use Rattle.fm_base.specs.declared.caller.Caller.{Caller}
-use Rattle.fm_base.specs.declared.refusal.Refusal.{Refusal}
+use Rattle.std.proofs.{Common.{◌≡◌, ℕ, ◌<◌, ◌==◌, true, false, List, [], refl, None, Result, Ok, arith}, lemmas.Bool.Decides.{nat_tests}}
+use Rattle.fm_segment_access.proofs.{Alone.{read_alone, read_shut, puts_none, changes}, Learning.{reads, puts, after_did, after_call, after_said, if_err}}
+use Rattle.fm_segment_access.proofs.{PuttingAlone.{ArePuts, pieces_put, put_alone, put_shut}, Values.{AreBytes-value, got_fits, got_kind, puts_value}}
+use Rattle.fm_segment_access.specs.{Found.{UseCause}, Learnt.{CanTouch, CanTouchNumber, AfterGet, AfterPutBy, AfterSome, AfterGetValue, AfterPutValue}}
+use Rattle.fm_segment_access.specs.{Ranges.{DoesGet, Putting, DoesPut, DoesPutBy}, Values.{DoesGetValue}}
+use Rattle.fm_base.{proofs.Making.{Makes-none}, specs.{Arenas.{has_arena}, Calls.{Entry}, View.{View, Did}, declared.arena_id.ArenaId.{ArenaId}}}
+use Rattle.fm_base.specs.declared.{caller.Caller.{Caller}, refusal.Refusal.{Refusal}}
 use Rattle.fm_base_bytes.specs.Bytes.{AreBytes, number_of}
-use Rattle.fm_lanes.specs.Coding.{value_of, bytes_of_value}
-use Rattle.fm_lanes.specs.Kind.{width_of}
-use Rattle.fm_lanes.specs.Value.{kind_of}
-use Rattle.fm_lanes.specs.declared.order.Order.{Order}
-use Rattle.fm_lanes.specs.declared.value.Value.{Value}
+use Rattle.fm_lanes.specs.{Coding.{value_of, bytes_of_value}, Kind.{width_of}, Value.{kind_of}, declared.{order.Order.{Order}, value.Value.{Value}}}
 use Rattle.fm_lanes.specs.declared.value_kind.ValueKind.{ValueKind}
 
 -- All that is learnt of `get_number`.

@@ -1,13 +1,7 @@
 -- Calls that end outside of all arenas.
 use Rattle.std.proofs.Common.{◌≡◌, ◌/◌, List, [], ◌∷◌, refl, ap, ◌∙◌, None, Err}
-use Rattle.fm_base.specs.declared.caller.Caller.{Caller}
-use Rattle.fm_base.specs.declared.arena_id.ArenaId.{ArenaId}
-use Rattle.fm_base.specs.declared.refusal.Refusal.{Refusal}
-use Rattle.fm_base.specs.declared.refusal.Refusal.TheVariants.{Closed, WrongThread}
-use Rattle.fm_base.specs.Calls.{Read, Found, Entry}
-use Rattle.fm_base.specs.Does.{DoesEnter}
-use Rattle.fm_base.specs.View.{inside_after}
-use Rattle.fm_base.proofs.Making.{inside_after-append}
+use Rattle.fm_base.specs.declared.{caller.Caller.{Caller}, arena_id.ArenaId.{ArenaId}, refusal.Refusal.{Refusal, TheVariants.{Closed, WrongThread}}}
+use Rattle.fm_base.{specs.{Calls.{Read, Found, Entry}, Does.{DoesEnter}, View.{inside_after}}, proofs.Making.{inside_after-append}}
 use Rattle.fm_base.proofs.Running.{visit_ends_outside}
 use Rattle.fm_segment_access.proofs.Keeping.{IsKept}
 

@@ -1,20 +1,10 @@
 -- Bytes that are put, as far as it has come.
 use Rattle.std.proofs.Common.{◌≡◌, ℕ, ◌+◌, ◌-◌, ◌%◌, ◌<◌, ◌≤◌, List, [], ◌++◌, length, take, drop, refl, ap, subst, arith, true, false, None, Result, Ok, Err, ◌∙◌}
 use Rattle.std.proofs.lemmas.List.{length-drop, drop_all, drop-drop}
-use Rattle.fm_base.specs.declared.caller.Caller.{Caller}
-use Rattle.fm_base.specs.declared.arena_id.ArenaId.{ArenaId}
-use Rattle.fm_base.specs.declared.refusal.Refusal.{Refusal}
-use Rattle.fm_base.specs.Arenas.{MayUse}
-use Rattle.fm_base.specs.Calls.{Entry}
-use Rattle.fm_base.specs.Outcomes.{Lasts}
-use Rattle.fm_base.specs.Does.{DoesEnter}
-use Rattle.fm_base.specs.View.{View, Did}
-use Rattle.fm_base.specs.Visits.{piece_width}
-use Rattle.fm_base.proofs.Outcomes.{Makes-lasts}
-use Rattle.fm_base_bytes.specs.Bytes.{bytes_of, number_of, lane}
-use Rattle.fm_base_bytes.proofs.Bytes.{length-bytes_of, lane-number_of}
-use Rattle.fm_segment_access.specs.Pieces.{PutsPiece, DoesPutPiece}
-use Rattle.fm_segment_access.specs.Ranges.{Putting, putting, PutsOn, EndsPutting, DoesPut, DoesPutBy}
+use Rattle.fm_base.specs.{declared.{caller.Caller.{Caller}, arena_id.ArenaId.{ArenaId}, refusal.Refusal.{Refusal}}, Arenas.{MayUse}, Calls.{Entry}}
+use Rattle.fm_base.{specs.{Outcomes.{Lasts}, Does.{DoesEnter}, View.{View, Did}, Visits.{piece_width}}, proofs.Outcomes.{Makes-lasts}}
+use Rattle.fm_base_bytes.{specs.Bytes.{bytes_of, number_of, lane}, proofs.Bytes.{length-bytes_of, lane-number_of}}
+use Rattle.fm_segment_access.specs.{Pieces.{PutsPiece, DoesPutPiece}, Ranges.{Putting, putting, PutsOn, EndsPutting, DoesPut, DoesPutBy}}
 use Rattle.fm_segment_access.proofs.Going.{Going, going_start, going_more, going_done, going_refused}
 
 -- ---- steps of any kind

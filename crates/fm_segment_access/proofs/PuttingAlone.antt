@@ -1,31 +1,15 @@
 -- What runs of visits that put bytes do to an arena, whichever the steps are.
 use Rattle.std.proofs.Common.{◌≡◌, inl, inr, ℕ, ◌+◌, ◌*◌, ◌/◌, ◌<◌, ◌≤◌, Bool, true, false, List, ◌++◌, length, take, drop, refl, sym, ap, subst, ◌∙◌, arith, length-append, ◌%◌, Ok, Err, None}
-use Rattle.std.proofs.lemmas.Bool.{cases_lt}
-use Rattle.std.proofs.lemmas.List.{drop_at, take-append-drop}
-use Rattle.std.proofs.lemmas.List.Elements.{All-drop}
-use Rattle.fm_base.specs.declared.caller.Caller.{Caller}
-use Rattle.fm_base.specs.declared.arena_id.ArenaId.{ArenaId}
-use Rattle.fm_base.specs.declared.refusal.Refusal.{Refusal}
-use Rattle.fm_base.specs.Arenas.{Alive, Arena, State, arena_of, has_arena, changed}
-use Rattle.fm_base.specs.Calls.{Entry}
-use Rattle.fm_base.specs.Histories.{IsLegal, state_after}
-use Rattle.fm_base.specs.Machine.{entered}
-use Rattle.fm_base.specs.View.{View, Did, IsByItself, inside_after}
-use Rattle.fm_base.specs.Visits.{Run, ends, goes_on, writes}
-use Rattle.fm_base.proofs.Faith.{Makes-alone}
-use Rattle.fm_base.proofs.Lookup.{changed_has}
-use Rattle.fm_base.proofs.Making.{IsLegal-split, state_after-append}
-use Rattle.fm_base.proofs.Running.{visit_ends_outside}
-use Rattle.fm_base_bytes.specs.Bytes.{AreBytes, number_of}
-use Rattle.fm_base_bytes.specs.Words.{bytes_in}
-use Rattle.fm_base_bytes.proofs.Words.{length-bytes_in}
+use Rattle.std.proofs.lemmas.{Bool.{cases_lt}, List.{drop_at, take-append-drop, Elements.{All-drop}}}
+use Rattle.fm_base.specs.declared.{caller.Caller.{Caller}, arena_id.ArenaId.{ArenaId}, refusal.Refusal.{Refusal}}
+use Rattle.fm_base.specs.{Arenas.{Alive, Arena, State, arena_of, has_arena, changed}, Calls.{Entry}, Histories.{IsLegal, state_after}, Machine.{entered}}
+use Rattle.fm_base.{specs.{View.{View, Did, IsByItself, inside_after}, Visits.{Run, ends, goes_on, writes}}, proofs.{Faith.{Makes-alone}, Lookup.{changed_has}}}
+use Rattle.fm_base.proofs.{Making.{IsLegal-split, state_after-append}, Running.{visit_ends_outside}}
+use Rattle.fm_base_bytes.{specs.{Bytes.{AreBytes, number_of}, Words.{bytes_in}}, proofs.Words.{length-bytes_in}}
 use Rattle.fm_segment_access.specs.Alone.{bytes_of_arena, with_bytes, ChangesBytes, StaysOut}
-use Rattle.fm_segment_access.specs.Ranges.{Putting, putting, PutsOn, EndsPutting, PutsBy, next_width, DoesPutBy}
-use Rattle.fm_segment_access.specs.Runs.{PutsWords, PutsMore}
-use Rattle.fm_segment_access.proofs.Alone.{Puts, puts_none, puts_both, there, bytes_there, is_part, changes, shut_out}
-use Rattle.fm_segment_access.proofs.Outside.{EndsOutside}
-use Rattle.fm_segment_access.proofs.Splicing.{with_bytes-twice, keeps_count}
-use Rattle.fm_segment_access.proofs.Visits.{VisitRefused, visit_refused, visit_is, visit_puts}
+use Rattle.fm_segment_access.specs.{Ranges.{Putting, putting, PutsOn, EndsPutting, PutsBy, next_width, DoesPutBy}, Runs.{PutsWords, PutsMore}}
+use Rattle.fm_segment_access.proofs.{Alone.{Puts, puts_none, puts_both, there, bytes_there, is_part, changes, shut_out}, Outside.{EndsOutside}}
+use Rattle.fm_segment_access.proofs.{Splicing.{with_bytes-twice, keeps_count}, Visits.{VisitRefused, visit_refused, visit_is, visit_puts}}
 use Rattle.fm_segment_access.proofs.Writing.{writes_leave}
 
 -- the bytes that are to be put, if any, lie within the arena

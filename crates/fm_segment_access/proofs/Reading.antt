@@ -1,6 +1,5 @@
 -- Bytes that are read as words, some at a time.
-use Rattle.std.proofs.Common.{◌≡◌, ℕ, ◌+◌, ◌-◌, ◌*◌, ◌<◌, ◌≤◌, List, ◌++◌, length, take, drop, ◌∙◌, arith}
-use Rattle.std.specs.Prelude.{slice_index}
+use Rattle.std.{proofs.Common.{◌≡◌, ℕ, ◌+◌, ◌-◌, ◌*◌, ◌<◌, ◌≤◌, List, ◌++◌, length, take, drop, ◌∙◌, arith}, specs.Prelude.{slice_index}}
 use Rattle.std.proofs.lemmas.List.{length-drop, take_at}
 use Rattle.byteorder.specs.Endian.{little_number}
 use Rattle.fm_base_bytes.specs.Words.{words_from}

@@ -1,8 +1,7 @@
 -- Bytes that are put among others.
 use Rattle.std.proofs.Common.{◌≡◌, ℕ, ◌+◌, ◌-◌, ◌≤◌, inl, inr, List, [], ◌++◌, length, take, drop, refl, sym, ap, ◌∙◌, arith, append_assoc, length-append, length-drop}
 use Rattle.std.proofs.lemmas.List.{take_at, drop_at, drop-drop, drop-append-le, take-append-le, length-take-le, take-append-drop}
-use Rattle.fm_base_bytes.specs.Bytes.{bytes_of, number_of}
-use Rattle.fm_base_bytes.proofs.Bytes.{length-bytes_of, number_of-bytes_of_mod}
+use Rattle.fm_base_bytes.{specs.Bytes.{bytes_of, number_of}, proofs.Bytes.{length-bytes_of, number_of-bytes_of_mod}}
 use Rattle.fm_segment_access.specs.Alone.{with_bytes, GetsWhatWasPut, KeepsBytesElsewhere, KeepsLength}
 
 -- No byte is put.

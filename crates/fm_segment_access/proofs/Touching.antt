@@ -1,14 +1,7 @@
 -- Pieces of the bytes that a call may touch.
 use Rattle.std.proofs.Common.{◌≡◌, ℕ, ◌+◌, ◌%◌, ◌≤◌, List, true, Some, None, Ok, subst, arith}
-use Rattle.fm_base.specs.declared.arena_id.ArenaId.{ArenaId}
-use Rattle.fm_base.specs.Arenas.{has_arena, MayUse}
-use Rattle.fm_base.specs.Calls.{Entry}
-use Rattle.fm_base.specs.Does.{DidEnter}
-use Rattle.fm_base.specs.Learnt.{AfterLeave}
-use Rattle.fm_base.specs.Outcomes.{Lasts}
-use Rattle.fm_base.specs.View.{View, Makes, Did, given_in}
-use Rattle.fm_base.specs.Visits.{Acts, entries_of, visit}
-use Rattle.fm_base.proofs.Outcomes.{Did-lasts}
+use Rattle.fm_base.specs.{declared.arena_id.ArenaId.{ArenaId}, Arenas.{has_arena, MayUse}, Calls.{Entry}, Does.{DidEnter}, Learnt.{AfterLeave}}
+use Rattle.fm_base.{specs.{Outcomes.{Lasts}, View.{View, Makes, Did, given_in}, Visits.{Acts, entries_of, visit}}, proofs.Outcomes.{Did-lasts}}
 use Rattle.fm_base.proofs.Visiting.{entered_makes, visit_of_inside}
 use Rattle.fm_segment_access.specs.Learnt.{CanTouch, CanTouchPiece, Visited}
 

@@ -1,32 +1,17 @@
 -- Values of a kind, from accesses to their bytes.
 use Rattle.std.proofs.Common.{◌≡◌, ℕ, ◌+◌, ◌*◌, ◌^◌, ◌<◌, ◌≤◌, true, Some, Ok, List, length, take, drop, refl, sym, ap, subst, ◌∙◌, arith, length-append}
-use Rattle.std.proofs.lemmas.List.{length-reverse, reverse-reverse}
-use Rattle.std.proofs.lemmas.List.Elements.{All-append, All-nil}
-use Rattle.fm_base.specs.declared.caller.Caller.{Caller}
-use Rattle.fm_base.specs.declared.arena_id.ArenaId.{ArenaId}
-use Rattle.fm_base.specs.Arenas.{has_arena}
-use Rattle.fm_base.specs.Calls.{Entry}
-use Rattle.fm_base.specs.View.{View, Did, IsByItself}
+use Rattle.std.proofs.lemmas.List.{length-reverse, reverse-reverse, Elements.{All-append, All-nil}}
+use Rattle.fm_base.specs.{declared.{caller.Caller.{Caller}, arena_id.ArenaId.{ArenaId}}, Arenas.{has_arena}, Calls.{Entry}, View.{View, Did, IsByItself}}
 use Rattle.fm_base.specs.Visits.{piece_width}
 use Rattle.fm_base_bytes.specs.Bytes.{AreBytes, bytes_of, number_of}
 use Rattle.fm_base_bytes.proofs.Bytes.{AreBytes-bytes_of, length-bytes_of, bytes_of-number_of, number_of-bytes_of, number_of-lt}
-use Rattle.fm_lanes.specs.declared.order.Order.{Order}
-use Rattle.fm_lanes.specs.declared.order.Order.TheVariants.{Little, Big}
-use Rattle.fm_lanes.specs.declared.value.Value.{Value}
-use Rattle.fm_lanes.specs.declared.value_kind.ValueKind.{ValueKind}
+use Rattle.fm_lanes.specs.declared.{order.Order.{Order, TheVariants.{Little, Big}}, value.Value.{Value}, value_kind.ValueKind.{ValueKind}}
+use Rattle.fm_lanes.specs.{Coding.{decoded, encoded, turned, lowest_first, value_of, bytes_of_value}, Kind.{width_of}, Value.{kind_of}}
+use Rattle.fm_lanes.proofs.{Meaning.{width_of-bounds}, Turning.{AreBytes-reverse, turned_number, bytes_of-turned_order}}
 use Rattle.fm_lanes.specs.declared.value_kind.ValueKind.TheVariants as kind
-use Rattle.fm_lanes.specs.Coding.{decoded, encoded, turned, lowest_first, value_of, bytes_of_value}
-use Rattle.fm_lanes.specs.Kind.{width_of}
-use Rattle.fm_lanes.specs.Value.{kind_of}
-use Rattle.fm_lanes.proofs.Meaning.{width_of-bounds}
-use Rattle.fm_lanes.proofs.Turning.{AreBytes-reverse, turned_number, bytes_of-turned_order}
-use Rattle.fm_segment_access.specs.Alone.{bytes_of_arena, with_bytes}
-use Rattle.fm_segment_access.specs.Ranges.{Reading, ReadsOn, ReadsRange, DoesGet, DoesPut}
-use Rattle.fm_segment_access.specs.Values.{DoesGetValue, PutsValue, PutsThenGets}
-use Rattle.fm_segment_access.proofs.Alone.{changes}
-use Rattle.fm_segment_access.proofs.Going.{run_ends}
-use Rattle.fm_segment_access.proofs.PuttingAlone.{pieces_put, puts_alone}
-use Rattle.fm_segment_access.proofs.Splicing.{takes_put}
+use Rattle.fm_segment_access.specs.{Alone.{bytes_of_arena, with_bytes}, Ranges.{Reading, ReadsOn, ReadsRange, DoesGet, DoesPut}}
+use Rattle.fm_segment_access.{specs.Values.{DoesGetValue, PutsValue, PutsThenGets}, proofs.{Alone.{changes}, Going.{run_ends}}}
+use Rattle.fm_segment_access.proofs.{PuttingAlone.{pieces_put, puts_alone}, Splicing.{takes_put}}
 
 -- ---- the bytes that were read
 

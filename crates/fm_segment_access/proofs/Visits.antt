@@ -1,23 +1,14 @@
 -- What one visit of the only caller does to the bytes of an arena.
 use Rattle.std.proofs.Common.{◌≡◌, ℕ, ◌+◌, ◌*◌, ◌/◌, ◌%◌, ◌^◌, ◌<◌, ◌≤◌, ◌==◌, suc, true, false, List, [], ◌∷◌, ◌++◌, length, take, drop, slice_index, slice_set, refl, sym, ap, subst, ◌∙◌, arith}
-use Rattle.std.specs.Prelude.{Contains, filter, not}
-use Rattle.std.proofs.lemmas.Bool.{eq-eqb, ne_eqb}
-use Rattle.fm_base.specs.declared.caller.Caller.{Caller}
-use Rattle.fm_base.specs.declared.arena_id.ArenaId.{ArenaId}
+use Rattle.std.{specs.Prelude.{Contains, filter, not}, proofs.lemmas.Bool.{eq-eqb, ne_eqb}}
+use Rattle.fm_base.specs.declared.{caller.Caller.{Caller}, arena_id.ArenaId.{ArenaId}}
 use Rattle.fm_base.specs.Arenas.{are_one, Life, Alive, State, Arena, arena_of, has_arena, changed, word_in}
-use Rattle.fm_base.specs.Calls.{Read, Leave, Fine, Found, Closed, Entry, entry_of}
-use Rattle.fm_base.specs.Machine.{entered, left, written, enter_reply}
-use Rattle.fm_base.specs.Histories.{IsLegal, state_after}
-use Rattle.fm_base.specs.Visits.{Acts, entries_of, visit, refused_visit, Tries, looked, missed, hit}
-use Rattle.fm_base.proofs.Names.{are_one-self, are_one-not}
-use Rattle.fm_base.proofs.Lookup.{changed_twice, changed_same, changed_alike, lookup_changed, swapped_hit, swapped_miss}
-use Rattle.fm_base.proofs.Making.{IsLegal-split, state_after-append}
-use Rattle.fm_base.proofs.Placing.{there_by_way}
-use Rattle.fm_base_bytes.specs.Bytes.{bytes_of, lane, replaced}
-use Rattle.fm_base_bytes.specs.Words.{bytes_in}
-use Rattle.fm_base_bytes.proofs.Words.{bytes_in-lane, bytes_in-set, bytes_in-replaced}
-use Rattle.fm_segment_access.specs.Alone.{bytes_of_arena, with_words}
-use Rattle.fm_segment_access.specs.Pieces.{ReadsPiece, PutsBytes, whole, narrow, PutsPiece}
+use Rattle.fm_base.specs.{Calls.{Read, Leave, Fine, Found, Closed, Entry, entry_of}, Machine.{entered, left, written, enter_reply}}
+use Rattle.fm_base.specs.{Histories.{IsLegal, state_after}, Visits.{Acts, entries_of, visit, refused_visit, Tries, looked, missed, hit}}
+use Rattle.fm_base.proofs.{Names.{are_one-self, are_one-not}, Lookup.{changed_twice, changed_same, changed_alike, lookup_changed, swapped_hit, swapped_miss}}
+use Rattle.fm_base.proofs.{Making.{IsLegal-split, state_after-append}, Placing.{there_by_way}}
+use Rattle.fm_base_bytes.{specs.{Bytes.{bytes_of, lane, replaced}, Words.{bytes_in}}, proofs.Words.{bytes_in-lane, bytes_in-set, bytes_in-replaced}}
+use Rattle.fm_segment_access.specs.{Alone.{bytes_of_arena, with_words}, Pieces.{ReadsPiece, PutsBytes, whole, narrow, PutsPiece}}
 
 -- Numbers that differ, by the test.
 pub not_same : (a b : ℕ) → ¬ (a ≡ b) → (a == b) ≡ false

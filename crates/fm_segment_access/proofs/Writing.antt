@@ -1,27 +1,13 @@
 -- What a Write of each of some words does to an arena.
 use Rattle.std.proofs.Common.{◌≡◌, inl, inr, ℕ, zero, suc, ◌+◌, ◌-◌, ◌*◌, ◌/◌, ◌%◌, ◌<◌, ◌≤◌, true, List, [], ◌∷◌, ◌++◌, length, take, drop, slice_set, length-set, refl, sym, ap, ◌∙◌, arith}
-use Rattle.std.proofs.lemmas.Bool.{cases_lt}
-use Rattle.std.proofs.lemmas.List.{length-drop, length-take-le, take-append-drop}
-use Rattle.std.proofs.lemmas.List.Elements.{All-take, All-drop}
-use Rattle.fm_base.specs.declared.caller.Caller.{Caller}
-use Rattle.fm_base.specs.declared.arena_id.ArenaId.{ArenaId}
-use Rattle.fm_base.specs.Arenas.{State, Arena, arena_of, has_arena, changed}
-use Rattle.fm_base.specs.Calls.{Entry}
-use Rattle.fm_base.specs.Machine.{written}
-use Rattle.fm_base.specs.Histories.{IsLegal, state_after}
-use Rattle.fm_base.specs.Visits.{entries_of, visit, writes}
+use Rattle.std.proofs.{lemmas.{Bool.{cases_lt}, List.{length-drop, length-take-le, take-append-drop, Elements.{All-take, All-drop}}}, Math.Seq.{take-add}}
+use Rattle.fm_base.specs.{declared.{caller.Caller.{Caller}, arena_id.ArenaId.{ArenaId}}, Arenas.{State, Arena, arena_of, has_arena, changed}, Calls.{Entry}}
+use Rattle.fm_base.specs.{Machine.{written}, Histories.{IsLegal, state_after}, Visits.{entries_of, visit, writes}}
 use Rattle.fm_base.proofs.Lookup.{changed_has, lookup_changed}
-use Rattle.fm_base_bytes.specs.Bytes.{AreBytes, bytes_of, number_of}
-use Rattle.fm_base_bytes.specs.Words.{bytes_in, words_from}
-use Rattle.fm_base_bytes.proofs.Bytes.{bytes_of-number_of, length-bytes_of}
+use Rattle.fm_base_bytes.{specs.{Bytes.{AreBytes, bytes_of, number_of}, Words.{bytes_in, words_from}}, proofs.Bytes.{bytes_of-number_of, length-bytes_of}}
 use Rattle.fm_base_bytes.proofs.Words.{bytes_in-set, length-bytes_in, length-words_from}
-use Rattle.std.proofs.Math.Seq.{take-add}
-use Rattle.fm_segment_access.specs.Alone.{bytes_of_arena, with_bytes}
-use Rattle.fm_segment_access.specs.Ranges.{putting}
-use Rattle.fm_segment_access.specs.Runs.{PutsWords}
-use Rattle.fm_segment_access.proofs.Alone.{Puts, puts_none, puts_both}
-use Rattle.fm_segment_access.proofs.Splicing.{with_bytes-twice}
-use Rattle.fm_segment_access.proofs.Visits.{written_is}
+use Rattle.fm_segment_access.{specs.{Alone.{bytes_of_arena, with_bytes}, Ranges.{putting}, Runs.{PutsWords}}, proofs.Alone.{Puts, puts_none, puts_both}}
+use Rattle.fm_segment_access.proofs.{Splicing.{with_bytes-twice}, Visits.{written_is}}
 
 -- The bytes of the first words of bytes are the first bytes.
 bytes_in-first : (count : ℕ) (bytes : List ℕ) → AreBytes bytes → 8 * count ≤ length bytes → bytes_in (words_from count bytes) ≡ take (8 * count) bytes

@@ -1,10 +1,7 @@
 -- What the only caller of a memory sees of the bytes of its arenas, and where its calls are refused.
 use Rattle.std.specs.Prelude.{◌≡◌, ◌≢◌, ◌⊎◌, ℕ, ◌+◌, ◌*◌, ◌%◌, ◌^◌, ◌≤◌, List, ◌++◌, length, take, drop}
-use Rattle.fm_base.specs.declared.arena_id.ArenaId.{ArenaId}
-use Rattle.fm_base.specs.Arenas.{Alive, Arena, State, arena_of, changed, MayUse}
-use Rattle.fm_base.specs.View.{View}
-use Rattle.fm_base_bytes.specs.Bytes.{bytes_of, number_of}
-use Rattle.fm_base_bytes.specs.Words.{bytes_in}
+use Rattle.fm_base.specs.{declared.arena_id.ArenaId.{ArenaId}, Arenas.{Alive, Arena, State, arena_of, changed, MayUse}, View.{View}}
+use Rattle.fm_base_bytes.specs.{Bytes.{bytes_of, number_of}, Words.{bytes_in}}
 
 -- all bytes of an arena, the lowest place first
 abbrev pub bytes_of_arena : State → ArenaId → List ℕ

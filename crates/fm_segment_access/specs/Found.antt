@@ -1,11 +1,7 @@
 -- Accesses at a place that is found first: what they do, and why they are refused.
 use Rattle.std.specs.Prelude.{◌≡◌, ℕ, ◌+◌, ◌%◌, ◌≤◌, Bool, true, false, List, [], Result, Ok, Err, if◌then◌else◌, nat_eq, nat_le}
-use Rattle.fm_base.specs.declared.caller.Caller.{Caller}
-use Rattle.fm_base.specs.declared.arena_id.ArenaId.{ArenaId}
-use Rattle.fm_base.specs.declared.refusal.Refusal.{Refusal}
-use Rattle.fm_base.specs.declared.refusal.Refusal.TheVariants.{Bounds, Misaligned, ReadOnly, Unsupported, WrongThread, Closed}
-use Rattle.fm_base.specs.Arenas.{MayUse}
-use Rattle.fm_base.specs.Calls.{Entry}
+use Rattle.fm_base.specs.declared.{caller.Caller.{Caller}, arena_id.ArenaId.{ArenaId}, refusal.Refusal.{Refusal}}
+use Rattle.fm_base.specs.{declared.refusal.Refusal.TheVariants.{Bounds, Misaligned, ReadOnly, Unsupported, WrongThread, Closed}, Arenas.{MayUse}, Calls.{Entry}}
 use Rattle.fm_base.specs.View.{View}
 use Rattle.fm_segment_access.specs.Alone.{StaysOut}
 

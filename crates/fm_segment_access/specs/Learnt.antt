@@ -1,20 +1,10 @@
 -- What accesses ask for, and what their caller learns: one record each.
 use Rattle.std.specs.Prelude.{◌≡◌, ℕ, ◌+◌, ◌*◌, ◌%◌, ◌^◌, ◌<◌, ◌≤◌, true, None, Result, IfOk, IfErr, OnErr, List, length, replicate, ⊤}
-use Rattle.fm_base.specs.declared.arena_id.ArenaId.{ArenaId}
-use Rattle.fm_base.specs.declared.refusal.Refusal.{Refusal}
-use Rattle.fm_base.specs.Arenas.{has_arena}
-use Rattle.fm_base.specs.Calls.{Entry}
-use Rattle.fm_base.specs.Outcomes.{Lasts}
+use Rattle.fm_base.specs.{declared.{arena_id.ArenaId.{ArenaId}, refusal.Refusal.{Refusal}}, Arenas.{has_arena}, Calls.{Entry}, Outcomes.{Lasts}}
 use Rattle.fm_base.specs.View.{View, Did, given_in, IsByItself}
-use Rattle.fm_lanes.specs.declared.order.Order.{Order}
-use Rattle.fm_lanes.specs.declared.value.Value.{Value}
-use Rattle.fm_lanes.specs.declared.value_kind.ValueKind.{ValueKind}
-use Rattle.fm_lanes.specs.Value.{kind_of}
-use Rattle.fm_segment_access.specs.Alone.{FindsNumber, ChangesBytes, StaysOut}
-use Rattle.fm_segment_access.specs.Found.{UseCause}
-use Rattle.fm_segment_access.specs.Ranges.{DoesGet, DoesPut, DoesPutBy, DoesSome}
-use Rattle.fm_segment_access.specs.Runs.{PutsMore}
-use Rattle.fm_segment_access.specs.Values.{DoesGetValue, DoesPutValue, FindsValue, PutsValue}
+use Rattle.fm_lanes.specs.{declared.{order.Order.{Order}, value.Value.{Value}, value_kind.ValueKind.{ValueKind}}, Value.{kind_of}}
+use Rattle.fm_segment_access.specs.{Alone.{FindsNumber, ChangesBytes, StaysOut}, Found.{UseCause}, Ranges.{DoesGet, DoesPut, DoesPutBy, DoesSome}}
+use Rattle.fm_segment_access.specs.{Runs.{PutsMore}, Values.{DoesGetValue, DoesPutValue, FindsValue, PutsValue}}
 
 -- in no arena; the arena is known, and has given the bytes from the place on
 pub record CanTouch (v : View) (id : ArenaId) (place size : ℕ) : Type 0 where

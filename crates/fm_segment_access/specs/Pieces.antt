@@ -1,12 +1,7 @@
 -- Visits that read or put one piece: bytes of an arena that lie in one word.
 use Rattle.std.specs.Prelude.{◌≡◌, ℕ, ◌/◌, ◌%◌, ◌<◌, List, [], ◌∷◌, Result, Ok, Err}
-use Rattle.fm_base.specs.declared.caller.Caller.{Caller}
-use Rattle.fm_base.specs.declared.arena_id.ArenaId.{ArenaId}
-use Rattle.fm_base.specs.declared.refusal.Refusal.{Refusal}
-use Rattle.fm_base.specs.Arenas.{MayUse}
-use Rattle.fm_base.specs.Calls.{Read, Write, Fine, Found, Entry}
-use Rattle.fm_base.specs.Visits.{Acts, entries_of, visit, Tries}
-use Rattle.fm_base.specs.Does.{DoesEnter}
+use Rattle.fm_base.specs.{declared.{caller.Caller.{Caller}, arena_id.ArenaId.{ArenaId}, refusal.Refusal.{Refusal}}, Arenas.{MayUse}}
+use Rattle.fm_base.specs.{Calls.{Read, Write, Fine, Found, Entry}, Visits.{Acts, entries_of, visit, Tries}, Does.{DoesEnter}}
 use Rattle.fm_base_bytes.specs.Bytes.{lane, replaced}
 
 -- one visit with one Read of the word, whose `width` bytes from the place on make v

@@ -1,12 +1,7 @@
 -- Calls on a range of bytes of an arena: a run of visits, one a piece, the lowest place first.
 use Rattle.std.specs.Prelude.{◌≡◌, ℕ, ◌+◌, ◌<◌, Bool, true, false, List, [], ◌++◌, length, take, drop, replicate, MatchBool, ◌==◌, Option, Some, None, Result, Ok, Err}
-use Rattle.fm_base.specs.declared.caller.Caller.{Caller}
-use Rattle.fm_base.specs.declared.arena_id.ArenaId.{ArenaId}
-use Rattle.fm_base.specs.declared.refusal.Refusal.{Refusal}
-use Rattle.fm_base.specs.declared.refusal.Refusal.TheVariants.{Closed, WrongThread}
-use Rattle.fm_base.specs.Arenas.{MayUse}
-use Rattle.fm_base.specs.Calls.{Entry}
-use Rattle.fm_base.specs.Visits.{refused_visit, piece_width, Run}
+use Rattle.fm_base.specs.declared.{caller.Caller.{Caller}, arena_id.ArenaId.{ArenaId}, refusal.Refusal.{Refusal, TheVariants.{Closed, WrongThread}}}
+use Rattle.fm_base.specs.{Arenas.{MayUse}, Calls.{Entry}, Visits.{refused_visit, piece_width, Run}}
 use Rattle.fm_base_bytes.specs.Bytes.{bytes_of, number_of}
 use Rattle.fm_segment_access.specs.Pieces.{ReadsPiece, PutsPiece}
 

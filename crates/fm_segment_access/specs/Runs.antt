@@ -1,12 +1,7 @@
 -- Putting many bytes: a run of visits, the lowest place first, of which one puts all the whole words.
 use Rattle.std.specs.Prelude.{◌≡◌, ◌⊎◌, ℕ, ◌+◌, ◌*◌, ◌/◌, ◌%◌, ◌<◌, List, ◌++◌, length, drop, Result, Ok, Err}
-use Rattle.fm_base.specs.declared.caller.Caller.{Caller}
-use Rattle.fm_base.specs.declared.arena_id.ArenaId.{ArenaId}
-use Rattle.fm_base.specs.declared.refusal.Refusal.{Refusal}
-use Rattle.fm_base.specs.Arenas.{MayUse}
-use Rattle.fm_base.specs.Calls.{Entry}
-use Rattle.fm_base.specs.Does.{DoesEnter}
-use Rattle.fm_base.specs.Visits.{visit, writes}
+use Rattle.fm_base.specs.{declared.{caller.Caller.{Caller}, arena_id.ArenaId.{ArenaId}, refusal.Refusal.{Refusal}}, Arenas.{MayUse}, Calls.{Entry}}
+use Rattle.fm_base.specs.{Does.{DoesEnter}, Visits.{visit, writes}}
 use Rattle.fm_base_bytes.specs.Words.{bytes_in, words_from}
 use Rattle.fm_segment_access.specs.Ranges.{Putting, PutsOn, DoesPutBy, DoesSome}
 

@@ -1,18 +1,9 @@
 -- A value of a kind at a place: its bytes, in either order.
 use Rattle.std.specs.Prelude.{◌≡◌, ℕ, ◌+◌, ◌≤◌, List, length, take, drop, Result}
-use Rattle.fm_base.specs.declared.caller.Caller.{Caller}
-use Rattle.fm_base.specs.declared.arena_id.ArenaId.{ArenaId}
-use Rattle.fm_base.specs.declared.refusal.Refusal.{Refusal}
-use Rattle.fm_base.specs.Calls.{Entry}
-use Rattle.fm_base.specs.Arenas.{State}
-use Rattle.fm_base.specs.View.{View}
-use Rattle.fm_lanes.specs.declared.order.Order.{Order}
-use Rattle.fm_lanes.specs.declared.value.Value.{Value}
-use Rattle.fm_lanes.specs.declared.value_kind.ValueKind.{ValueKind}
-use Rattle.fm_lanes.specs.Coding.{value_of, bytes_of_value}
+use Rattle.fm_base.specs.{declared.{caller.Caller.{Caller}, arena_id.ArenaId.{ArenaId}, refusal.Refusal.{Refusal}}, Calls.{Entry}, Arenas.{State}, View.{View}}
+use Rattle.fm_lanes.specs.{declared.{order.Order.{Order}, value.Value.{Value}, value_kind.ValueKind.{ValueKind}}, Coding.{value_of, bytes_of_value}}
 use Rattle.fm_lanes.specs.Kind.{width_of}
-use Rattle.fm_segment_access.specs.Alone.{bytes_of_arena, FindsAs, ChangesBytes}
-use Rattle.fm_segment_access.specs.Ranges.{DoesRead, DoesPut}
+use Rattle.fm_segment_access.specs.{Alone.{bytes_of_arena, FindsAs, ChangesBytes}, Ranges.{DoesRead, DoesPut}}
 
 abbrev pub DoesGetValue : Caller → ValueKind → Order → ArenaId → ℕ → Result Value Refusal → List Entry → Type 0
 DoesGetValue c k o id place = DoesRead (value_of k o) c id place (width_of k)

@@ -1,19 +1,11 @@
 -- A comparison, as far as it has come.
 use Rattle.std.proofs.Common.{◌≡◌, ℕ, ◌+◌, ◌-◌, ◌<◌, [], ◌++◌, arith, refl, subst, Option, Some, None, Ok, Err}
-use Rattle.fm_base.specs.declared.caller.Caller.{Caller}
-use Rattle.fm_base.specs.declared.refusal.Refusal.{Refusal}
-use Rattle.fm_base.specs.declared.refusal.Refusal.TheVariants.{Closed}
-use Rattle.fm_base.specs.View.{View, Did}
+use Rattle.fm_base.specs.{declared.{caller.Caller.{Caller}, refusal.Refusal.{Refusal, TheVariants.{Closed}}}, View.{View, Did}}
 use Rattle.fm_base.proofs.Making.{Makes-then, Makes-none}
-use Rattle.fm_segment_access.specs.Pieces.{ReadsPiece, DoesGetPiece}
-use Rattle.fm_segment_access.proofs.Touching.{said}
-use Rattle.fm_segment_copies.specs.declared.side.Side.{Side}
-use Rattle.fm_segment_copies.specs.declared.side.Piece.{Piece}
-use Rattle.fm_segment_copies.specs.declared.side.Way.TheVariants.{Up}
-use Rattle.fm_segment_copies.specs.Sides.{next_piece}
+use Rattle.fm_segment_access.{specs.Pieces.{ReadsPiece, DoesGetPiece}, proofs.Touching.{said}}
+use Rattle.fm_segment_copies.specs.{declared.side.{Side.{Side}, Piece.{Piece}, Way.TheVariants.{Up}}, Sides.{next_piece}}
 use Rattle.fm_segment_copies.specs.Comparisons.{IsDifference, ComparesPiece, DoesComparePiece, AgreesOn, EndsComparing, Compares, DoesCompare}
-use Rattle.fm_segment_copies.proofs.Stopping.{stops_same}
-use Rattle.fm_segment_copies.proofs.Touching.{IsUnderWay, way_goes_on, way_ends}
+use Rattle.fm_segment_copies.proofs.{Stopping.{stops_same}, Touching.{IsUnderWay, way_goes_on, way_ends}}
 
 -- ---- one piece
 

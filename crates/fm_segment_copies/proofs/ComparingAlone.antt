@@ -1,26 +1,14 @@
 -- What the only caller finds by a comparison.
 use Rattle.std.proofs.Common.{◌≡◌, ℕ, ◌+◌, ◌-◌, ◌≤◌, List, ◌++◌, length, take, drop, refl, sym, ap, ◌∙◌, arith, Option, Some, None, Ok}
-use Rattle.std.proofs.lemmas.List.{drop-drop}
-use Rattle.std.proofs.Math.Seq.{take-add}
-use Rattle.fm_base.specs.declared.caller.Caller.{Caller}
-use Rattle.fm_base.specs.Arenas.{State}
-use Rattle.fm_base.specs.Calls.{Entry}
-use Rattle.fm_base.specs.Histories.{IsLegal, state_after}
-use Rattle.fm_base.specs.View.{View, Did, IsByItself}
-use Rattle.fm_base.specs.Visits.{Run, ends, goes_on}
-use Rattle.fm_base.proofs.Faith.{Makes-alone}
-use Rattle.fm_base_bytes.specs.Bytes.{bytes_of}
-use Rattle.fm_base_bytes.proofs.Bytes.{length-bytes_of}
-use Rattle.fm_segment_access.specs.Alone.{bytes_of_arena}
-use Rattle.fm_segment_access.proofs.Visits.{visit_reads}
-use Rattle.fm_segment_copies.specs.declared.side.Side.{Side}
-use Rattle.fm_segment_copies.specs.declared.side.Piece.{Piece}
-use Rattle.fm_segment_copies.specs.declared.side.Way.TheVariants.{Up}
-use Rattle.fm_segment_copies.specs.Sides.{IsPieceAt, next_piece}
+use Rattle.std.proofs.{lemmas.List.{drop-drop}, Math.Seq.{take-add}}
+use Rattle.fm_base.specs.{declared.caller.Caller.{Caller}, Arenas.{State}, Calls.{Entry}, Histories.{IsLegal, state_after}, View.{View, Did, IsByItself}}
+use Rattle.fm_base.{specs.Visits.{Run, ends, goes_on}, proofs.Faith.{Makes-alone}}
+use Rattle.fm_base_bytes.{specs.Bytes.{bytes_of}, proofs.Bytes.{length-bytes_of}}
+use Rattle.fm_segment_access.{specs.Alone.{bytes_of_arena}, proofs.Visits.{visit_reads}}
+use Rattle.fm_segment_copies.specs.{declared.side.{Side.{Side}, Piece.{Piece}, Way.TheVariants.{Up}}, Sides.{IsPieceAt, next_piece}}
 use Rattle.fm_segment_copies.specs.Comparisons.{IsDifference, ComparesPiece, AgreesOn, EndsComparing, Compares, DoesCompare}
 use Rattle.fm_segment_copies.specs.Alone.{first_difference, FindsDifference}
-use Rattle.fm_segment_copies.proofs.Differences.{later, later-none, later-later, first_difference-append, differs_at}
-use Rattle.fm_segment_copies.proofs.Fitting.{next_piece_fits}
+use Rattle.fm_segment_copies.proofs.{Differences.{later, later-none, later-later, first_difference-append, differs_at}, Fitting.{next_piece_fits}}
 use Rattle.fm_segment_copies.proofs.Refusing.{AreAlive, AreShut, both_legal, piece_refused}
 
 -- the bytes of the side from this offset on

@@ -1,20 +1,10 @@
 -- A copy, as far as it has come.
 use Rattle.std.proofs.Common.{◌≡◌, ℕ, ◌+◌, ◌-◌, ◌<◌, List, [], ◌++◌, None, arith, refl, subst, Bool, true, false, Result, Ok, Err}
-use Rattle.fm_base.specs.declared.caller.Caller.{Caller}
-use Rattle.fm_base.specs.declared.refusal.Refusal.{Refusal}
-use Rattle.fm_base.specs.declared.refusal.Refusal.TheVariants.{Closed}
-use Rattle.fm_base.specs.Arenas.{MayUse}
-use Rattle.fm_base.specs.Calls.{Entry}
-use Rattle.fm_base.specs.View.{View, Did}
+use Rattle.fm_base.specs.{declared.{caller.Caller.{Caller}, refusal.Refusal.{Refusal, TheVariants.{Closed}}}, Arenas.{MayUse}, Calls.{Entry}, View.{View, Did}}
 use Rattle.fm_base.proofs.Making.{Makes-then, Makes-none}
-use Rattle.fm_segment_access.specs.Pieces.{PutsPiece, DoesGetPiece, DoesPutPiece}
-use Rattle.fm_segment_access.proofs.Touching.{said}
-use Rattle.fm_segment_copies.specs.declared.side.Side.{Side}
-use Rattle.fm_segment_copies.specs.declared.side.Piece.{Piece}
-use Rattle.fm_segment_copies.specs.declared.side.Way.{Way}
-use Rattle.fm_segment_copies.specs.Sides.{IsWay, next_piece}
-use Rattle.fm_segment_copies.specs.Copies.{CopiesPiece, DoesCopyPiece, CopiesOn, EndsCopy, Copies, DoesCopy}
-use Rattle.fm_segment_copies.proofs.Stopping.{stopped_second, stops_same}
+use Rattle.fm_segment_access.{specs.Pieces.{PutsPiece, DoesGetPiece, DoesPutPiece}, proofs.Touching.{said}}
+use Rattle.fm_segment_copies.specs.{declared.side.{Side.{Side}, Piece.{Piece}, Way.{Way}}, Sides.{IsWay, next_piece}}
+use Rattle.fm_segment_copies.{specs.Copies.{CopiesPiece, DoesCopyPiece, CopiesOn, EndsCopy, Copies, DoesCopy}, proofs.Stopping.{stopped_second, stops_same}}
 use Rattle.fm_segment_copies.proofs.Touching.{IsUnderWay, way_goes_on, way_ends}
 
 -- ---- one piece

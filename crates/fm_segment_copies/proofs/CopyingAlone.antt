@@ -1,33 +1,16 @@
 -- What the only caller leaves by a copy.
 use Rattle.std.proofs.Common.{◌≡◌, ◌≢◌, ◌⊎◌, inl, inr, ℕ, ◌+◌, ◌-◌, ◌*◌, ◌%◌, ◌^◌, ◌<◌, ◌≤◌, Bool, true, false, List, [], ◌++◌, length, take, drop, refl, sym, ap, subst, ◌∙◌, arith, Ok}
-use Rattle.std.proofs.lemmas.Bool.{cases_lt}
-use Rattle.std.proofs.lemmas.List.{length-drop, length-take-le}
-use Rattle.fm_base.specs.declared.caller.Caller.{Caller}
-use Rattle.fm_base.specs.declared.arena_id.ArenaId.{ArenaId}
-use Rattle.fm_base.specs.Arenas.{Arena, State, arena_of, has_arena, same_id}
-use Rattle.fm_base.specs.Calls.{Entry}
-use Rattle.fm_base.specs.Histories.{IsLegal, state_after}
-use Rattle.fm_base.specs.View.{View, Did, IsByItself}
-use Rattle.fm_base.specs.Visits.{Run, ends, goes_on, first_width, last_width}
-use Rattle.fm_base.proofs.Faith.{Makes-alone}
-use Rattle.fm_base.proofs.Lookup.{changed_lookup}
-use Rattle.fm_base.proofs.Making.{IsLegal-split, state_after-append}
-use Rattle.fm_base.proofs.Names.{same_id-self, same_id-true}
-use Rattle.fm_base_bytes.proofs.Bytes.{length-bytes_of, lane-lt}
-use Rattle.fm_base_bytes.proofs.Words.{length-bytes_in}
+use Rattle.std.proofs.lemmas.{Bool.{cases_lt}, List.{length-drop, length-take-le}}
+use Rattle.fm_base.specs.{declared.{caller.Caller.{Caller}, arena_id.ArenaId.{ArenaId}}, Arenas.{Arena, State, arena_of, has_arena, same_id}, Calls.{Entry}}
+use Rattle.fm_base.specs.{Histories.{IsLegal, state_after}, View.{View, Did, IsByItself}, Visits.{Run, ends, goes_on, first_width, last_width}}
+use Rattle.fm_base.proofs.{Faith.{Makes-alone}, Lookup.{changed_lookup}, Making.{IsLegal-split, state_after-append}, Names.{same_id-self, same_id-true}}
+use Rattle.fm_base_bytes.proofs.{Bytes.{length-bytes_of, lane-lt}, Words.{length-bytes_in}}
 use Rattle.fm_segment_access.specs.Alone.{bytes_of_arena, with_bytes, with_words}
-use Rattle.fm_segment_access.proofs.Alone.{Puts, puts_none, puts_both, bytes_there, other_bytes, changes}
-use Rattle.fm_segment_access.proofs.Splicing.{keeps_elsewhere}
+use Rattle.fm_segment_access.proofs.{Alone.{Puts, puts_none, puts_both, bytes_there, other_bytes, changes}, Splicing.{keeps_elsewhere}}
 use Rattle.fm_segment_access.proofs.Visits.{visit_reads, visit_puts}
-use Rattle.fm_segment_copies.specs.declared.side.Side.{Side}
-use Rattle.fm_segment_copies.specs.declared.side.Piece.{Piece}
-use Rattle.fm_segment_copies.specs.declared.side.Way.{Way}
-use Rattle.fm_segment_copies.specs.declared.side.Way.TheVariants.{Up, Down}
-use Rattle.fm_segment_copies.specs.Alone.{bytes_at, TakesBytes}
-use Rattle.fm_segment_copies.specs.Sides.{IsWay, IsPieceAt, next_piece}
-use Rattle.fm_segment_copies.specs.Copies.{CopiesPiece, CopiesOn, EndsCopy, Copies, DoesCopy}
-use Rattle.fm_segment_copies.proofs.Fitting.{next_piece_fits}
-use Rattle.fm_segment_copies.proofs.Overlaps.{all_found, copied_up, copied_down, found_within}
+use Rattle.fm_segment_copies.specs.{declared.side.{Side.{Side}, Piece.{Piece}, Way.{Way, TheVariants.{Up, Down}}}, Alone.{bytes_at, TakesBytes}}
+use Rattle.fm_segment_copies.specs.{Sides.{IsWay, IsPieceAt, next_piece}, Copies.{CopiesPiece, CopiesOn, EndsCopy, Copies, DoesCopy}}
+use Rattle.fm_segment_copies.proofs.{Fitting.{next_piece_fits}, Overlaps.{all_found, copied_up, copied_down, found_within}}
 use Rattle.fm_segment_copies.proofs.Refusing.{AreAlive, AreShut, both_legal, piece_refused}
 
 -- so many bytes of an arena, from the place on

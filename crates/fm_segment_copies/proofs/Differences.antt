@@ -1,11 +1,9 @@
 -- The first byte in which two numbers or two lists differ, found piece by piece.
 use Rattle.std.proofs.Common.{◌≡◌, ◌≢◌, ℕ, suc, ◌+◌, ◌-◌, ◌*◌, ◌/◌, ◌^◌, ◌<◌, if◌then◌else◌, List, [], ◌∷◌, ◌++◌, length, refl, ap, sym, ◌∙◌, arith, append_assoc, Option, Some, None}
-use Rattle.std.specs.Option.{option_map}
-use Rattle.std.proofs.lemmas.Bool.{eq-eqb, ne_eqb}
+use Rattle.std.{specs.Option.{option_map}, proofs.lemmas.Bool.{eq-eqb, ne_eqb}}
 use Rattle.fm_base_bytes.specs.Bytes.{bytes_of, number_of, lane}
 use Rattle.fm_base_bytes.proofs.Bytes.{bytes_of-zero, bytes_of-one, bytes_of-add, length-bytes_of, number_of-bytes_of}
-use Rattle.fm_segment_copies.specs.Comparisons.{DiffersAt}
-use Rattle.fm_segment_copies.specs.Alone.{first_difference}
+use Rattle.fm_segment_copies.specs.{Comparisons.{DiffersAt}, Alone.{first_difference}}
 
 -- ---- two numbers
 

@@ -1,9 +1,6 @@
 -- The next piece lies in one word of each side.
 use Rattle.std.proofs.Common.{ℕ, ◌<◌, ◌≤◌, arith}
-use Rattle.fm_segment_copies.specs.declared.side.Side.{Side}
-use Rattle.fm_segment_copies.specs.declared.side.Way.{Way}
-use Rattle.fm_segment_copies.specs.declared.side.Way.TheVariants.{Up, Down}
-use Rattle.fm_segment_copies.specs.Sides.{IsPieceOf, next_piece}
+use Rattle.fm_segment_copies.specs.{declared.side.{Side.{Side}, Way.{Way, TheVariants.{Up, Down}}}, Sides.{IsPieceOf, next_piece}}
 
 -- The next piece is one of the bytes that are left.
 pub next_piece_fits : (way : Way) (a b : Side) (count left : ℕ) → 0 < left → left ≤ count → IsPieceOf a b count left (next_piece way a b count left)

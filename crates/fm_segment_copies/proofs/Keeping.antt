@@ -1,22 +1,12 @@
 -- What holds of all entries of a copy or a comparison, where it holds of those of each visit.
-use Rattle.std.proofs.Common.{ℕ, ◌+◌, ◌*◌, ◌%◌, ◌^◌, ◌<◌, ◌≤◌, Bool, true, false, List, arith, Option, Some, None, Result, Ok, Err}
-use Rattle.std.specs.Prelude.{⊤}
-use Rattle.fm_base.specs.declared.caller.Caller.{Caller}
-use Rattle.fm_base.specs.declared.refusal.Refusal.{Refusal}
-use Rattle.fm_base.specs.declared.refusal.Refusal.TheVariants.{Closed, WrongThread}
-use Rattle.fm_base.specs.Calls.{Entry}
+use Rattle.std.{proofs.Common.{ℕ, ◌+◌, ◌*◌, ◌%◌, ◌^◌, ◌<◌, ◌≤◌, Bool, true, false, List, arith, Option, Some, None, Result, Ok, Err}, specs.Prelude.{⊤}}
+use Rattle.fm_base.specs.{declared.{caller.Caller.{Caller}, refusal.Refusal.{Refusal, TheVariants.{Closed, WrongThread}}}, Calls.{Entry}}
 use Rattle.fm_base.specs.Visits.{refused_visit, Run}
 use Rattle.fm_base_bytes.proofs.Bytes.{lane-lt}
-use Rattle.fm_segment_access.specs.Pieces.{PutsPiece}
-use Rattle.fm_segment_access.proofs.Keeping.{IsKept, kept_as, kept_none, run_kept}
-use Rattle.fm_segment_copies.specs.declared.side.Side.{Side}
-use Rattle.fm_segment_copies.specs.declared.side.Piece.{Piece}
-use Rattle.fm_segment_copies.specs.declared.side.Way.{Way}
-use Rattle.fm_segment_copies.specs.declared.side.Way.TheVariants.{Up}
-use Rattle.fm_segment_copies.specs.Comparisons.{ComparesPiece, AgreesOn, EndsComparing, DoesCompare}
-use Rattle.fm_segment_copies.specs.Copies.{CopiesPiece, EndsCopy, Copies, DoesCopy}
-use Rattle.fm_segment_copies.specs.Sides.{IsPieceAt, IsPieceOf, next_piece, StopsAt, first, second, DoesOnBoth}
-use Rattle.fm_segment_copies.proofs.Fitting.{next_piece_fits}
+use Rattle.fm_segment_access.{specs.Pieces.{PutsPiece}, proofs.Keeping.{IsKept, kept_as, kept_none, run_kept}}
+use Rattle.fm_segment_copies.specs.declared.side.{Side.{Side}, Piece.{Piece}, Way.{Way, TheVariants.{Up}}}
+use Rattle.fm_segment_copies.specs.{Comparisons.{ComparesPiece, AgreesOn, EndsComparing, DoesCompare}, Copies.{CopiesPiece, EndsCopy, Copies, DoesCopy}}
+use Rattle.fm_segment_copies.{specs.Sides.{IsPieceAt, IsPieceOf, next_piece, StopsAt, first, second, DoesOnBoth}, proofs.Fitting.{next_piece_fits}}
 
 module _ {c : Caller} {Holds : List Entry → Type 0} (k : IsKept c Holds) (a b : Side) (count : ℕ) where
   stops_kept : (p : Piece) (own : List Entry) → StopsAt c a b p own → Holds own

@@ -1,27 +1,12 @@
 -- What a caller learns of calls on two ranges, from what they did.
-use Rattle.std.proofs.Common.{◌≡◌, ℕ, ◌<◌, ◌≤◌, List, ap, ◌∙◌, arith, Option, Some, None, Result, Ok, Err}
-use Rattle.std.specs.Option.{ForSome}
-use Rattle.fm_base.specs.declared.caller.Caller.{Caller}
-use Rattle.fm_base.specs.declared.refusal.Refusal.{Refusal}
-use Rattle.fm_base.specs.declared.refusal.Refusal.TheVariants.{Closed, WrongThread}
-use Rattle.fm_base.specs.Calls.{Entry}
-use Rattle.fm_base.specs.Histories.{IsLegal, state_after}
-use Rattle.fm_base.specs.Outcomes.{Lasts}
-use Rattle.fm_base.specs.View.{View, Did, IsByItself}
-use Rattle.fm_base.specs.Visits.{Run, ends, goes_on}
+use Rattle.std.{proofs.Common.{◌≡◌, ℕ, ◌<◌, ◌≤◌, List, ap, ◌∙◌, arith, Option, Some, None, Result, Ok, Err}, specs.Option.{ForSome}}
+use Rattle.fm_base.specs.{declared.{caller.Caller.{Caller}, refusal.Refusal.{Refusal, TheVariants.{Closed, WrongThread}}}, Calls.{Entry}}
+use Rattle.fm_base.specs.{Histories.{IsLegal, state_after}, Outcomes.{Lasts}, View.{View, Did, IsByItself}, Visits.{Run, ends, goes_on}}
 use Rattle.fm_base.proofs.Faith.{Makes-alone}
-use Rattle.fm_segment_access.specs.Learnt.{After}
-use Rattle.fm_segment_access.proofs.Going.{run_ends}
-use Rattle.fm_segment_access.proofs.Learning.{after_outside}
-use Rattle.fm_segment_copies.specs.declared.side.Side.{Side}
-use Rattle.fm_segment_copies.specs.Alone.{StaysOutOf}
-use Rattle.fm_segment_copies.specs.Comparisons.{DoesCompare}
-use Rattle.fm_segment_copies.specs.Copies.{DoesCopy}
-use Rattle.fm_segment_copies.specs.Learnt.{CanTouchBoth, KnowsBoth, BothCause, AfterCopy, AfterCompare}
-use Rattle.fm_segment_copies.specs.Sides.{MayUseBoth, DoesOnBoth}
-use Rattle.fm_segment_copies.proofs.ComparingAlone.{compare_alone, compare_stops}
-use Rattle.fm_segment_copies.proofs.CopyingAlone.{copy_alone, copy_stops}
-use Rattle.fm_segment_copies.proofs.Refusing.{AreShut}
+use Rattle.fm_segment_access.{specs.Learnt.{After}, proofs.{Going.{run_ends}, Learning.{after_outside}}}
+use Rattle.fm_segment_copies.specs.{declared.side.Side.{Side}, Alone.{StaysOutOf}, Comparisons.{DoesCompare}, Copies.{DoesCopy}}
+use Rattle.fm_segment_copies.specs.{Learnt.{CanTouchBoth, KnowsBoth, BothCause, AfterCopy, AfterCompare}, Sides.{MayUseBoth, DoesOnBoth}}
+use Rattle.fm_segment_copies.proofs.{ComparingAlone.{compare_alone, compare_stops}, CopyingAlone.{copy_alone, copy_stops}, Refusing.{AreShut}}
 
 -- A run that was refused at a piece had a byte to go.
 run_some : {Y : Type 0} {Step : ℕ → List Entry → ℕ → Type 0} {Ends : ℕ → List Entry → Y → Type 0} {left : ℕ} {own : List Entry} {answer : Y}

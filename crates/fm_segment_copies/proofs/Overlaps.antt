@@ -1,9 +1,7 @@
 -- Bytes that are copied piece by piece, beside bytes that are still to be read.
 use Rattle.std.proofs.Common.{◌≡◌, ℕ, ◌+◌, ◌≤◌, inl, List, ◌++◌, length, take, drop, sym, ap, ◌∙◌, arith, append_assoc, length-append}
-use Rattle.std.proofs.lemmas.List.{drop_at, drop-drop, length-drop, length-take, length-take-le}
-use Rattle.std.proofs.Math.Seq.{take-add}
-use Rattle.fm_segment_access.specs.Alone.{with_bytes}
-use Rattle.fm_segment_access.proofs.Splicing.{with_bytes-twice, keeps_elsewhere}
+use Rattle.std.proofs.{lemmas.List.{drop_at, drop-drop, length-drop, length-take, length-take-le}, Math.Seq.{take-add}}
+use Rattle.fm_segment_access.{specs.Alone.{with_bytes}, proofs.Splicing.{with_bytes-twice, keeps_elsewhere}}
 
 -- Bytes that are put in two parts, the higher one first.
 with_bytes-below : (all : List ℕ) (place : ℕ) (p q : List ℕ) → place + length q + length p ≤ length all

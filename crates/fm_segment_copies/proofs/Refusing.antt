@@ -1,15 +1,9 @@
 -- When the only caller is refused.
 use Rattle.std.proofs.Common.{◌≡◌, ℕ, ◌+◌, List, ◌++◌, refl, ap, subst, ◌∙◌}
-use Rattle.fm_base.specs.declared.caller.Caller.{Caller}
-use Rattle.fm_base.specs.Arenas.{State, Alive, arena_of}
-use Rattle.fm_base.specs.Calls.{Entry}
-use Rattle.fm_base.specs.Histories.{IsLegal, state_after}
-use Rattle.fm_base.specs.Visits.{refused_visit}
-use Rattle.fm_base.proofs.Making.{IsLegal-split, state_after-append}
+use Rattle.fm_base.specs.{declared.caller.Caller.{Caller}, Arenas.{State, Alive, arena_of}, Calls.{Entry}, Histories.{IsLegal, state_after}}
+use Rattle.fm_base.{specs.Visits.{refused_visit}, proofs.Making.{IsLegal-split, state_after-append}}
 use Rattle.fm_segment_access.proofs.Visits.{visit_refused, visit_reads}
-use Rattle.fm_segment_copies.specs.declared.side.Side.{Side}
-use Rattle.fm_segment_copies.specs.declared.side.Piece.{Piece}
-use Rattle.fm_segment_copies.specs.Sides.{IsPieceAt, StopsAt, first, second}
+use Rattle.fm_segment_copies.specs.{declared.side.{Side.{Side}, Piece.{Piece}}, Sides.{IsPieceAt, StopsAt, first, second}}
 
 abbrev pub AreAlive : State → Side → Side → Type 0
 AreAlive s a b = ((arena_of s a.arena).life ≡ Alive) × ((arena_of s b.arena).life ≡ Alive)

@@ -1,18 +1,9 @@
 -- A piece of two sides that was refused.
 use Rattle.std.proofs.Common.{◌≡◌, ℕ, ◌+◌, List, ◌++◌, sym, subst, Ok, Err}
-use Rattle.fm_base.specs.declared.caller.Caller.{Caller}
-use Rattle.fm_base.specs.declared.refusal.Refusal.{Refusal}
-use Rattle.fm_base.specs.Arenas.{MayUse}
-use Rattle.fm_base.specs.Calls.{Entry}
-use Rattle.fm_base.specs.View.{View, Makes, Did}
-use Rattle.fm_base.specs.Visits.{refused_visit}
-use Rattle.fm_base.specs.Does.{DoesEnter}
-use Rattle.fm_base.proofs.Making.{Makes-then}
-use Rattle.fm_base.proofs.Visiting.{refused_makes}
+use Rattle.fm_base.specs.{declared.{caller.Caller.{Caller}, refusal.Refusal.{Refusal}}, Arenas.{MayUse}, Calls.{Entry}, View.{View, Makes, Did}}
+use Rattle.fm_base.{specs.{Visits.{refused_visit}, Does.{DoesEnter}}, proofs.{Making.{Makes-then}, Visiting.{refused_makes}}}
 use Rattle.fm_segment_access.specs.Pieces.{DoesGetPiece}
-use Rattle.fm_segment_copies.specs.declared.side.Side.{Side}
-use Rattle.fm_segment_copies.specs.declared.side.Piece.{Piece}
-use Rattle.fm_segment_copies.specs.Sides.{StopsAt, first, second, DoesOnPiece}
+use Rattle.fm_segment_copies.specs.{declared.side.{Side.{Side}, Piece.{Piece}}, Sides.{StopsAt, first, second, DoesOnPiece}}
 
 module _ {X : Type 0} (a b : Side) (p : Piece) (Answers : X → List Entry → Type 0) where
   -- The first visit was refused.

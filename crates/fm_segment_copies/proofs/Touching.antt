@@ -1,17 +1,9 @@
 -- Two ranges, as far as a loop has gone through them.
 use Rattle.std.proofs.Common.{◌≡◌, ℕ, ◌+◌, ◌<◌, ◌≤◌, List, [], ◌++◌, None, arith, subst, sym}
-use Rattle.fm_base.specs.declared.caller.Caller.{Caller}
-use Rattle.fm_base.specs.Calls.{Entry}
-use Rattle.fm_base.specs.View.{View, Makes, Did}
-use Rattle.fm_base.specs.Visits.{Run}
-use Rattle.fm_base.proofs.Making.{Makes-then, Makes-none}
-use Rattle.fm_base.proofs.Outcomes.{Makes-lasts}
-use Rattle.fm_base.proofs.Running.{Led, led_start, led_more, led_ends}
+use Rattle.fm_base.{specs.{declared.caller.Caller.{Caller}, Calls.{Entry}, View.{View, Makes, Did}, Visits.{Run}}, proofs.Making.{Makes-then, Makes-none}}
+use Rattle.fm_base.proofs.{Outcomes.{Makes-lasts}, Running.{Led, led_start, led_more, led_ends}}
 use Rattle.fm_segment_access.proofs.Touching.{can_touch}
-use Rattle.fm_segment_copies.specs.declared.side.Piece.{Piece}
-use Rattle.fm_segment_copies.specs.declared.side.Side.{Side}
-use Rattle.fm_segment_copies.specs.Learnt.{CanTouchBoth, CanTouchPieces}
-use Rattle.fm_segment_copies.specs.Sides.{IsPieceOf, MayUseBoth}
+use Rattle.fm_segment_copies.specs.{declared.side.{Piece.{Piece}, Side.{Side}}, Learnt.{CanTouchBoth, CanTouchPieces}, Sides.{IsPieceOf, MayUseBoth}}
 
 -- `left` of `count` bytes are left, and the visits so far led there
 pub record IsUnderWay {Y : Type 0} (Step : ℕ → List Entry → ℕ → Type 0) (Ends : ℕ → List Entry → Y → Type 0) (old now : View) (a b : Side) (count left : ℕ) :

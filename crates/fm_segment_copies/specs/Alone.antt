@@ -1,10 +1,6 @@
 -- What the only caller of a memory sees of two ranges of bytes.
-use Rattle.std.specs.Prelude.{◌≡◌, ℕ, ◌==◌, if◌then◌else◌, List, [], ◌∷◌, length, take, drop, Option, Some, None}
-use Rattle.std.specs.Option.{option_map}
-use Rattle.std.proofs.Common.{suc}
-use Rattle.fm_base.specs.declared.arena_id.ArenaId.{ArenaId}
-use Rattle.fm_base.specs.Arenas.{State}
-use Rattle.fm_base.specs.View.{View}
+use Rattle.std.{specs.{Prelude.{◌≡◌, ℕ, ◌==◌, if◌then◌else◌, List, [], ◌∷◌, length, take, drop, Option, Some, None}, Option.{option_map}}, proofs.Common.{suc}}
+use Rattle.fm_base.specs.{declared.arena_id.ArenaId.{ArenaId}, Arenas.{State}, View.{View}}
 use Rattle.fm_segment_access.specs.Alone.{bytes_of_arena, ChangesBytes, IsOpen}
 use Rattle.fm_segment_copies.specs.declared.side.Side.{Side}
 

@@ -1,13 +1,8 @@
 -- Two ranges compared piece by piece, the lowest place first, up to the first piece that differs.
 use Rattle.std.specs.Prelude.{◌≡◌, ◌≢◌, ℕ, ◌+◌, ◌<◌, List, [], ◌++◌, Option, Some, None, Result}
-use Rattle.fm_base.specs.declared.caller.Caller.{Caller}
-use Rattle.fm_base.specs.declared.refusal.Refusal.{Refusal}
-use Rattle.fm_base.specs.Calls.{Entry}
-use Rattle.fm_base.specs.Visits.{Run}
+use Rattle.fm_base.specs.{declared.{caller.Caller.{Caller}, refusal.Refusal.{Refusal}}, Calls.{Entry}, Visits.{Run}}
 use Rattle.fm_base_bytes.specs.Bytes.{bytes_of, lane}
-use Rattle.fm_segment_copies.specs.declared.side.Side.{Side}
-use Rattle.fm_segment_copies.specs.declared.side.Piece.{Piece}
-use Rattle.fm_segment_copies.specs.declared.side.Way.TheVariants.{Up}
+use Rattle.fm_segment_copies.specs.declared.side.{Side.{Side}, Piece.{Piece}, Way.TheVariants.{Up}}
 use Rattle.fm_segment_copies.specs.Sides.{MayUseBoth, next_piece, ReadsAt, StopsAt, DoesOnPiece, GoesOn, DoesOnBoth}
 
 -- byte `at` of v and w differs, and the bytes below it don't

@@ -1,13 +1,8 @@
 -- A copy from one range to another: piece by piece, each read and then put.
 use Rattle.std.specs.Prelude.{◌≡◌, ℕ, ◌+◌, ◌<◌, Bool, true, false, List, [], ◌++◌, Result}
-use Rattle.fm_base.specs.declared.caller.Caller.{Caller}
-use Rattle.fm_base.specs.declared.refusal.Refusal.{Refusal}
-use Rattle.fm_base.specs.Calls.{Entry}
-use Rattle.fm_base.specs.Visits.{Run}
+use Rattle.fm_base.specs.{declared.{caller.Caller.{Caller}, refusal.Refusal.{Refusal}}, Calls.{Entry}, Visits.{Run}}
 use Rattle.fm_segment_access.specs.Pieces.{PutsPiece}
-use Rattle.fm_segment_copies.specs.declared.side.Side.{Side}
-use Rattle.fm_segment_copies.specs.declared.side.Piece.{Piece}
-use Rattle.fm_segment_copies.specs.declared.side.Way.{Way}
+use Rattle.fm_segment_copies.specs.declared.side.{Side.{Side}, Piece.{Piece}, Way.{Way}}
 use Rattle.fm_segment_copies.specs.Sides.{MayUseBoth, IsWay, next_piece, ReadsAt, StopsAt, DoesOnPiece, GoesOn, DoesOnBoth}
 
 -- a visit reads the piece, and then one puts what was read

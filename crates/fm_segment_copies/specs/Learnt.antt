@@ -1,19 +1,10 @@
 -- What calls on two ranges ask for, and what their caller learns: one record each.
-use Rattle.std.specs.Prelude.{◌≡◌, ℕ, ◌+◌, ◌^◌, ◌<◌, ◌≤◌, true, None, Option, Result, ⊤}
-use Rattle.std.specs.Option.{ForSome}
-use Rattle.fm_base.specs.declared.arena_id.ArenaId.{ArenaId}
-use Rattle.fm_base.specs.declared.caller.Caller.{Caller}
-use Rattle.fm_base.specs.declared.refusal.Refusal.{Refusal}
-use Rattle.fm_base.specs.declared.refusal.Refusal.TheVariants.{Closed, WrongThread}
-use Rattle.fm_base.specs.Arenas.{has_arena}
-use Rattle.fm_base.specs.View.{View, given_in}
+use Rattle.std.specs.{Prelude.{◌≡◌, ℕ, ◌+◌, ◌^◌, ◌<◌, ◌≤◌, true, None, Option, Result, ⊤}, Option.{ForSome}}
+use Rattle.fm_base.specs.declared.{arena_id.ArenaId.{ArenaId}, caller.Caller.{Caller}, refusal.Refusal.{Refusal, TheVariants.{Closed, WrongThread}}}
+use Rattle.fm_base.specs.{Arenas.{has_arena}, View.{View, given_in}}
 use Rattle.fm_segment_access.specs.Learnt.{After, CanTouchPiece}
-use Rattle.fm_segment_copies.specs.declared.side.Piece.{Piece}
-use Rattle.fm_segment_copies.specs.declared.side.Side.{Side}
-use Rattle.fm_segment_copies.specs.Alone.{TakesBytes, FindsDifference, StaysOutOf}
-use Rattle.fm_segment_copies.specs.Comparisons.{DoesCompare}
-use Rattle.fm_segment_copies.specs.Copies.{DoesCopy}
-use Rattle.fm_segment_copies.specs.Sides.{MayUseBoth}
+use Rattle.fm_segment_copies.specs.{declared.side.{Piece.{Piece}, Side.{Side}}, Alone.{TakesBytes, FindsDifference, StaysOutOf}, Comparisons.{DoesCompare}}
+use Rattle.fm_segment_copies.specs.{Copies.{DoesCopy}, Sides.{MayUseBoth}}
 
 -- in no arena; both arenas are known, and have given the `count` bytes
 pub record CanTouchBoth (v : View) (a b : Side) (count : ℕ) : Type 0 where

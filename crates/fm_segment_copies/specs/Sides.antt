@@ -1,18 +1,10 @@
 -- Two ranges of bytes, as long as each other, and the pieces in which they are gone through:
 -- a piece is a longest run of bytes that lies in one word of each side.
 use Rattle.std.specs.Prelude.{◌≡◌, ℕ, ◌+◌, ◌-◌, ◌%◌, ◌<◌, ◌≤◌, List, [], ◌++◌, Result, Ok, Err}
-use Rattle.fm_base.specs.declared.caller.Caller.{Caller}
-use Rattle.fm_base.specs.declared.arena_id.ArenaId.{ArenaId}
-use Rattle.fm_base.specs.declared.refusal.Refusal.{Refusal}
-use Rattle.fm_base.specs.declared.refusal.Refusal.TheVariants.{Closed, WrongThread}
-use Rattle.fm_base.specs.Arenas.{MayUse}
-use Rattle.fm_base.specs.Calls.{Entry}
-use Rattle.fm_base.specs.Visits.{refused_visit, first_width, last_width}
+use Rattle.fm_base.specs.declared.{caller.Caller.{Caller}, arena_id.ArenaId.{ArenaId}, refusal.Refusal.{Refusal, TheVariants.{Closed, WrongThread}}}
+use Rattle.fm_base.specs.{Arenas.{MayUse}, Calls.{Entry}, Visits.{refused_visit, first_width, last_width}}
 use Rattle.fm_segment_access.specs.Pieces.{ReadsPiece}
-use Rattle.fm_segment_copies.specs.declared.side.Side.{Side}
-use Rattle.fm_segment_copies.specs.declared.side.Piece.{Piece}
-use Rattle.fm_segment_copies.specs.declared.side.Way.{Way}
-use Rattle.fm_segment_copies.specs.declared.side.Way.TheVariants.{Up, Down}
+use Rattle.fm_segment_copies.specs.declared.side.{Side.{Side}, Piece.{Piece}, Way.{Way, TheVariants.{Up, Down}}}
 
 abbrev pub side : ArenaId → ℕ → Side
 side arena at = record { arena = arena; at = at }

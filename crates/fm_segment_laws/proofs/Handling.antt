@@ -1,47 +1,24 @@
 -- Each call of a handle stays below the segment's end, and so is tidy.
 use Rattle.std.proofs.Common.{◌≡◌, ℕ, ◌+◌, ◌*◌, ◌/◌, ◌%◌, ◌≤◌, inl, inr, Bool, true, false, nat_le, Result, Ok, Err, List, length, refl, sym, ap, subst, ◌∙◌, arith}
-use Rattle.std.proofs.lemmas.Bool.{leb-true}
-use Rattle.std.specs.Int.{is_power_of_two}
-use Rattle.fm_base.specs.Arenas.{only_caller}
-use Rattle.fm_base.specs.declared.caller.Caller.{Caller}
-use Rattle.fm_base.specs.declared.arena_id.ArenaId.{ArenaId}
-use Rattle.fm_base.specs.declared.refusal.Refusal.{Refusal}
-use Rattle.fm_base.specs.declared.refusal.Refusal.TheVariants.{IndexOut, WrongThread, Closed}
-use Rattle.fm_base.specs.Calls.{Entry}
-use Rattle.fm_base.specs.Visits.{Acts, Tries}
+use Rattle.std.{proofs.lemmas.Bool.{leb-true}, specs.Int.{is_power_of_two}}
+use Rattle.fm_base.specs.{Arenas.{only_caller}, declared.{caller.Caller.{Caller}, arena_id.ArenaId.{ArenaId}, refusal.Refusal.{Refusal}}}
+use Rattle.fm_base.specs.{declared.refusal.Refusal.TheVariants.{IndexOut, WrongThread, Closed}, Calls.{Entry}, Visits.{Acts, Tries}}
 use Rattle.fm_base.proofs.Faith.{Makes-alone}
 use Rattle.fm_base_bytes.specs.Bytes.{number_of}
-use Rattle.fm_lanes.specs.declared.order.Order.{Order}
-use Rattle.fm_lanes.specs.declared.value.Value.{Value}
-use Rattle.fm_lanes.specs.declared.value_kind.ValueKind.{ValueKind}
+use Rattle.fm_lanes.specs.{declared.{order.Order.{Order}, value.Value.{Value}, value_kind.ValueKind.{ValueKind}}, Coding.{value_of, bytes_of_value}}
+use Rattle.fm_lanes.specs.{Kind.{width_of}, Value.{kind_of}}
 use Rattle.fm_lanes.specs.declared.value_kind.ValueKind.TheVariants as kind
-use Rattle.fm_lanes.specs.Coding.{value_of, bytes_of_value}
-use Rattle.fm_lanes.specs.Kind.{width_of}
-use Rattle.fm_lanes.specs.Value.{kind_of}
-use Rattle.fm_layout.specs.Tree.{Tree}
-use Rattle.fm_layout.specs.WellFormed.{IsWellFormed}
-use Rattle.fm_layout.proofs.Powers.{IsPowerOfTwo-from_test}
-use Rattle.fm_layout.proofs.Sound.{positive_power}
-use Rattle.fm_path.specs.Resolution.{Resolution, StaysInside}
-use Rattle.fm_path.proofs.Resolving.{stays_inside}
-use Rattle.fm_path.specs.declared.value_spec.ValueSpec.{ValueSpec}
-use Rattle.fm_path_meaning.specs.Walk.{offset_at}
-use Rattle.fm_path_meaning.proofs.Inside.{divides_from, divides_gives, divides_add, divides_trans}
+use Rattle.fm_layout.{specs.{Tree.{Tree}, WellFormed.{IsWellFormed}}, proofs.{Powers.{IsPowerOfTwo-from_test}, Sound.{positive_power}}}
+use Rattle.fm_path.{specs.{Resolution.{Resolution, StaysInside}, declared.value_spec.ValueSpec.{ValueSpec}}, proofs.Resolving.{stays_inside}}
+use Rattle.fm_path_meaning.{specs.Walk.{offset_at}, proofs.Inside.{divides_from, divides_gives, divides_add, divides_trans}}
 use Rattle.fm_segment.specs.Region.{Region}
-use Rattle.fm_segment_access.specs.Found.{DoesAt}
-use Rattle.fm_segment_access.proofs.Causes.{never}
-use Rattle.fm_segment_access.proofs.Values.{kind_of-decoded}
-use Rattle.fm_segment_access.proofs.Keeping.{read_kept}
-use Rattle.fm_handle.specs.Access.{DoesVisit, Wins}
-use Rattle.fm_handle.specs.Acts.{Exchanges, puts, finds_another, CutOff, looked, missed, at_read, at_swap, with_value, sum_of}
+use Rattle.fm_segment_access.{specs.Found.{DoesAt}, proofs.{Causes.{never}, Values.{kind_of-decoded}, Keeping.{read_kept}}}
+use Rattle.fm_handle.specs.{Access.{DoesVisit, Wins}, Acts.{Exchanges, puts, finds_another, CutOff, looked, missed, at_read, at_swap, with_value, sum_of}}
 use Rattle.fm_handle.specs.Place.{if_writable, if_rooted, value_place, place_of, writable_place_of, update_place_of, can_update, fills_word, is_word, is_int_or_long, is_long, is_little}
-use Rattle.fm_handle.proofs.Causes.{tested, rooted}
-use Rattle.fm_handle.proofs.Places.{rooted_is, both_true, multiple, word_by_kind}
-use Rattle.fm_handle.proofs.Updating.{kind_of-sum_of, small_value}
+use Rattle.fm_handle.proofs.{Causes.{tested, rooted}, Places.{rooted_is, both_true, multiple, word_by_kind}, Updating.{kind_of-sum_of, small_value}}
 use Rattle.fm_segment_laws.specs.Handles.{DoesCall, gets, sets, sets_long, compares_and_sets, exchanges, exchanges_long, adds, adds_long, HandlesAreTidy, LoneHandlesAreTidy, PathsStayInside}
 use Rattle.fm_segment_laws.proofs.Staying.{StayBelow, ActBelow, stay_none, stay_refused, stay_visit, stay_kept, tries_below, tidy_by, tidy_alone}
-use Rattle.fm_segment_laws.proofs.Tidying.{writable_on, supported_on}
-use Rattle.fm_segment_laws.proofs.Putting.{value_stays}
+use Rattle.fm_segment_laws.proofs.{Tidying.{writable_on, supported_on}, Putting.{value_stays}}
 
 -- ---- where the value lies
 

@@ -1,26 +1,12 @@
 -- Bytes that are put stay below their end, be it piece by piece or with all whole words in one visit.
 use Rattle.std.proofs.Common.{◌≡◌, inl, inr, ℕ, ◌+◌, ◌-◌, ◌*◌, ◌/◌, ◌%◌, ◌<◌, ◌≤◌, ◌==◌, suc, Result, List, [], ◌∷◌, length, take, refl, ap, ◌∙◌, arith, length-drop, length-append}
 use Rattle.std.proofs.lemmas.List.Elements.{All-drop}
-use Rattle.fm_base.specs.declared.caller.Caller.{Caller}
-use Rattle.fm_base.specs.declared.arena_id.ArenaId.{ArenaId}
-use Rattle.fm_base.specs.declared.refusal.Refusal.{Refusal}
-use Rattle.fm_base.specs.Calls.{Entry}
-use Rattle.fm_base.specs.Visits.{writes}
-use Rattle.fm_base_bytes.specs.Bytes.{AreBytes, number_of}
-use Rattle.fm_base_bytes.specs.Words.{bytes_in}
-use Rattle.fm_base_bytes.proofs.Words.{length-bytes_in}
-use Rattle.fm_lanes.specs.declared.order.Order.{Order}
-use Rattle.fm_lanes.specs.declared.value.Value.{Value}
-use Rattle.fm_lanes.specs.declared.value_kind.ValueKind.{ValueKind}
-use Rattle.fm_lanes.specs.Coding.{bytes_of_value}
-use Rattle.fm_lanes.specs.Kind.{width_of}
+use Rattle.fm_base.specs.{declared.{caller.Caller.{Caller}, arena_id.ArenaId.{ArenaId}, refusal.Refusal.{Refusal}}, Calls.{Entry}, Visits.{writes}}
+use Rattle.fm_base_bytes.{specs.{Bytes.{AreBytes, number_of}, Words.{bytes_in}}, proofs.Words.{length-bytes_in}}
+use Rattle.fm_lanes.specs.{declared.{order.Order.{Order}, value.Value.{Value}, value_kind.ValueKind.{ValueKind}}, Coding.{bytes_of_value}, Kind.{width_of}}
 use Rattle.fm_lanes.specs.Value.{kind_of}
-use Rattle.fm_segment_access.specs.Ranges.{Putting, next_width, PutsOn, DoesPut, DoesPutBy}
-use Rattle.fm_segment_access.specs.Runs.{PutsWords, PutsMore, DoesPutAll}
-use Rattle.fm_segment_access.proofs.Alone.{is_part}
-use Rattle.fm_segment_access.proofs.Keeping.{put_kept}
-use Rattle.fm_segment_access.proofs.PuttingAlone.{left_bytes}
-use Rattle.fm_segment_access.proofs.Values.{AreBytes-value, length-value}
+use Rattle.fm_segment_access.{specs.{Ranges.{Putting, next_width, PutsOn, DoesPut, DoesPutBy}, Runs.{PutsWords, PutsMore, DoesPutAll}}, proofs.Alone.{is_part}}
+use Rattle.fm_segment_access.proofs.{Keeping.{put_kept}, PuttingAlone.{left_bytes}, Values.{AreBytes-value, length-value}}
 use Rattle.fm_segment_laws.proofs.Staying.{StayBelow, ActBelow, stay_unless, stay_visit, stay_puts, stay_kept}
 
 -- bytes that end below a place

@@ -1,22 +1,13 @@
 -- Entries that change only bytes of one arena below a place.
 use Rattle.std.proofs.Common.{◌≡◌, ℕ, ◌+◌, ◌*◌, ◌/◌, ◌%◌, ◌^◌, ◌<◌, ◌≤◌, Bool, true, false, MatchBool, cond, Result, Ok, List, [], ◌∷◌, ◌++◌, length, take, drop, inr, refl, sym, ap, subst, ◌∙◌, arith}
 use Rattle.std.specs.Prelude.{⊤}
-use Rattle.fm_base_bytes.specs.Words.{byte_of}
-use Rattle.fm_base.specs.declared.caller.Caller.{Caller}
-use Rattle.fm_base.specs.declared.arena_id.ArenaId.{ArenaId}
-use Rattle.fm_base.specs.declared.refusal.Refusal.{Refusal}
-use Rattle.fm_base.specs.Arenas.{are_one, State, arena_of}
+use Rattle.fm_base_bytes.{specs.{Words.{byte_of}, Bytes.{bytes_of, number_of, replaced}}, proofs.Bytes.{length-bytes_of, lane-number_of, bytes_of-replaced}}
+use Rattle.fm_base.specs.{declared.{caller.Caller.{Caller}, arena_id.ArenaId.{ArenaId}, refusal.Refusal.{Refusal}}, Arenas.{are_one, State, arena_of}}
 use Rattle.fm_base.specs.Calls.{Call, Read, Write, SwapIf, Add, Leave, Reply, Fine, Found, Entry, entry_of}
-use Rattle.fm_base.specs.Histories.{IsLegal, DifferBelow, IsTidyIn, IsTidy, made_by}
-use Rattle.fm_base.specs.Machine.{reply_to, after}
-use Rattle.fm_base.specs.Visits.{Acts, entries_of, visit, refused_visit, Tries, looked, missed, hit}
-use Rattle.fm_base.proofs.Names.{are_one-false}
+use Rattle.fm_base.specs.{Histories.{IsLegal, DifferBelow, IsTidyIn, IsTidy, made_by}, Machine.{reply_to, after}}
+use Rattle.fm_base.{specs.Visits.{Acts, entries_of, visit, refused_visit, Tries, looked, missed, hit}, proofs.Names.{are_one-false}}
 use Rattle.fm_base.proofs.Growing.{Grows-state_after}
-use Rattle.fm_base_bytes.specs.Bytes.{bytes_of, number_of, replaced}
-use Rattle.fm_base_bytes.proofs.Bytes.{length-bytes_of, lane-number_of, bytes_of-replaced}
-use Rattle.fm_segment_access.specs.Alone.{with_bytes}
-use Rattle.fm_segment_access.proofs.Keeping.{IsKept}
-use Rattle.fm_segment_access.proofs.Splicing.{keeps_elsewhere}
+use Rattle.fm_segment_access.{specs.Alone.{with_bytes}, proofs.{Keeping.{IsKept}, Splicing.{keeps_elsewhere}}}
 use Rattle.fm_segment_access.specs.Pieces.{PutsBytes, whole, narrow, PutsPiece, ReadsPiece}
 use Rattle.fm_segment_laws.specs.Accesses.{IsTidyBy}
 

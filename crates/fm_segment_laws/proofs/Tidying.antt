@@ -1,34 +1,16 @@
 -- Each access to a segment stays below its end, and so is tidy.
 use Rattle.std.proofs.Common.{◌≡◌, ℕ, ℤ, ◌+◌, ◌*◌, ◌<◌, ◌≤◌, ◌==◌, ◌&&◌, Bool, true, false, if◌then◌else◌, nat_le, nat_lt, Result, Ok, Err, List, length, replicate, refl, sym, subst, arith}
-use Rattle.std.proofs.lemmas.Bool.{leb-true}
-use Rattle.std.proofs.lemmas.List.{length-replicate}
-use Rattle.std.proofs.lemmas.List.Elements.{All-replicate}
-use Rattle.fm_base.specs.declared.caller.Caller.{Caller}
-use Rattle.fm_base.specs.declared.arena_id.ArenaId.{ArenaId}
-use Rattle.fm_base.specs.declared.refusal.Refusal.{Refusal}
-use Rattle.fm_base.specs.declared.refusal.Refusal.TheVariants.{Bounds, ReadOnly, Unsupported}
-use Rattle.fm_base.specs.Calls.{Entry}
-use Rattle.fm_base.proofs.Faith.{Makes-alone}
-use Rattle.fm_lanes.specs.declared.value.Value.{Value}
-use Rattle.fm_lanes.specs.Coding.{value_of}
-use Rattle.fm_lanes.specs.Kind.{width_of}
-use Rattle.fm_lanes.specs.Value.{kind_of}
+use Rattle.std.proofs.lemmas.{Bool.{leb-true}, List.{length-replicate, Elements.{All-replicate}}}
+use Rattle.fm_base.specs.declared.{caller.Caller.{Caller}, arena_id.ArenaId.{ArenaId}, refusal.Refusal.{Refusal, TheVariants.{Bounds, ReadOnly, Unsupported}}}
+use Rattle.fm_base.{specs.Calls.{Entry}, proofs.Faith.{Makes-alone}}
+use Rattle.fm_lanes.specs.{declared.value.Value.{Value}, Coding.{value_of}, Kind.{width_of}, Value.{kind_of}}
 use Rattle.fm_layout.specs.Tree as tree
-use Rattle.fm_layout.specs.Tree.{Tree, alignment_of}
-use Rattle.fm_layout.specs.Size.{size_of}
-use Rattle.fm_segment_access.proofs.Causes.{never, placed_ok}
-use Rattle.fm_segment_access.proofs.Keeping.{read_kept}
-use Rattle.fm_segment_access.specs.Ranges.{DoesPut, DoesFill}
-use Rattle.fm_segment_copies.specs.declared.side.Side.{Side}
-use Rattle.fm_segment_copies.specs.Sides.{side}
-use Rattle.fm_segment_copies.specs.Copies.{DoesCopy}
-use Rattle.fm_segment_copies.proofs.Keeping.{compare_kept, copy_kept}
+use Rattle.fm_layout.specs.{Tree.{Tree, alignment_of}, Size.{size_of}}
+use Rattle.fm_segment_access.{proofs.{Causes.{never, placed_ok}, Keeping.{read_kept}}, specs.Ranges.{DoesPut, DoesFill}}
+use Rattle.fm_segment_copies.{specs.{declared.side.Side.{Side}, Sides.{side}, Copies.{DoesCopy}}, proofs.Keeping.{compare_kept, copy_kept}}
 use Rattle.fm_handle.proofs.Places.{both_true}
 use Rattle.fm_segment.specs.Access.{HasKind, place_of, DoesGetAt, DoesSetAt, writable_place_of, writable_place_at_index}
-use Rattle.fm_segment.specs.Comparisons.{DoesMismatch, common_size}
-use Rattle.fm_segment.specs.Copies.{checked_copy}
-use Rattle.fm_segment.specs.Fills.{DoesAfter, checked_write}
-use Rattle.fm_segment.specs.Puts.{checked_put}
+use Rattle.fm_segment.specs.{Comparisons.{DoesMismatch, common_size}, Copies.{checked_copy}, Fills.{DoesAfter, checked_write}, Puts.{checked_put}}
 use Rattle.fm_segment.specs.Region.{Region}
 use Rattle.fm_segment_laws.specs.Accesses.{DoesAccess, gets, sets, sets_at_index, fills, puts, copies, compares, AccessesAreTidy, LoneAccessesAreTidy}
 use Rattle.fm_segment_laws.proofs.Putting.{put_stays, value_stays, put_all_stays}

@@ -1,22 +1,12 @@
 -- What accesses to a segment do, and that they are tidy: they change only bytes that its arena has given.
 use Rattle.std.specs.Prelude.{◌≡◌, ℕ, ℤ, ◌<◌, List, [], ◌∷◌, Result, ⊤}
-use Rattle.fm_base.specs.declared.caller.Caller.{Caller}
-use Rattle.fm_base.specs.declared.refusal.Refusal.{Refusal}
-use Rattle.fm_base.specs.Arenas.{State}
-use Rattle.fm_base.specs.Calls.{Entry}
-use Rattle.fm_base.specs.Histories.{IsTidyIn, IsTidy}
-use Rattle.fm_base.specs.Machine.{after}
-use Rattle.fm_base.specs.View.{View, Makes, IsByItself}
+use Rattle.fm_base.specs.{declared.{caller.Caller.{Caller}, refusal.Refusal.{Refusal}}, Arenas.{State}, Calls.{Entry}, Histories.{IsTidyIn, IsTidy}}
+use Rattle.fm_base.specs.{Machine.{after}, View.{View, Makes, IsByItself}}
 use Rattle.fm_base_bytes.specs.Bytes.{AreBytes}
-use Rattle.fm_lanes.specs.declared.value.Value.{Value}
-use Rattle.fm_lanes.specs.Value.{kind_of}
+use Rattle.fm_lanes.specs.{declared.value.Value.{Value}, Value.{kind_of}}
 use Rattle.fm_layout.specs.Tree.{Tree}
-use Rattle.fm_segment.specs.Access.{IsKnown, HasKind, DoesGetAt, DoesSetAt, writable_place_of, writable_place_at_index}
-use Rattle.fm_segment.specs.Comparisons.{DoesMismatch}
-use Rattle.fm_segment.specs.Copies.{DoesCopySegment}
-use Rattle.fm_segment.specs.Fills.{DoesFillSegment}
-use Rattle.fm_segment.specs.Puts.{DoesPutSegment}
-use Rattle.fm_segment.specs.Region.{Region}
+use Rattle.fm_segment.specs.{Access.{IsKnown, HasKind, DoesGetAt, DoesSetAt, writable_place_of, writable_place_at_index}, Comparisons.{DoesMismatch}}
+use Rattle.fm_segment.specs.{Copies.{DoesCopySegment}, Fills.{DoesFillSegment}, Puts.{DoesPutSegment}, Region.{Region}}
 
 -- the entries of an access to the segment, which is the target of a copy
 pub data DoesAccess (c : Caller) (r : Region) (own : List Entry) : Type 0 where

@@ -1,16 +1,10 @@
 -- What the calls of handles do, and that they are tidy: they change only bytes that the segment's arena has given.
 use Rattle.std.specs.Prelude.{◌≡◌, ℕ, ℤ, Bool, List, length, Result}
-use Rattle.fm_base.specs.declared.caller.Caller.{Caller}
-use Rattle.fm_base.specs.declared.refusal.Refusal.{Refusal}
-use Rattle.fm_base.specs.Calls.{Entry}
-use Rattle.fm_base.specs.Histories.{IsTidy}
-use Rattle.fm_base.specs.View.{View, Makes, IsByItself}
-use Rattle.fm_lanes.specs.declared.value.Value.{Value}
-use Rattle.fm_lanes.specs.Value.{kind_of}
+use Rattle.fm_base.specs.{declared.{caller.Caller.{Caller}, refusal.Refusal.{Refusal}}, Calls.{Entry}, Histories.{IsTidy}, View.{View, Makes, IsByItself}}
+use Rattle.fm_lanes.specs.{declared.value.Value.{Value}, Value.{kind_of}}
 use Rattle.fm_layout.specs.Tree.{Tree}
 use Rattle.fm_path.specs.Resolution.{Resolution, IsResolved, StaysInside}
-use Rattle.fm_segment.specs.Access.{IsKnown}
-use Rattle.fm_segment.specs.Region.{Region}
+use Rattle.fm_segment.specs.{Access.{IsKnown}, Region.{Region}}
 use Rattle.fm_path_text.specs.declared.step.PathStep.{PathStep}
 use Rattle.fm_handle.specs.Access.{DoesGet, DoesSet, DoesSetLong, DoesExchange, DoesExchangeLong, DoesCompareAndSet, DoesAdd, DoesAddLong}
 use Rattle.fm_handle.specs.Place.{place_of, writable_place_of, update_place_of, can_update, fills_word, is_word}

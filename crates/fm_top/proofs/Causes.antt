@@ -1,7 +1,6 @@
 -- What the status of each request's outcome comes of.
 use Rattle.std.proofs.Common.{◌≡◌, ℕ, ◌≤◌, List, length, Option, None, Some, Result, Ok, Err, Bool, true, false, refl, sym, ap, subst, inl, inr, arith}
-use Rattle.std.specs.Prelude.{nat_lt, if◌then◌else◌}
-use Rattle.std.proofs.lemmas.Bool.Decides.{Decides-ltb, not_from_Decides}
+use Rattle.std.{specs.Prelude.{nat_lt, if◌then◌else◌}, proofs.lemmas.Bool.Decides.{Decides-ltb, not_from_Decides}}
 use Rattle.fm_base.specs.declared.refusal.Refusal.{Refusal}
 use Rattle.fm_lanes.specs.declared.value_kind.ValueKind.{ValueKind}
 use Rattle.fm_layout.specs.Tree.{Tree}
@@ -11,12 +10,8 @@ use Rattle.fm_top_load.specs.Limits.{record_file_limit}
 use Rattle.fm_top.specs.Causes.{LacksFile, HasLongFile, HasRefusedLayout, HasRefusedQuery, HasRaggedFile, HasRefusedScript}
 use Rattle.fm_top.specs.Outcome.{Outcome, RecordsEnd, no_file, too_many, uneven, even, IsSummed, layout_outcome, shows, layout_file_limit, too_long}
 use Rattle.fm_top.specs.Queries.{IsRecordLayout, IsPlanned, IsAnswered, records_limit, TextEnds, unplanned, planned, AskEnds, no_layout, long_layout, bad_layout, over_layout}
-use Rattle.fm_top.specs.Run.{EndsBy}
-use Rattle.fm_top.specs.Scripts.{ScriptEnds, no_script, long_script, bad_script, ran}
-use Rattle.fm_top.specs.Words.{Request, Sum, Layout, Ask, Demo, Run}
-use Rattle.fm_top.specs.declared.command.layout_text.LayoutText.{LayoutText}
-use Rattle.fm_top.specs.declared.command.question.Question.{Question}
-use Rattle.fm_top.specs.declared.outcome.status.Status.{Status}
+use Rattle.fm_top.specs.{Run.{EndsBy}, Scripts.{ScriptEnds, no_script, long_script, bad_script, ran}, Words.{Request, Sum, Layout, Ask, Demo, Run}}
+use Rattle.fm_top.specs.declared.{command.{layout_text.LayoutText.{LayoutText}, question.Question.{Question}}, outcome.status.Status.{Status}}
 use Rattle.fm_top.specs.declared.outcome.status.Status.TheVariants.{Answered, Missing, LayoutRefused, QueryRefused, Ragged, TooLong, ScriptRefused}
 
 -- the cause of a status: an answer needs none, and what is no outcome's status has none

@@ -1,17 +1,10 @@
 -- What each status of a run comes of.
 use Rattle.std.proofs.Common.{◌≡◌, ℕ, List, Option, None, Some, IfSome, refl, sym, subst}
-use Rattle.fm_io.specs.Count.{Rose}
-use Rattle.fm_io.specs.Files.{Contents}
-use Rattle.fm_top.specs.Causes.{OverFiles}
-use Rattle.fm_top.specs.Found.{OfFile, file_under}
-use Rattle.fm_top.specs.Outcome.{Outcome}
+use Rattle.fm_io.specs.{Count.{Rose}, Files.{Contents}}
+use Rattle.fm_top.specs.{Causes.{OverFiles}, Found.{OfFile, file_under}, Outcome.{Outcome}}
 use Rattle.fm_top.specs.Run.{EndsBy, HasOutcome, IsOutcomeOver, faulty, asked, Traces, printed, failed, stopped, Runs, ended, unread, unknown}
-use Rattle.fm_top.specs.Ran.{AskFor, ComesOf}
-use Rattle.fm_top.specs.Words.{Request, first_file, last_file}
-use Rattle.fm_top.specs.declared.outcome.left.Left.{Left}
-use Rattle.fm_top.specs.declared.outcome.status.Status.{Status}
-use Rattle.fm_top.specs.declared.outcome.status.Status.TheVariants.{Answered, Usage, Missing, Unread, Unwritten, NoMemory}
-use Rattle.fm_top.proofs.Causes.{CauseOf, end_cause}
+use Rattle.fm_top.specs.{Ran.{AskFor, ComesOf}, Words.{Request, first_file, last_file}, declared.outcome.{left.Left.{Left}, status.Status.{Status}}}
+use Rattle.fm_top.{specs.declared.outcome.status.Status.TheVariants.{Answered, Usage, Missing, Unread, Unwritten, NoMemory}, proofs.Causes.{CauseOf, end_cause}}
 use Rattle.fm_top.proofs.Runs.{found_cause}
 
 -- where the files tell, what is found is what they hold

@@ -1,19 +1,12 @@
 -- Counts of numbers are those numbers' counts.
-use Rattle.std.proofs.Common.{◌≡◌, ℕ, ◌<◌, List, get_or, sym, subst, ap, ◌∙◌, arith}
-use Rattle.std.specs.Prelude.{ℤ}
-use Rattle.std.proofs.lemmas.Grind.{same_number_lists}
+use Rattle.std.{proofs.{Common.{◌≡◌, ℕ, ◌<◌, List, get_or, sym, subst, ap, ◌∙◌, arith}, lemmas.Grind.{same_number_lists}}, specs.Prelude.{ℤ}}
 use Rattle.std.proofs.lemmas.List.FromFn.{length-map-range_with_len, get_or-map-range_with_len}
 use Rattle.fm_top_pooled.specs.Shown.{ShowsQuery}
 use Rattle.fm_records_query.specs.Plan.{Plan}
-use Rattle.fm_records.specs.declared.found.Found.{Found}
-use Rattle.fm_records.specs.Answers.{answer}
-use Rattle.fm_records.specs.Texts.{answer_text}
+use Rattle.fm_records.specs.{declared.found.Found.{Found}, Answers.{answer}, Texts.{answer_text}}
 use Rattle.fm_rule.specs.Finishing.{FinishedView}
-use Rattle.fm_workers.specs.Counts.{AreCounts, how_many, listed, number_of}
-use Rattle.fm_workers.specs.Printed.{counts_text}
-use Rattle.fm_top.specs.Outcome.{Outcome, answered_by_pool}
-use Rattle.fm_top.specs.Queries.{IsAnswered}
-use Rattle.fm_top.specs.Tallies.{counts_of}
+use Rattle.fm_workers.specs.{Counts.{AreCounts, how_many, listed, number_of}, Printed.{counts_text}}
+use Rattle.fm_top.specs.{Outcome.{Outcome, answered_by_pool}, Queries.{IsAnswered}, Tallies.{counts_of}}
 use Rattle.fm_top.specs.declared.command.question.Question.TheVariants.{Query, Tally}
 
 -- the count at a place

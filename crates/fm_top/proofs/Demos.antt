@@ -1,24 +1,14 @@
 -- How many bytes the records that are made have, and what is answered over them.
-use Rattle.std.proofs.Common.{◌≡◌, ℕ, ◌+◌, ◌*◌, ◌%◌, ◌≤◌, List, [], ◌∷◌, ◌++◌, length, refl, ap, subst, ◌∙◌, arith}
-use Rattle.std.specs.List.{flat_map, range_with_len}
-use Rattle.std.proofs.lemmas.List.{length-append}
-use Rattle.std.proofs.lemmas.List.FromFn.{length-range_with_len}
-use Rattle.std.proofs.lemmas.Nat.{mod-mul-add}
-use Rattle.fm_base_bytes.specs.Bytes.{bytes_of}
-use Rattle.fm_base_bytes.specs.Signed.{unsigned_of}
-use Rattle.fm_base_bytes.proofs.Bytes.{length-bytes_of}
+use Rattle.std.{proofs.Common.{◌≡◌, ℕ, ◌+◌, ◌*◌, ◌%◌, ◌≤◌, List, [], ◌∷◌, ◌++◌, length, refl, ap, subst, ◌∙◌, arith}, specs.List.{flat_map, range_with_len}}
+use Rattle.std.proofs.lemmas.{List.{length-append, FromFn.{length-range_with_len}}, Nat.{mod-mul-add}}
+use Rattle.fm_base_bytes.{specs.{Bytes.{bytes_of}, Signed.{unsigned_of}}, proofs.Bytes.{length-bytes_of}}
 use Rattle.fm_top_demo.specs.Records.{amount_of, made_layout, made_record, made_records}
 use Rattle.fm_top_load.specs.Limits.{record_file_limit}
 use Rattle.fm_top_pooled.specs.Shown.{ShowsBoth}
-use Rattle.fm_records_query.specs.Parsed.{IsParsed}
-use Rattle.fm_records_query.specs.Plan.{Plan}
-use Rattle.fm_records.specs.Answers.{answer}
-use Rattle.fm_records.specs.Texts.{answer_text}
-use Rattle.fm_records.specs.declared.found.Found.{Found}
+use Rattle.fm_records_query.specs.{Parsed.{IsParsed}, Plan.{Plan}}
+use Rattle.fm_records.specs.{Answers.{answer}, Texts.{answer_text}, declared.found.Found.{Found}}
 use Rattle.fm_rule.specs.Finishing.{FinishedView}
-use Rattle.fm_top.specs.Demos.{AreMadeQueries, DemoEnds}
-use Rattle.fm_top.specs.Outcome.{Outcome, answered_by_pool}
-use Rattle.fm_top.specs.Words.{IsCount}
+use Rattle.fm_top.specs.{Demos.{AreMadeQueries, DemoEnds}, Outcome.{Outcome, answered_by_pool}, Words.{IsCount}}
 
 made_size : (k : ℕ) → length (made_record k) ≡ 16
 made_size k =

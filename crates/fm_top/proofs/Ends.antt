@@ -1,27 +1,13 @@
 -- How ends follow from one another.
-use Rattle.std.proofs.Common.{◌≡◌, ℕ, List, Option, Some, Result, Ok, Err, ap, sym, subst, ◌∙◌, arith}
-use Rattle.std.proofs.lemmas.Result.{IfOk-weaker}
-use Rattle.fm_io.specs.declared.fault.Fault.{Fault}
-use Rattle.fm_io.specs.declared.fault.Fault.TheVariants.{Failed, Memory}
-use Rattle.fm_io.proofs.Left.{leaves_none}
-use Rattle.fm_top.specs.Causes.{LacksFile}
-use Rattle.fm_top.specs.Ending.{shown, TellsMisses}
-use Rattle.fm_top.specs.Ends.{EndsFile, EndsRequest, ShowsFiles}
-use Rattle.fm_top.specs.Found.{OfFile}
-use Rattle.fm_top.specs.Outcome.{Outcome, no_file, too_many, uneven, even}
-use Rattle.fm_top.specs.Queries.{PlanEnds}
-use Rattle.fm_records_query.specs.Plan.{Plan}
-use Rattle.fm_top.specs.Reading.{first_limit}
-use Rattle.fm_top.specs.Run.{EndsBy}
-use Rattle.fm_io.specs.View.{FilesView, Leaves}
-use Rattle.fm_top.specs.Words.{Request, first_file, last_file}
-use Rattle.fm_top.specs.declared.command.question.Question.{Question}
-use Rattle.fm_top.specs.declared.outcome.ending.Ending.{Ending}
-use Rattle.fm_top.specs.declared.outcome.status.Status.{Status}
-use Rattle.fm_top.specs.declared.outcome.status.Status.TheVariants as status
-use Rattle.fm_top.proofs.Causes.{CauseOf, end_cause}
-use Rattle.fm_top.proofs.Outcomes.{some_end}
+use Rattle.std.proofs.{Common.{◌≡◌, ℕ, List, Option, Some, Result, Ok, Err, ap, sym, subst, ◌∙◌, arith}, lemmas.Result.{IfOk-weaker}}
+use Rattle.fm_io.{specs.{declared.fault.Fault.{Fault, TheVariants.{Failed, Memory}}, View.{FilesView, Leaves}}, proofs.Left.{leaves_none}}
+use Rattle.fm_top.specs.{Causes.{LacksFile}, Ending.{shown, TellsMisses}, Ends.{EndsFile, EndsRequest, ShowsFiles}, Found.{OfFile}}
+use Rattle.fm_top.specs.{Outcome.{Outcome, no_file, too_many, uneven, even}, Queries.{PlanEnds}, Reading.{first_limit}, Run.{EndsBy}}
+use Rattle.fm_top.specs.{Words.{Request, first_file, last_file}, declared.{command.question.Question.{Question}, outcome.ending.Ending.{Ending}}}
+use Rattle.fm_top.{specs.declared.outcome.status.Status.{Status}, proofs.{Causes.{CauseOf, end_cause}, Outcomes.{some_end}}}
 use Rattle.fm_top.proofs.ReadFor.{first_reads, not_read, read_since}
+use Rattle.fm_records_query.specs.Plan.{Plan}
+use Rattle.fm_top.specs.declared.outcome.status.Status.TheVariants as status
 
 module _ {old new : FilesView} (left : Leaves ⊥ ⊥ old new) where
   same_faults : new.faults ≡ old.faults

@@ -1,11 +1,7 @@
 -- A word names a kind of value exactly where it is the kind's name.
-use Rattle.std.proofs.Common.{◌≡◌, Bool, true, false, ℕ, List, [], ◌∷◌, Some, None, refl, ap, cond, ◌∙◌}
-use Rattle.std.specs.List.{find}
-use Rattle.std.specs.Str.{bytes_eq}
+use Rattle.std.{proofs.Common.{◌≡◌, Bool, true, false, ℕ, List, [], ◌∷◌, Some, None, refl, ap, cond, ◌∙◌}, specs.{List.{find}, Str.{bytes_eq}}}
 use Rattle.std.proofs.lemmas.Slice.Eq.{bytes_eq-Decides}
-use Rattle.fm_lanes.specs.declared.value_kind.ValueKind.{ValueKind}
-use Rattle.fm_lanes.specs.Named.{kinds, kind_text, kind_named}
-use Rattle.fm_lanes.proofs.Naming.{kind_named-text}
+use Rattle.fm_lanes.{specs.{declared.value_kind.ValueKind.{ValueKind}, Named.{kinds, kind_text, kind_named}}, proofs.Naming.{kind_named-text}}
 
 -- What is found passes the test.
 found_passes : {X : Type 0} (test : X → Bool) (xs : List X) (x : X) → Some x ≡ find test xs → test x ≡ true

@@ -1,29 +1,20 @@
 -- Words print one outcome.
 use Rattle.std.proofs.Common.{◌≡◌, ℕ, List, Option, Some, Result, Ok, Err, refl, inl, inr, sym, ap, subst, ◌∙◌, arith}
-use Rattle.fm_base.specs.declared.refusal.Refusal.{Refusal}
-use Rattle.fm_base.specs.declared.refusal.Refusal.TheVariants.{NoSize, ElementRagged}
+use Rattle.fm_base.specs.declared.refusal.Refusal.{Refusal, TheVariants.{NoSize, ElementRagged}}
 use Rattle.fm_top_demo.specs.Records.{made_layout}
 use Rattle.fm_io.specs.Files.{Contents, file_of}
 use Rattle.fm_lanes.specs.declared.value_kind.ValueKind.{ValueKind}
 use Rattle.fm_layout.specs.Tree.{Tree}
 use Rattle.fm_ljson.specs.Answer.{layout_of_json}
-use Rattle.fm_records_query.specs.Plan.{Plan}
-use Rattle.fm_records_query.proofs.Lists.{one_list, one_list_refusal, refused_lists_none}
-use Rattle.fm_records_query.proofs.OnePlan.{one_plan, refused_has_none}
-use Rattle.fm_records_query.proofs.OneRefusal.{no_record_once, one_refusal}
-use Rattle.fm_records_query.specs.Records.{IsRecord, IsNoRecord}
-use Rattle.fm_top.specs.Demos.{DemoEnds, made_text}
-use Rattle.fm_top.specs.Laws.{PrintAlike, HaveOneOutcome}
+use Rattle.fm_records_query.{specs.Plan.{Plan}, proofs.{Lists.{one_list, one_list_refusal, refused_lists_none}, OnePlan.{one_plan, refused_has_none}}}
+use Rattle.fm_records_query.{proofs.OneRefusal.{no_record_once, one_refusal}, specs.Records.{IsRecord, IsNoRecord}}
+use Rattle.fm_top.specs.{Demos.{DemoEnds, made_text}, Laws.{PrintAlike, HaveOneOutcome}}
 use Rattle.fm_top.specs.Outcome.{Outcome, RecordsEnd, no_file, too_many, uneven, even, IsSummed, layout_refused, query_refused}
-use Rattle.fm_top_load.specs.Limits.{record_file_limit}
 use Rattle.fm_top.specs.Queries.{IsRecordLayout, IsNoRecordLayout, IsLayoutRefused, IsSmall, records_limit, IsPlanned, IsUnplanned, IsAnswered, TextEnds, unplanned, planned, AskEnds, no_layout, long_layout, bad_layout, over_layout}
-use Rattle.fm_top.specs.Tallies.{IsTallied, IsPathRefused, no_list, no_bytes}
-use Rattle.fm_top.specs.Run.{HasOutcome, IsOutcomeOver, faulty, asked}
-use Rattle.fm_top.specs.Words.{Request, Sum, Layout, Ask, Demo, Run, Asks, IsRun}
-use Rattle.fm_top.specs.declared.command.question.Question.{Question}
-use Rattle.fm_top.specs.declared.command.question.Question.TheVariants.{Query, Stream, Tally}
-use Rattle.fm_top.proofs.Comes.{over_told}
-use Rattle.fm_top.proofs.Requests.{same_request}
+use Rattle.fm_top.specs.{Tallies.{IsTallied, IsPathRefused, no_list, no_bytes}, Run.{HasOutcome, IsOutcomeOver, faulty, asked}}
+use Rattle.fm_top.specs.{Words.{Request, Sum, Layout, Ask, Demo, Run, Asks, IsRun}, declared.command.question.Question.{Question}}
+use Rattle.fm_top.{specs.declared.command.question.Question.TheVariants.{Query, Stream, Tally}, proofs.{Comes.{over_told}, Requests.{same_request}}}
+use Rattle.fm_top_load.specs.Limits.{record_file_limit}
 use Rattle.fm_workers.specs.Counts.{IsTally}
 
 -- what is one outcome is printed alike

@@ -1,24 +1,15 @@
 -- Which outcome a request has.
 use Rattle.std.proofs.Common.{◌≡◌, ◌≢◌, ◌⊎◌, inl, inr, ℕ, suc, ◌%◌, ◌<◌, ◌≤◌, List, ap, length, replicate, Option, None, Some, true, sym, ◌∙◌, subst, refl, arith}
-use Rattle.std.proofs.lemmas.List.{length-replicate}
-use Rattle.std.specs.Prelude.{IsSomeAnd, nat_lt, Result, IfOk}
-use Rattle.std.proofs.lemmas.Bool.Decides.{Decides-ltb}
-use Rattle.std.proofs.lemmas.Result.{IfOk-weaker}
+use Rattle.std.{proofs.lemmas.{List.{length-replicate}, Bool.Decides.{Decides-ltb}, Result.{IfOk-weaker}}, specs.Prelude.{IsSomeAnd, nat_lt, Result, IfOk}}
 use Rattle.std.specs.declared.alloc.AllocError.{AllocError}
 use Rattle.fm_io.specs.Files.{Contents, file_of}
 use Rattle.fm_layout.specs.Tree.{Tree}
-use Rattle.fm_base.specs.declared.refusal.Refusal.{Refusal}
-use Rattle.fm_base.specs.declared.refusal.Refusal.TheVariants.{Memory}
-use Rattle.fm_top.specs.Ending.{shown}
-use Rattle.fm_top.specs.Found.{IsFound, OfFound}
+use Rattle.fm_base.specs.declared.refusal.Refusal.{Refusal, TheVariants.{Memory}}
+use Rattle.fm_top.specs.{Ending.{shown}, Found.{IsFound, OfFound}}
 use Rattle.fm_top.specs.Outcome.{Outcome, RecordsEnd, uneven, even, ragged, layout_of_file, too_long, layout_refused, query_refused, layout_file_limit}
-use Rattle.fm_top.specs.Queries.{IsLayoutRefused, IsUnplanned, TextEnds, unplanned, AskEnds, bad_layout}
-use Rattle.fm_top.specs.Run.{HasOutcome}
+use Rattle.fm_top.specs.{Queries.{IsLayoutRefused, IsUnplanned, TextEnds, unplanned, AskEnds, bad_layout}, Run.{HasOutcome}, Words.{Ask}}
+use Rattle.fm_top.specs.declared.{outcome.ending.Ending.{Ending}, command.{layout_text.LayoutText.{LayoutText}, question.Question.{Question}}}
 use Rattle.fm_top_load.specs.Whole.{IsWhole, IsOver}
-use Rattle.fm_top.specs.Words.{Ask}
-use Rattle.fm_top.specs.declared.outcome.ending.Ending.{Ending}
-use Rattle.fm_top.specs.declared.command.layout_text.LayoutText.{LayoutText}
-use Rattle.fm_top.specs.declared.command.question.Question.{Question}
 
 -- ---- what is found
 

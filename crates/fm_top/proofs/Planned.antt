@@ -4,9 +4,7 @@ use Rattle.fm_layout.specs.Tree.{Tree}
 use Rattle.fm_records_query.specs.Plan.{Plan}
 use Rattle.fm_workers.specs.Counts.{IsTally}
 use Rattle.fm_top_stream.specs.Chunks.{most_chunk}
-use Rattle.fm_top.specs.Queries.{IsPlanned, IsSmall}
-use Rattle.fm_top.specs.declared.command.question.Question.{Question}
-use Rattle.fm_top.specs.declared.command.question.Question.TheVariants.{Query, Stream, Tally}
+use Rattle.fm_top.specs.{Queries.{IsPlanned, IsSmall}, declared.command.question.Question.{Question, TheVariants.{Query, Stream, Tally}}}
 
 -- what is known of an answer
 pub of_ok : {T E : Type 0} {answered answer : Result T E} {x : T} (P : T → Type 0) → answer ≡ answered → answer ≡ Ok x → IfOk answered P → P x

@@ -1,28 +1,12 @@
 -- What is learnt from a run.
-use Rattle.std.proofs.Common.{◌≡◌, ℕ, List, Option, Some, refl, sym, subst, ◌≢◌, ◌≤◌, Result, Ok, Err, inl, arith}
+use Rattle.std.{proofs.Common.{◌≡◌, ℕ, List, Option, Some, refl, sym, subst, ◌≢◌, ◌≤◌, Result, Ok, Err, inl, arith}, specs.Prelude.{◌⊎◌}}
 use Rattle.fm_io.specs.declared.fault.Fault.TheVariants as fault
-use Rattle.fm_io.specs.Count.{Rose, Raised}
-use Rattle.fm_io.specs.Files.{Contents}
-use Rattle.fm_io.specs.declared.fault.Fault.{Fault}
-use Rattle.fm_top.specs.Causes.{OverFiles}
-use Rattle.fm_top.specs.Ending.{shown}
-use Rattle.fm_top.specs.Ends.{EndsWords}
-use Rattle.fm_top.specs.Outcome.{Outcome}
-use Rattle.fm_top.specs.Ran.{Ran}
+use Rattle.fm_io.specs.{Count.{Rose, Raised}, Files.{Contents}, declared.fault.Fault.{Fault}, View.{FilesView}, Sink.{SinkView}}
+use Rattle.fm_top.specs.{Causes.{OverFiles}, Ending.{shown}, Ends.{EndsWords}, Outcome.{Outcome}, Ran.{Ran}}
 use Rattle.fm_top.specs.Run.{HasOutcome, IsOutcome, faulty, asked, Traces, printed, failed, stopped, Runs, ended, unread, unknown, IsValid, Answers, is_answered, cut_short, wants_memory, Prints, TellsMissing, code_of, traces_of}
-use Rattle.fm_io.specs.View.{FilesView}
-use Rattle.fm_io.specs.Sink.{SinkView}
-use Rattle.fm_top.specs.Words.{Request, Asks}
-use Rattle.fm_top.specs.declared.outcome.ending.Ending.{Ending}
-use Rattle.fm_top.specs.declared.outcome.left.Left.{Left}
-use Rattle.fm_top.specs.declared.outcome.left.Left.TheVariants.{Nothing}
-use Rattle.fm_top.specs.declared.outcome.status.Status.{Status}
+use Rattle.fm_top.specs.{Words.{Request, Asks}, declared.outcome.{ending.Ending.{Ending}, left.Left.{Left, TheVariants.{Nothing}}, status.Status.{Status}}}
 use Rattle.fm_top.specs.declared.outcome.status.Status.TheVariants.{Answered, Missing, LayoutRefused, QueryRefused, Ragged, TooLong, ScriptRefused, Unread, Unwritten, NoMemory}
-use Rattle.std.specs.Prelude.{◌⊎◌}
-use Rattle.fm_top.proofs.Causes.{CauseOf}
-use Rattle.fm_top.proofs.Comes.{told_cause, comes_of}
-use Rattle.fm_top.proofs.Requests.{same_request}
-use Rattle.fm_top.proofs.Runs.{code_of-injective, faulty_ends, misses-printed}
+use Rattle.fm_top.proofs.{Causes.{CauseOf}, Comes.{told_cause, comes_of}, Requests.{same_request}, Runs.{code_of-injective, faulty_ends, misses-printed}}
 
 -- of valid input no status but that of an answer has a cause
 valid_status : (s : Status) (request : Request) (contents : Contents) → IsValid request contents → OverFiles (CauseOf s) request contents → s ≡ Answered

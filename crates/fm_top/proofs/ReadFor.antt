@@ -1,18 +1,10 @@
 -- What is read for a request.
-use Rattle.std.proofs.Common.{◌≡◌, ℕ, List, [], ◌++◌, Option, None, Some, refl, sym, subst}
-use Rattle.std.proofs.lemmas.List.{append-nil}
-use Rattle.fm_io.specs.Files.{Contents}
-use Rattle.fm_io.specs.Reads.{Read, ReadsOn, Next, Ended}
-use Rattle.fm_io.proofs.Followed.{ReadsOn-none, ReadsOn-append}
+use Rattle.std.proofs.{Common.{◌≡◌, ℕ, List, [], ◌++◌, Option, None, Some, refl, sym, subst}, lemmas.List.{append-nil}}
+use Rattle.fm_io.{specs.{Files.{Contents}, Reads.{Read, ReadsOn, Next, Ended}}, proofs.Followed.{ReadsOn-none, ReadsOn-append}}
 use Rattle.fm_records_query.specs.Plan.{Plan}
-use Rattle.fm_top.specs.Causes.{IsAsked}
-use Rattle.fm_top.specs.Outcome.{layout_file_limit}
-use Rattle.fm_top_load.specs.Reading.{ReadsUpTo}
-use Rattle.fm_top.specs.Reading.{ReadsIf, AreReadsOf, first_limit, last_limit, ReadsFor}
-use Rattle.fm_top.specs.Queries.{records_limit}
-use Rattle.fm_top_load.specs.Whole.{IsWhole}
-use Rattle.fm_top.specs.Words.{Request, Ask, first_file, last_file}
-use Rattle.fm_top.specs.declared.command.question.Question.{Question}
+use Rattle.fm_top.specs.{Causes.{IsAsked}, Outcome.{layout_file_limit}, Reading.{ReadsIf, AreReadsOf, first_limit, last_limit, ReadsFor}}
+use Rattle.fm_top.specs.{Queries.{records_limit}, Words.{Request, Ask, first_file, last_file}, declared.command.question.Question.{Question}}
+use Rattle.fm_top_load.specs.{Reading.{ReadsUpTo}, Whole.{IsWhole}}
 
 none_of : (name : Option (List ℕ)) (limit : ℕ) → AreReadsOf name limit []
 none_of None limit = refl

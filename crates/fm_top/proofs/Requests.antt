@@ -1,19 +1,11 @@
 -- Words ask for one thing.
-use Rattle.std.proofs.Common.{◌≡◌, ℕ, List, [], ◌∷◌, Option, refl, sym, ap, subst, ◌∙◌, arith, codes, get_or}
-use Rattle.std.specs.Fmt.{decimal}
-use Rattle.std.specs.Prelude.{bytes_eq, if◌then◌else◌}
-use Rattle.std.proofs.lemmas.Fmt.{decimal_injective}
-use Rattle.fm_lanes.proofs.Naming.{kind_text-injective}
-use Rattle.fm_lanes.specs.Named.{kind_text}
-use Rattle.fm_lanes.specs.declared.value_kind.ValueKind.{ValueKind}
-use Rattle.fm_top_options.proofs.Said.{one_saying}
-use Rattle.fm_top_options.specs.Options.{Say}
+use Rattle.std.{proofs.Common.{◌≡◌, ℕ, List, [], ◌∷◌, Option, refl, sym, ap, subst, ◌∙◌, arith, codes, get_or}, specs.Fmt.{decimal}}
+use Rattle.std.{specs.Prelude.{bytes_eq, if◌then◌else◌}, proofs.lemmas.Fmt.{decimal_injective}}
+use Rattle.fm_lanes.{proofs.Naming.{kind_text-injective}, specs.{Named.{kind_text}, declared.value_kind.ValueKind.{ValueKind}}}
+use Rattle.fm_top_options.{proofs.Said.{one_saying}, specs.Options.{Say}}
 use Rattle.fm_top.specs.Words.{Request, Sum, Layout, Ask, Demo, Run, Asks, IsSum, IsOfFile, IsThreaded, IsAsk, IsCount, IsDemo, AreThreadsBy, IsLayout, layout_word, question_word, three}
-use Rattle.fm_top.specs.declared.command.layout_text.LayoutText.{LayoutText}
-use Rattle.fm_top.specs.declared.command.layout_text.LayoutText.TheVariants.{Places, Json}
-use Rattle.fm_top.specs.declared.command.question.Question.{Question}
-use Rattle.fm_top.specs.declared.command.question.Question.TheVariants.{Query, Stream, Tally}
-use Rattle.fm_top.proofs.Threaded.{one_count}
+use Rattle.fm_top.specs.declared.command.{layout_text.LayoutText.{LayoutText, TheVariants.{Places, Json}}, question.Question.{Question}}
+use Rattle.fm_top.{specs.declared.command.question.Question.TheVariants.{Query, Stream, Tally}, proofs.Threaded.{one_count}}
 
 same_sum : (words : List (List ℕ)) (n m n' m' : ℕ) (kind kind' : ValueKind) (file file' : List ℕ)
     → IsSum words n m kind file → IsSum words n' m' kind' file' → Sum n m kind file ≡ Sum n' m' kind' file'

@@ -1,17 +1,12 @@
 -- How runs end.
-use Rattle.std.proofs.Common.{◌≡◌, ◌≢◌, ℕ, List, [], ◌∷◌, get_or, Option, None, Some, refl, sym, ap, ◌∙◌, inl, inr}
-use Rattle.std.specs.Prelude.{◌⊎◌}
+use Rattle.std.{proofs.Common.{◌≡◌, ◌≢◌, ℕ, List, [], ◌∷◌, get_or, Option, None, Some, refl, sym, ap, ◌∙◌, inl, inr}, specs.Prelude.{◌⊎◌}}
 use Rattle.fm_io.specs.Files.{Contents}
-use Rattle.fm_top.specs.Ending.{TellsMiss}
-use Rattle.fm_top.specs.Found.{OfFile}
-use Rattle.fm_top.specs.Outcome.{Outcome}
+use Rattle.fm_top.specs.{Ending.{TellsMiss}, Found.{OfFile}, Outcome.{Outcome}}
 use Rattle.fm_top.specs.Run.{EndsBy, HasOutcome, IsOutcome, faulty, asked, Traces, Prints, printed, failed, stopped, Runs, ended, unread, unknown, TellsMissing, code_of, EndsWith}
-use Rattle.fm_top.specs.Words.{Request, Sum, Ask, Demo, Asks, CanBeAsked, AreFaulty, first_file, last_file}
-use Rattle.fm_top.specs.declared.outcome.left.Left.{Left}
+use Rattle.fm_top.specs.{Words.{Request, Sum, Ask, Demo, Asks, CanBeAsked, AreFaulty, first_file, last_file}, declared.outcome.left.Left.{Left}}
 use Rattle.fm_top.specs.declared.outcome.status.Status.{Status}
 use Rattle.fm_top.specs.declared.outcome.status.Status.TheVariants.{Answered, Usage, Missing, Unread, LayoutRefused, QueryRefused, Ragged, TooLong, Unwritten, NoMemory, ScriptRefused}
-use Rattle.fm_top.proofs.Threaded.{are_threads}
-use Rattle.fm_top.proofs.Causes.{CauseOf, end_cause}
+use Rattle.fm_top.proofs.{Threaded.{are_threads}, Causes.{CauseOf, end_cause}}
 
 -- what words ask for can be asked
 pub can_be_asked : (words : List (List ℕ)) (request : Request) → Asks words request → CanBeAsked request

@@ -1,29 +1,18 @@
 -- How a run ends whose record file goes through a pool.
-use Rattle.std.proofs.Common.{◌≡◌, ℕ, List, Option, None, Some, Result, Ok, Err, refl, ap, sym, ◌∙◌, subst, arith}
-use Rattle.std.specs.Prelude.{⊤}
-use Rattle.fm_io.specs.declared.fault.Fault.{Fault}
+use Rattle.std.{proofs.Common.{◌≡◌, ℕ, List, Option, None, Some, Result, Ok, Err, refl, ap, sym, ◌∙◌, subst, arith}, specs.Prelude.{⊤}}
+use Rattle.fm_io.specs.{declared.fault.Fault.{Fault}, View.{FilesView, Leaves}}
 use Rattle.fm_io.specs.declared.fault.Fault.TheVariants as fault
-use Rattle.fm_io.specs.View.{FilesView, Leaves}
 use Rattle.fm_records_query.specs.Plan.{Plan}
-use Rattle.fm_records.specs.declared.found.Found.{Found}
-use Rattle.fm_records.specs.Texts.{answer_text}
+use Rattle.fm_records.specs.{declared.found.Found.{Found}, Texts.{answer_text}}
 use Rattle.fm_rule.specs.Finishing.{FinishedView}
 use Rattle.fm_top_load.specs.Reading.{ReadsSome}
-use Rattle.fm_top_stream.specs.Chunks.{stream_file_limit}
-use Rattle.fm_top_stream.specs.Faults.{TellsStream}
-use Rattle.fm_top_stream.specs.Shown.{Streams}
-use Rattle.fm_top_stream.specs.declared.stream_fault.StreamFault.{StreamFault}
+use Rattle.fm_top_stream.specs.{Chunks.{stream_file_limit}, Faults.{TellsStream}, Shown.{Streams}, declared.stream_fault.StreamFault.{StreamFault}}
 use Rattle.fm_top_stream.specs.declared.stream_fault.StreamFault.TheVariants.{Missing, Ragged, Read, TooLong}
-use Rattle.fm_top.specs.Ending.{TellsMisses, shown}
-use Rattle.fm_top.specs.Ends.{EndsFile, ShowsFiles}
-use Rattle.fm_top.specs.Found.{IsFound}
-use Rattle.fm_top.specs.Outcome.{Outcome, answered_by_pool, even, missing, no_file, ragged, too_long, too_many, uneven}
-use Rattle.fm_top.specs.Queries.{PlanEnds}
-use Rattle.fm_top.specs.declared.command.question.Question.TheVariants.{Stream}
-use Rattle.fm_top.specs.declared.outcome.ending.Ending.{Ending}
-use Rattle.fm_top.specs.declared.outcome.status.Status.TheVariants as status
-use Rattle.fm_top.proofs.Outcomes.{long_found}
+use Rattle.fm_top.specs.{Ending.{TellsMisses, shown}, Ends.{EndsFile, ShowsFiles}, Found.{IsFound}}
+use Rattle.fm_top.specs.{Outcome.{Outcome, answered_by_pool, even, missing, no_file, ragged, too_long, too_many, uneven}, Queries.{PlanEnds}}
+use Rattle.fm_top.{specs.declared.{command.question.Question.TheVariants.{Stream}, outcome.ending.Ending.{Ending}}, proofs.Outcomes.{long_found}}
 use Rattle.fm_top.proofs.ReadFor.{read_for}
+use Rattle.fm_top.specs.declared.outcome.status.Status.TheVariants as status
 
 -- The counts show how it ended.
 shows_by : {Failed Missing : Type 0} {old new : FilesView} {result : Result Ending Fault} → Leaves Failed Missing old new

@@ -1,24 +1,13 @@
 -- Sums of the values of records.
 use Rattle.std.proofs.Common.{◌≡◌, ℕ, suc, ◌+◌, ◌-◌, ◌*◌, ◌/◌, ◌%◌, ◌<◌, ◌≤◌, ◌^◌, List, ◌∷◌, length, take, drop, map, ap, sym, subst, ◌∙◌, arith, mul_assoc}
-use Rattle.std.proofs.Math.Nat.{div-mul-le_self, mod-add-div', mul-add-mod_self_right, mul-le-mul_right}
-use Rattle.std.proofs.lemmas.List.{drop-drop}
-use Rattle.std.specs.Prelude.{ℤ, pos, negsuc, ◌+ℤ◌, ◌≤ℤ◌}
-use Rattle.std.proofs.Math.IntN.{+ℤ_assoc}
-use Rattle.std.proofs.lemmas.Int.{ints}
+use Rattle.std.proofs.{Math.Nat.{div-mul-le_self, mod-add-div', mul-add-mod_self_right, mul-le-mul_right}, lemmas.List.{drop-drop}}
+use Rattle.std.{specs.Prelude.{ℤ, pos, negsuc, ◌+ℤ◌, ◌≤ℤ◌}, proofs.{Math.IntN.{+ℤ_assoc}, lemmas.Int.{ints}}}
 use lib.Signed.{mag}
-use Rattle.fm_lanes.specs.Coding.{value_of}
-use Rattle.fm_lanes.specs.Value.{number_of_value}
-use Rattle.fm_lanes.specs.declared.order.Order.TheVariants.{Little}
-use Rattle.fm_lanes.specs.declared.value_kind.ValueKind.{ValueKind}
-use Rattle.fm_lanes.specs.declared.value.Value.{Value}
-use Rattle.fm_lanes.specs.Kind.{width_of}
-use Rattle.fm_layout.specs.Tree.{Tree}
-use Rattle.fm_layout.specs.Size.{size_of}
-use Rattle.fm_layout.specs.Made.{value_of as natural}
-use Rattle.fm_segment.specs.Alone.{Means}
-use Rattle.fm_segment.proofs.Alone.{take-part}
-use Rattle.fm_records.specs.Answers.{sum_of}
-use Rattle.fm_records.specs.Records.{pieces}
+use Rattle.fm_lanes.specs.{Coding.{value_of}, Value.{number_of_value}, declared.{order.Order.TheVariants.{Little}, value_kind.ValueKind.{ValueKind}}}
+use Rattle.fm_lanes.specs.{declared.value.Value.{Value}, Kind.{width_of}}
+use Rattle.fm_layout.specs.{Tree.{Tree}, Size.{size_of}, Made.{value_of as natural}}
+use Rattle.fm_segment.{specs.Alone.{Means}, proofs.Alone.{take-part}}
+use Rattle.fm_records.specs.{Answers.{sum_of}, Records.{pieces}}
 use Rattle.fm_top.specs.Records.{number_at}
 
 -- at most 2^63 from 0 for each of so many values

@@ -1,14 +1,8 @@
 -- Which words are those of a command with threads.
 use Rattle.std.proofs.Common.{◌≡◌, ℕ, ◌-◌, ◌≤◌, List, [], ◌∷◌, length, take, drop, get_or, Option, None, Some, sym, ap, subst, ◌∙◌, arith}
-use Rattle.std.specs.Prelude.{Bool, false, not, IfSome, IfNone, String, string_bytes}
-use Rattle.std.specs.Str.{bytes_eq}
-use Rattle.std.specs.declared.alloc.Global.{Global}
-use Rattle.std.proofs.lemmas.Bool.{not-false}
-use Rattle.std.proofs.lemmas.Fmt.{decimal_injective}
-use Rattle.std.proofs.lemmas.List.{take_all}
-use Rattle.std.proofs.lemmas.Slice.Eq.{bytes_eq-Decides}
-use Rattle.fm_top_options.proofs.Said.{one_saying}
-use Rattle.fm_top_options.specs.Options.{Say, texts}
+use Rattle.std.specs.{Prelude.{Bool, false, not, IfSome, IfNone, String, string_bytes}, Str.{bytes_eq}, declared.alloc.Global.{Global}}
+use Rattle.std.proofs.lemmas.{Bool.{not-false}, Fmt.{decimal_injective}, List.{take_all}, Slice.Eq.{bytes_eq-Decides}}
+use Rattle.fm_top_options.{proofs.Said.{one_saying}, specs.Options.{Say, texts}}
 use Rattle.fm_top.specs.Words.{AreThreads, AreThreadsBy, IsThreaded}
 
 -- a word that was tested not to differ

@@ -1,6 +1,5 @@
 -- What a command of the code asks for.
-use Rattle.fm_top.specs.Words.{Request, Sum, Layout, Ask, Demo, Run}
-use Rattle.fm_top.specs.declared.command.Subcommand.{Subcommand}
+use Rattle.fm_top.specs.{Words.{Request, Sum, Layout, Ask, Demo, Run}, declared.command.Subcommand.{Subcommand}}
 use Rattle.fm_top.specs.declared.command.Subcommand.TheVariants as command
 
 abbrev pub request_of : Subcommand → Request

@@ -7,11 +7,9 @@ use Rattle.fm_ljson.specs.Answer.{layout_of_json}
 use Rattle.fm_records_query.specs.Plan.{Plan}
 use Rattle.fm_script_text.specs.Scripts.{IsRefused as IsScriptRefused}
 use Rattle.fm_top_load.specs.Limits.{record_file_limit}
-use Rattle.fm_top.specs.Found.{file_under}
-use Rattle.fm_top.specs.Outcome.{layout_file_limit, script_file_limit}
+use Rattle.fm_top.specs.{Found.{file_under}, Outcome.{layout_file_limit, script_file_limit}}
 use Rattle.fm_top.specs.Queries.{IsRecordLayout, IsLayoutRefused, IsPlanned, IsUnplanned, records_limit}
-use Rattle.fm_top.specs.Words.{Request, Sum, Layout, Ask, Demo, Run, first_file, last_file}
-use Rattle.fm_top.specs.declared.command.question.Question.{Question}
+use Rattle.fm_top.specs.{Words.{Request, Sum, Layout, Ask, Demo, Run, first_file, last_file}, declared.command.question.Question.{Question}}
 
 -- it holds of what these files have under the request's names
 abbrev pub OverFiles : (Request → Option (List ℕ) → Option (List ℕ) → Type 0) → Request → Contents → Type 0

@@ -2,10 +2,8 @@
 use Rattle.std.specs.Prelude.{◌≡◌, ℕ, List, ◌++◌, codes}
 use Rattle.fm_top_demo.specs.Records.{made_layout, made_records}
 use Rattle.fm_top_pooled.specs.Shown.{ShowsBoth}
-use Rattle.fm_records_query.specs.Parsed.{IsParsed}
-use Rattle.fm_records_query.specs.Plan.{Plan}
-use Rattle.fm_records.specs.Answers.{answer}
-use Rattle.fm_records.specs.Texts.{answer_text}
+use Rattle.fm_records_query.specs.{Parsed.{IsParsed}, Plan.{Plan}}
+use Rattle.fm_records.specs.{Answers.{answer}, Texts.{answer_text}}
 use Rattle.fm_rule.specs.Finishing.{FinishedView}
 use Rattle.fm_top.specs.Outcome.{Outcome, answered_by_pool}
 

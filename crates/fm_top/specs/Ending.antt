@@ -1,18 +1,11 @@
 -- What a run's ending says.
 use Rattle.std.specs.Prelude.{◌≡◌, ◌≢◌, ◌↔◌, ℕ, List, ◌++◌, Result, Ok, Err, IfOk, IsOk, string_bytes}
-use Rattle.fm_io.specs.Count.{Rose}
-use Rattle.fm_io.specs.declared.fault.Fault.{Fault}
-use Rattle.fm_io.specs.declared.fault.Fault.TheVariants.{Failed}
+use Rattle.fm_io.specs.{Count.{Rose}, declared.fault.Fault.{Fault, TheVariants.{Failed}}}
 use Rattle.fm_records.specs.Texts.{answer_text}
-use Rattle.fm_top.specs.Outcome.{Outcome, missing, too_long}
-use Rattle.fm_top.specs.declared.outcome.answered.Answered.{Answered}
-use Rattle.fm_top.specs.declared.outcome.ending.Ending.{Ending}
-use Rattle.fm_top.specs.declared.outcome.status.Status.{Status}
-use Rattle.fm_top.specs.declared.outcome.status.Status.TheVariants.{Missing}
+use Rattle.fm_top.specs.{Outcome.{Outcome, missing, too_long}, declared.outcome.{answered.Answered.{Answered}, ending.Ending.{Ending}, status.Status.{Status}}}
+use Rattle.fm_top.specs.declared.outcome.{status.Status.TheVariants.{Missing}, output.Output.{Output, TheVariants.{Whole, Bytes, NoFile, Answer, Both}}}
 use Rattle.fm_top_load.specs.declared.load_fault.LoadFault.{LoadFault}
 use Rattle.fm_top_load.specs.declared.load_fault.LoadFault.TheVariants as fault
-use Rattle.fm_top.specs.declared.outcome.output.Output.{Output}
-use Rattle.fm_top.specs.declared.outcome.output.Output.TheVariants.{Whole, Bytes, NoFile, Answer, Both}
 
 abbrev pub answered_text : Answered → List ℕ
 answered_text a = answer_text a.query a.answer

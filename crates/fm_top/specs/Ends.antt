@@ -1,16 +1,8 @@
 -- How a run's end is come to, and what that leaves of the files: one record for every command.
 use Rattle.std.specs.Prelude.{◌≡◌, ◌≢◌, ◌≤◌, ℕ, List, Option, Result, Err, IfOk, IsErrOf}
-use Rattle.fm_io.specs.Count.{Rose}
-use Rattle.fm_io.specs.declared.fault.Fault.{Fault}
-use Rattle.fm_io.specs.declared.fault.Fault.TheVariants.{Failed}
-use Rattle.fm_top.specs.Ending.{TellsMisses, shown}
-use Rattle.fm_top.specs.Found.{OfFound}
-use Rattle.fm_top.specs.Outcome.{Outcome}
-use Rattle.fm_top.specs.Reading.{ReadsFor, ReadsIf}
-use Rattle.fm_top.specs.Run.{AskSome, HasOutcome, IsOutcome}
-use Rattle.fm_io.specs.View.{FilesView}
-use Rattle.fm_top.specs.Words.{Asks, Request}
-use Rattle.fm_top.specs.declared.outcome.ending.Ending.{Ending}
+use Rattle.fm_io.specs.{Count.{Rose}, declared.fault.Fault.{Fault, TheVariants.{Failed}}, View.{FilesView}}
+use Rattle.fm_top.specs.{Ending.{TellsMisses, shown}, Found.{OfFound}, Outcome.{Outcome}, Reading.{ReadsFor, ReadsIf}, Run.{AskSome, HasOutcome, IsOutcome}}
+use Rattle.fm_top.specs.{Words.{Asks, Request}, declared.outcome.ending.Ending.{Ending}}
 
 -- what the files hold stays, and their counts show how it ended
 pub record ShowsFiles (old new : FilesView) (result : Result Ending Fault) : Type 0 where

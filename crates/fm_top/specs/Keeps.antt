@@ -2,8 +2,7 @@
 use Rattle.std.specs.Prelude.{Option, None, Some}
 use Rattle.fm_script_report.specs.Views.{ReportView}
 use Rattle.fm_rule.specs.Finishing.{FinishedView}
-use Rattle.fm_top.specs.declared.outcome.left.Left.{Left}
-use Rattle.fm_top.specs.declared.outcome.left.Left.TheVariants.{Pool, Report}
+use Rattle.fm_top.specs.declared.outcome.left.Left.{Left, TheVariants.{Pool, Report}}
 
 -- the pool that is kept, if one is
 abbrev pub pool_in : Left → Option FinishedView

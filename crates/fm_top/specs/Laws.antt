@@ -1,9 +1,7 @@
 -- What holds of every run, whatever the files.
 use Rattle.std.specs.Prelude.{◌≡◌, ℕ, List, Some}
 use Rattle.fm_io.specs.Files.{Contents}
-use Rattle.fm_top.specs.Outcome.{Outcome}
-use Rattle.fm_top.specs.Run.{IsOutcome}
-use Rattle.fm_top.specs.Words.{IsRun}
+use Rattle.fm_top.specs.{Outcome.{Outcome}, Run.{IsOutcome}, Words.{IsRun}}
 
 -- both print the same and have one status
 pub record PrintAlike (o o' : Outcome) : Type 0 where

@@ -2,22 +2,16 @@
 use Rattle.std.specs.Prelude.{◌≡◌, ◌≢◌, ℕ, ◌%◌, ◌<◌, ◌≤◌, nat_lt, if◌then◌else◌, List, [], ◌∷◌, ◌++◌, length, codes, Option, None, Some, Result, Ok, Err}
 use Rattle.std.specs.Fmt.{decimal, signed_decimal}
 use Rattle.fm_top_load.specs.Limits.{record_file_limit}
-use Rattle.fm_base.specs.Printed.{refusal_text}
-use Rattle.fm_base.specs.declared.refusal.Refusal.{Refusal}
+use Rattle.fm_base.specs.{Printed.{refusal_text}, declared.refusal.Refusal.{Refusal}}
 use Rattle.fm_lanes.specs.declared.value_kind.ValueKind.{ValueKind}
 use Rattle.fm_layout.specs.Tree.{Tree}
 use Rattle.fm_ljson.specs.Answer.{layout_of_json}
 use Rattle.fm_ljson_write.specs.Canonical.{document_text}
 use Rattle.fm_path.specs.Listing.{list_text}
-use Rattle.fm_script_report.specs.Texts.{report_text}
-use Rattle.fm_script_report.specs.Views.{ReportView}
+use Rattle.fm_script_report.specs.{Texts.{report_text}, Views.{ReportView}}
 use Rattle.fm_rule.specs.Finishing.{FinishedView}
-use Rattle.fm_top.specs.Records.{sum_of_values}
-use Rattle.fm_top.specs.declared.command.layout_text.LayoutText.{LayoutText}
-use Rattle.fm_top.specs.declared.command.layout_text.LayoutText.TheVariants.{Places, Json}
-use Rattle.fm_top.specs.declared.outcome.left.Left.{Left}
-use Rattle.fm_top.specs.declared.outcome.left.Left.TheVariants.{Nothing, Pool, Report}
-use Rattle.fm_top.specs.declared.outcome.status.Status.{Status}
+use Rattle.fm_top.specs.{Records.{sum_of_values}, declared.{command.layout_text.LayoutText.{LayoutText, TheVariants.{Places, Json}}, outcome.left.Left.{Left}}}
+use Rattle.fm_top.specs.declared.outcome.{left.Left.TheVariants.{Nothing, Pool, Report}, status.Status.{Status}}
 use Rattle.fm_top.specs.declared.outcome.status.Status.TheVariants.{Answered, Usage, Missing, LayoutRefused, QueryRefused, Ragged, TooLong, ScriptRefused}
 
 pub record Outcome : Type 0 where

@@ -1,25 +1,17 @@
 -- How a query, a stream or a tally ends by what is found under the names of its two files.
 use Rattle.std.specs.Prelude.{◌≡◌, ◌≢◌, ◌⊎◌, ℕ, ◌<◌, ◌≤◌, ⊤, List, length, Option, None, Some, Result, Ok, Err}
-use Rattle.fm_base.specs.declared.refusal.Refusal.{Refusal}
-use Rattle.fm_base.specs.declared.refusal.Refusal.TheVariants.{Memory, Overflow}
-use Rattle.fm_layout.specs.Tree.{Tree}
+use Rattle.fm_base.specs.declared.refusal.Refusal.{Refusal, TheVariants.{Memory, Overflow}}
+use Rattle.fm_layout.specs.{Tree.{Tree}, Size.{size_of}}
 use Rattle.fm_ljson.specs.Answer.{layout_of_json}
-use Rattle.fm_layout.specs.Size.{size_of}
 use Rattle.fm_top_load.specs.Limits.{record_file_limit}
 use Rattle.fm_top_pooled.specs.Shown.{ShowsQuery}
-use Rattle.fm_top_stream.specs.Chunks.{most_chunk, stream_file_limit}
-use Rattle.fm_top_stream.specs.Shown.{ShowsStream}
-use Rattle.fm_records_query.specs.Parsed.{IsParsed, IsNoQuery}
-use Rattle.fm_records_query.specs.Plan.{Plan}
-use Rattle.fm_records_query.specs.Records.{IsRecord, IsNoRecord}
-use Rattle.fm_records.specs.Answers.{answer}
-use Rattle.fm_records.specs.Texts.{answer_text}
+use Rattle.fm_top_stream.specs.{Chunks.{most_chunk, stream_file_limit}, Shown.{ShowsStream}}
+use Rattle.fm_records_query.specs.{Parsed.{IsParsed, IsNoQuery}, Plan.{Plan}, Records.{IsRecord, IsNoRecord}}
+use Rattle.fm_records.specs.{Answers.{answer}, Texts.{answer_text}}
 use Rattle.fm_rule.specs.Finishing.{FinishedView}
 use Rattle.fm_workers.specs.Counts.{listed}
 use Rattle.fm_top.specs.Outcome.{Outcome, missing, too_long, layout_refused, query_refused, answered_by_pool, RecordsEnd, layout_file_limit}
-use Rattle.fm_top.specs.Tallies.{IsTallied, IsPathRefused, tally_text}
-use Rattle.fm_top.specs.declared.command.question.Question.{Question}
-use Rattle.fm_top.specs.declared.command.question.Question.TheVariants.{Query, Stream, Tally}
+use Rattle.fm_top.specs.{Tallies.{IsTallied, IsPathRefused, tally_text}, declared.command.question.Question.{Question, TheVariants.{Query, Stream, Tally}}}
 
 -- ---- the layout
 

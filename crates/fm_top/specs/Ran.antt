@@ -1,13 +1,9 @@
 -- What is learnt from a run of the tool.
 use Rattle.std.specs.Prelude.{◌≡◌, ◌≢◌, ◌≤◌, ◌⊎◌, ⊤, ℕ, List, Option, IfSome, Some}
-use Rattle.fm_io.specs.Count.{Rose, Raised}
-use Rattle.fm_io.specs.Files.{Contents}
-use Rattle.fm_top.specs.Causes.{OverFiles, LacksFile, HasLongFile, HasRefusedLayout, HasRefusedQuery, HasRaggedFile, HasRefusedScript}
-use Rattle.fm_top.specs.Reading.{ReadsFor}
-use Rattle.fm_top.specs.Run.{Answers, EndsWith, IsValid, Runs, TellsMissing, Traces, code_of}
-use Rattle.fm_top.specs.Words.{AreFaulty, Asks, Request}
-use Rattle.fm_top.specs.declared.outcome.left.Left.{Left}
-use Rattle.fm_top.specs.declared.outcome.status.Status.{Status}
+use Rattle.fm_io.specs.{Count.{Rose, Raised}, Files.{Contents}}
+use Rattle.fm_top.specs.{Causes.{OverFiles, LacksFile, HasLongFile, HasRefusedLayout, HasRefusedQuery, HasRaggedFile, HasRefusedScript}, Reading.{ReadsFor}}
+use Rattle.fm_top.specs.{Run.{Answers, EndsWith, IsValid, Runs, TellsMissing, Traces, code_of}, Words.{AreFaulty, Asks, Request}}
+use Rattle.fm_top.specs.declared.outcome.{left.Left.{Left}, status.Status.{Status}}
 use Rattle.fm_top.specs.declared.outcome.status.Status.TheVariants.{Answered, Usage, Missing, Unread, LayoutRefused, QueryRefused, Ragged, TooLong, Unwritten, NoMemory, ScriptRefused}
 
 -- the words ask for this, where the files tell

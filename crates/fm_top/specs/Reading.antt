@@ -1,14 +1,9 @@
 -- What is read for a request, and in which order.
 use Rattle.std.specs.Prelude.{◌≡◌, ◌≢◌, ℕ, ◌+◌, List, [], ◌++◌, Option, None, Some}
-use Rattle.fm_io.specs.Files.{Contents}
-use Rattle.fm_io.specs.Reads.{Read, ReadsOn, At, Ended, Follow, next_after}
-use Rattle.fm_top_load.specs.Limits.{record_file_limit}
-use Rattle.fm_top_load.specs.Reading.{piece_limit}
+use Rattle.fm_io.specs.{Files.{Contents}, Reads.{Read, ReadsOn, At, Ended, Follow, next_after}}
+use Rattle.fm_top_load.specs.{Limits.{record_file_limit}, Reading.{piece_limit}}
 use Rattle.fm_records_query.specs.Plan.{Plan}
-use Rattle.fm_top.specs.Causes.{IsAsked}
-use Rattle.fm_top.specs.Found.{OfFile}
-use Rattle.fm_top.specs.Outcome.{layout_file_limit, script_file_limit}
-use Rattle.fm_top.specs.Queries.{records_limit}
+use Rattle.fm_top.specs.{Causes.{IsAsked}, Found.{OfFile}, Outcome.{layout_file_limit, script_file_limit}, Queries.{records_limit}}
 use Rattle.fm_top.specs.Words.{Request, Sum, Layout, Ask, Demo, Run, first_file, last_file}
 
 -- A file was read so, if at all; where it was, this holds.

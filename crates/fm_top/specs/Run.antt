@@ -1,19 +1,10 @@
 -- What a run of the tool does: the outcome that its words and files have, and how it may end.
 use Rattle.std.specs.Prelude.{◌≡◌, ◌⊎◌, ℕ, List, Option}
-use Rattle.fm_io.specs.Count.{Rose, Raised}
-use Rattle.fm_io.specs.Files.{Contents}
-use Rattle.fm_io.specs.Sink.{Appends, AppendsPrefix, SinkView}
-use Rattle.fm_top.specs.Causes.{OverFiles, LacksFile, HasLongFile, HasRefusedLayout, HasRefusedQuery, HasRaggedFile, HasRefusedScript}
-use Rattle.fm_top.specs.Demos.{DemoEnds}
-use Rattle.fm_top.specs.Found.{OfFile}
-use Rattle.fm_top.specs.Outcome.{Outcome, SumEnds, layout_outcome, usage}
-use Rattle.fm_top.specs.Queries.{AskEnds}
-use Rattle.fm_top.specs.Scripts.{ScriptEnds}
-use Rattle.fm_io.specs.View.{FilesView}
-use Rattle.fm_top.specs.Words.{Request, Sum, Layout, Ask, Demo, Run, Asks, AreFaulty, first_file, last_file}
-use Rattle.fm_top.specs.declared.outcome.left.Left.{Left}
-use Rattle.fm_top.specs.declared.outcome.left.Left.TheVariants.{Nothing}
-use Rattle.fm_top.specs.declared.outcome.status.Status.{Status}
+use Rattle.fm_io.specs.{Count.{Rose, Raised}, Files.{Contents}, Sink.{Appends, AppendsPrefix, SinkView}, View.{FilesView}}
+use Rattle.fm_top.specs.{Causes.{OverFiles, LacksFile, HasLongFile, HasRefusedLayout, HasRefusedQuery, HasRaggedFile, HasRefusedScript}, Demos.{DemoEnds}}
+use Rattle.fm_top.specs.{Found.{OfFile}, Outcome.{Outcome, SumEnds, layout_outcome, usage}, Queries.{AskEnds}, Scripts.{ScriptEnds}}
+use Rattle.fm_top.specs.{Words.{Request, Sum, Layout, Ask, Demo, Run, Asks, AreFaulty, first_file, last_file}, declared.outcome.left.Left.{Left}}
+use Rattle.fm_top.specs.declared.outcome.{left.Left.TheVariants.{Nothing}, status.Status.{Status}}
 use Rattle.fm_top.specs.declared.outcome.status.Status.TheVariants.{Answered, Usage, Missing, Unread, LayoutRefused, QueryRefused, Ragged, TooLong, Unwritten, NoMemory, ScriptRefused}
 
 -- the status as the process answers it

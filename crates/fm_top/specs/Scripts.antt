@@ -1,7 +1,6 @@
 -- How a script ends by what is found under its file's name.
 use Rattle.std.specs.Prelude.{ℕ, ◌<◌, ◌≤◌, List, length, Option, None, Some}
-use Rattle.fm_script_report.specs.Told.{IsRunOf}
-use Rattle.fm_script_report.specs.Views.{ReportView}
+use Rattle.fm_script_report.specs.{Told.{IsRunOf}, Views.{ReportView}}
 use Rattle.fm_script_text.specs.Scripts.{ScriptOf, IsScript, IsRefused}
 use Rattle.fm_top.specs.Outcome.{Outcome, missing, too_long, script_refused, reported, script_file_limit}
 

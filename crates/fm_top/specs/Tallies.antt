@@ -1,13 +1,9 @@
 -- Which texts name values that are counted, why others are refused, and what is printed.
-use Rattle.std.specs.Prelude.{◌≢◌, ℕ, List, ℤ, map}
-use Rattle.std.specs.List.{range_with_len}
-use Rattle.fm_base.specs.declared.refusal.Refusal.{Refusal}
-use Rattle.fm_base.specs.declared.refusal.Refusal.TheVariants.{Memory, Unsupported}
+use Rattle.std.specs.{Prelude.{◌≢◌, ℕ, List, ℤ, map}, List.{range_with_len}}
+use Rattle.fm_base.specs.declared.refusal.Refusal.{Refusal, TheVariants.{Memory, Unsupported}}
 use Rattle.fm_layout.specs.Tree.{Tree}
-use Rattle.fm_records_query.specs.Lists.{IsList, IsNoList}
-use Rattle.fm_records_query.specs.Plan.{Plan}
-use Rattle.fm_workers.specs.Counts.{IsTally, how_many, number_of}
-use Rattle.fm_workers.specs.Printed.{counts_text}
+use Rattle.fm_records_query.specs.{Lists.{IsList, IsNoList}, Plan.{Plan}}
+use Rattle.fm_workers.specs.{Counts.{IsTally, how_many, number_of}, Printed.{counts_text}}
 
 -- the text is that of a path to bytes or booleans, and the plan lists them
 pub record IsTallied (text : List ℕ) (t : Tree) (p : Plan) : Type 0 where

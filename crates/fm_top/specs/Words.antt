@@ -1,13 +1,9 @@
 -- Which lists of words are a command, and what each asks for.
-use Rattle.std.specs.Prelude.{◌≡◌, ℕ, ◌+◌, ◌%◌, ◌≢◌, ◌<◌, ◌≤◌, List, [], ◌∷◌, codes, slice_index, Option, None, Some}
-use Rattle.std.specs.Fmt.{decimal}
-use Rattle.fm_lanes.specs.declared.value_kind.ValueKind.{ValueKind}
-use Rattle.fm_lanes.specs.Kind.{width_of}
-use Rattle.fm_lanes.specs.Named.{kind_text}
+use Rattle.std.specs.{Prelude.{◌≡◌, ℕ, ◌+◌, ◌%◌, ◌≢◌, ◌<◌, ◌≤◌, List, [], ◌∷◌, codes, slice_index, Option, None, Some}, Fmt.{decimal}}
+use Rattle.fm_lanes.specs.{declared.value_kind.ValueKind.{ValueKind}, Kind.{width_of}, Named.{kind_text}}
 use Rattle.fm_top_options.specs.Options.{Say}
-use Rattle.fm_top.specs.declared.command.layout_text.LayoutText.{LayoutText}
+use Rattle.fm_top.specs.declared.command.{layout_text.LayoutText.{LayoutText}, question.Question.{Question}}
 use Rattle.fm_top.specs.declared.command.layout_text.LayoutText.TheVariants as layout_text
-use Rattle.fm_top.specs.declared.command.question.Question.{Question}
 use Rattle.fm_top.specs.declared.command.question.Question.TheVariants as question
 
 -- what a user asks for

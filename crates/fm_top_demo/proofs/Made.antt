@@ -1,9 +1,6 @@
 -- One record more.
-use Rattle.std.proofs.Common.{◌≡◌, ℕ, ◌+◌, List, [], ◌∷◌, ◌++◌, map, refl, ap, sym, ◌∙◌, arith}
-use Rattle.std.specs.List.{flat_map, range_with_len}
-use Rattle.std.proofs.lemmas.Grind.{flat_map-append}
-use Rattle.std.proofs.lemmas.List.{append-nil}
-use Rattle.std.proofs.lemmas.List.FromFn.{map-range_with_len_more}
+use Rattle.std.{proofs.Common.{◌≡◌, ℕ, ◌+◌, List, [], ◌∷◌, ◌++◌, map, refl, ap, sym, ◌∙◌, arith}, specs.List.{flat_map, range_with_len}}
+use Rattle.std.proofs.lemmas.{Grind.{flat_map-append}, List.{append-nil, FromFn.{map-range_with_len_more}}}
 use Rattle.fm_top_demo.specs.Records.{made_record, made_records}
 
 map-same : (xs : List ℕ) → map (λ x. x) xs ≡ xs

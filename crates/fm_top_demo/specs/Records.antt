@@ -1,10 +1,7 @@
 -- Records that are made from their numbers.
-use Rattle.std.specs.Prelude.{ℕ, ◌*◌, ◌%◌, List, ◌++◌, codes, ℤ, pos, ◌-ℤ◌, Option, Some, None}
-use Rattle.std.specs.List.{flat_map, range_with_len}
-use Rattle.fm_base_bytes.specs.Bytes.{bytes_of}
-use Rattle.fm_base_bytes.specs.Signed.{unsigned_of}
-use Rattle.fm_lanes.specs.declared.order.Order.TheVariants.{Little}
-use Rattle.fm_lanes.specs.declared.value_kind.ValueKind.TheVariants.{Int, Short, Long}
+use Rattle.std.specs.{Prelude.{ℕ, ◌*◌, ◌%◌, List, ◌++◌, codes, ℤ, pos, ◌-ℤ◌, Option, Some, None}, List.{flat_map, range_with_len}}
+use Rattle.fm_base_bytes.specs.{Bytes.{bytes_of}, Signed.{unsigned_of}}
+use Rattle.fm_lanes.specs.declared.{order.Order.TheVariants.{Little}, value_kind.ValueKind.TheVariants.{Int, Short, Long}}
 use Rattle.fm_layout.specs.Tree.{Tree, Label, Value, Padding, Struct, NoMore, More}
 
 abbrev label : ℕ → Option (List ℕ) → Label

@@ -1,27 +1,13 @@
 -- A part of a file that one caller brings into an arena of its own, where nobody else changes anything.
 use Rattle.std.proofs.Common.{◌≡◌, ℕ, ◌≤◌, ◌^◌, true, List, [], ◌∷◌, ◌++◌, take, refl, ap, sym, subst, ◌∙◌, arith, inl, None, Option, Ok}
-use Rattle.fm_base.specs.declared.arena_id.ArenaId.{ArenaId}
-use Rattle.fm_base.specs.declared.caller.Caller.{Caller}
-use Rattle.fm_base.specs.declared.kind.Kind.TheVariants.{Shared}
-use Rattle.fm_base.specs.Arenas.{State, are_one}
-use Rattle.fm_base.specs.Calls.{Allocate, Entry, Given}
-use Rattle.fm_base.specs.Does.{DidAllocate, DidOpen, DoesOpen}
-use Rattle.fm_base.specs.Histories.{IsLegal, state_after}
-use Rattle.fm_base.specs.Machine.{rounded_up}
-use Rattle.fm_base.specs.View.{but_loans, given_in, inside_after}
-use Rattle.fm_base.proofs.Making.{IsLegal-split, state_after-append}
-use Rattle.fm_base.proofs.Running.{visit_ends_outside}
+use Rattle.fm_base.specs.{declared.{arena_id.ArenaId.{ArenaId}, caller.Caller.{Caller}, kind.Kind.TheVariants.{Shared}}, Arenas.{State, are_one}}
+use Rattle.fm_base.specs.{Calls.{Allocate, Entry, Given}, Does.{DidAllocate, DidOpen, DoesOpen}, Histories.{IsLegal, state_after}, Machine.{rounded_up}}
+use Rattle.fm_base.{specs.View.{but_loans, given_in, inside_after}, proofs.{Making.{IsLegal-split, state_after-append}, Running.{visit_ends_outside}}}
 use Rattle.fm_base_lists.proofs.Each.{all_split}
 use Rattle.fm_io.specs.Files.{Contents}
 use Rattle.fm_segment_access.specs.Alone.{bytes_of_arena}
-use Rattle.fm_top_load.specs.declared.chunk.Chunk.{Chunk}
-use Rattle.fm_top_load.specs.declared.chunk.Part.{Part}
-use Rattle.fm_top_load.specs.Held.{IsHeld, OnlyIn}
-use Rattle.fm_top_load.specs.Putting.{BringsPart}
-use Rattle.fm_top_load.specs.Whole.{IsCut}
-use Rattle.fm_top_load.proofs.Holding.{allocated_held, allocated_only, opened_held}
-use Rattle.fm_top_load.proofs.Lone.{AreOwn, lone, lone_makes, puts_stand}
-use Rattle.fm_top_load.proofs.Placing.{only_then}
+use Rattle.fm_top_load.specs.{declared.chunk.{Chunk.{Chunk}, Part.{Part}}, Held.{IsHeld, OnlyIn}, Putting.{BringsPart}, Whole.{IsCut}}
+use Rattle.fm_top_load.proofs.{Holding.{allocated_held, allocated_only, opened_held}, Lone.{AreOwn, lone, lone_makes, puts_stand}, Placing.{only_then}}
 
 -- what it leaves: the arena is held and has given room for the part, which stands at its start; it was opened behind all others, which are as they were
 pub record Brought (limit : ℕ) (c : Caller) (s t : State) (a : ArenaId) (part : Part) (told : Option Contents) (chunk : Chunk) : Type 0 where

@@ -1,9 +1,7 @@
 -- A file that is read chunk by chunk.
 use Rattle.std.proofs.Common.{◌≡◌, ℕ, ◌+◌, ◌%◌, ◌≤◌, ◌<◌, List, [], ◌++◌, length, take, drop, Bool, true, Option, Some, None, refl, ap, sym, ◌∙◌, subst, zero-add, arith, length-append}
-use Rattle.std.specs.Option.{IsSomeAnd, MatchOption}
-use Rattle.std.proofs.lemmas.List.{take_all}
-use Rattle.fm_io.specs.Files.{Contents, file_of, AreBytesFrom, EndsBefore}
-use Rattle.fm_io.proofs.Filled.{AreBytesFrom-append}
+use Rattle.std.{specs.Option.{IsSomeAnd, MatchOption}, proofs.lemmas.List.{take_all}}
+use Rattle.fm_io.{specs.Files.{Contents, file_of, AreBytesFrom, EndsBefore}, proofs.Filled.{AreBytesFrom-append}}
 use Rattle.fm_top_load.specs.Whole.{IsChunk, TakesChunk, IsWhole}
 
 -- a chunk that was put behind what was there

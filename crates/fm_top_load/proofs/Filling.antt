@@ -1,23 +1,13 @@
 -- What loads do in their arenas, one after another.
 use Rattle.std.proofs.Common.{ap, ◌≡◌, ℕ, ◌≤◌, List, [], ◌++◌, length, Option, None, Some, Result, Ok, Err, refl, sym, subst, append_assoc, ◌∙◌}
-use Rattle.std.specs.Prelude.{OnOk, OnErr}
-use Rattle.std.proofs.lemmas.List.{append-nil}
-use Rattle.std.proofs.lemmas.List.Elements.{Contains-append_right}
-use Rattle.fm_base.specs.declared.caller.Caller.{Caller}
-use Rattle.fm_base.specs.declared.arena_id.ArenaId.{ArenaId}
-use Rattle.fm_base.specs.declared.refusal.Refusal.{Refusal}
-use Rattle.fm_base.specs.Calls.{Entry}
-use Rattle.fm_base.specs.Does.{DidAllocate}
-use Rattle.fm_base.specs.Finds.{Find, is_page}
-use Rattle.fm_base.specs.Outcomes.{Nature, FoundNoneFree}
-use Rattle.fm_base.specs.View.{View, Told, TellsOn, Makes, Did}
+use Rattle.std.{specs.Prelude.{OnOk, OnErr}, proofs.lemmas.List.{append-nil, Elements.{Contains-append_right}}}
+use Rattle.fm_base.specs.{declared.{caller.Caller.{Caller}, arena_id.ArenaId.{ArenaId}, refusal.Refusal.{Refusal}}, Calls.{Entry}, Does.{DidAllocate}}
+use Rattle.fm_base.specs.{Finds.{Find, is_page}, Outcomes.{Nature, FoundNoneFree}, View.{View, Told, TellsOn, Makes, Did}}
 use Rattle.fm_base.proofs.Making.{Makes-then, Makes-none}
 use Rattle.fm_segment_access.specs.Runs.{DoesPutAll}
 use Rattle.fm_segment.specs.Region.{Region}
 use Rattle.fm_top_load.specs.Filling.{GivesAndPuts, DoesPush, Fills, nothing, further, refused, Loads, LoadsAll, LoadsSome}
-use Rattle.fm_top_load.specs.Held.{FoundFull, IsReady, PushesHeld, loaded_in}
-use Rattle.fm_top_load.specs.Limits.{record_file_limit}
-use Rattle.fm_top_load.specs.Loading.{LoadsOn}
+use Rattle.fm_top_load.specs.{Held.{FoundFull, IsReady, PushesHeld, loaded_in}, Limits.{record_file_limit}, Loading.{LoadsOn}}
 
 -- bytes that were given, and then put
 pub gave_and_put : {x y z : View} (a : ArenaId) (size place : ℕ) (bytes : List ℕ) → DidAllocate x y a size 8 (Ok place)

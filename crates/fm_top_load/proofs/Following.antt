@@ -1,9 +1,7 @@
 -- What follows on a piece of a file that was read.
-use Rattle.std.proofs.Common.{◌≡◌, ℕ, ◌+◌, ◌≤◌, ◌<◌, List, Option, refl, sym, ap, subst, ◌∙◌, arith}
-use Rattle.std.specs.Prelude.{nat_lt}
+use Rattle.std.{proofs.Common.{◌≡◌, ℕ, ◌+◌, ◌≤◌, ◌<◌, List, Option, refl, sym, ap, subst, ◌∙◌, arith}, specs.Prelude.{nat_lt}}
 use Rattle.std.proofs.lemmas.Bool.Decides.{Decides-ltb, not_from_Decides}
-use Rattle.fm_io.specs.Reads.{Read, Next, At, ReadsFile, GoesOn}
-use Rattle.fm_io.proofs.Followed.{ReadsFile-append, ReadsFile-wider}
+use Rattle.fm_io.{specs.Reads.{Read, Next, At, ReadsFile, GoesOn}, proofs.Followed.{ReadsFile-append, ReadsFile-wider}}
 use Rattle.fm_top_load.specs.Reading.{piece_limit, GoesBy}
 
 -- a piece was asked for, which came whole or up to the file's end

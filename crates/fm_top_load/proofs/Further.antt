@@ -1,15 +1,9 @@
 -- A file of which the first bytes were read, and that is read on.
 use Rattle.std.proofs.Common.{◌≡◌, ℕ, ◌+◌, List, length, Bool, true, false, None}
-use Rattle.fm_io.specs.Files.{AreBytesFrom}
-use Rattle.fm_io.specs.Reads.{At, ReadsFile}
-use Rattle.fm_io.specs.View.{FilesView, Leaves}
-use Rattle.fm_io.proofs.Followed.{ReadsFile-none}
+use Rattle.fm_io.{specs.{Files.{AreBytesFrom}, Reads.{At, ReadsFile}, View.{FilesView, Leaves}}, proofs.Followed.{ReadsFile-none}}
 use Rattle.fm_io.proofs.Left.{leaves_none, leaves_then}
-use Rattle.fm_top_load.specs.Reading.{GoesBy, piece_limit}
-use Rattle.fm_top_load.specs.Whole.{IsWhole, TakesChunk, TellsLoad}
-use Rattle.fm_top_load.proofs.Chunks.{AreBytesFrom-took, IsWhole-took}
-use Rattle.fm_top_load.proofs.Following.{reads_then}
-use Rattle.fm_top_load.proofs.Telling.{read_quietly}
+use Rattle.fm_top_load.{specs.{Reading.{GoesBy, piece_limit}, Whole.{IsWhole, TakesChunk, TellsLoad}}, proofs.Chunks.{AreBytesFrom-took, IsWhole-took}}
+use Rattle.fm_top_load.proofs.{Following.{reads_then}, Telling.{read_quietly}}
 
 -- these are its first bytes, the next read follows on them, and the files are left as they were
 pub record IsReadUpTo (limit : ℕ) (old new : FilesView) (name : List ℕ) (from : ℕ) (bytes : List ℕ) : Type 0 where

@@ -1,14 +1,10 @@
 -- The bytes that an arena has given, and those that are put behind them.
 use Rattle.std.proofs.Common.{◌≡◌, ℕ, ◌+◌, ◌%◌, ◌≤◌, List, ◌++◌, length, take, drop, refl, ap, sym, ◌∙◌, arith, append_assoc, length-append}
-use Rattle.std.proofs.lemmas.List.{length-take-le}
-use Rattle.std.proofs.Math.Seq.{take-append_seam}
-use Rattle.fm_base.specs.declared.arena_id.ArenaId.{ArenaId}
-use Rattle.fm_base.specs.Machine.{rounded_up}
-use Rattle.fm_base.specs.View.{View, given_in}
+use Rattle.std.proofs.{lemmas.List.{length-take-le}, Math.Seq.{take-append_seam}}
+use Rattle.fm_base.specs.{declared.arena_id.ArenaId.{ArenaId}, Machine.{rounded_up}, View.{View, given_in}}
 use Rattle.fm_base_bytes.proofs.Words.{length-bytes_in}
 use Rattle.fm_segment_access.specs.Alone.{bytes_of_arena, with_bytes}
-use Rattle.fm_segment.specs.Alone.{bytes_of_region}
-use Rattle.fm_segment.specs.Region.{Region}
+use Rattle.fm_segment.specs.{Alone.{bytes_of_region}, Region.{Region}}
 use Rattle.fm_top_load.specs.Held.{IsReady, loaded_in, words_at}
 
 pub loaded_is : (v : View) (s : Region) → loaded_in v s ≡ bytes_of_region v.state s

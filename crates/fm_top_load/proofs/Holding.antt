@@ -1,32 +1,20 @@
 -- What calls do to an arena that a caller by itself holds.
 use Rattle.std.proofs.Common.{◌≡◌, ◌≢◌, ℕ, ◌+◌, ◌*◌, ◌^◌, ◌≤◌, Bool, true, false, List, [], ◌∷◌, None, Ok, Err, length, refl, ap, sym, ◌∙◌, subst, arith}
-use Rattle.std.specs.Prelude.{nat_le, if◌then◌else◌, not}
+use Rattle.std.{specs.Prelude.{nat_le, if◌then◌else◌, not}, proofs.lemmas.{List.{length-replicate}, Bool.{le-leb}}}
 use lib.Count.{ones}
-use Rattle.fm_base.specs.declared.caller.Caller.{Caller}
-use Rattle.fm_base.specs.declared.arena_id.ArenaId.{ArenaId}
-use Rattle.fm_base.specs.declared.kind.Kind.{Kind}
-use Rattle.fm_base.specs.declared.refusal.Refusal.{Refusal}
-use Rattle.fm_base.specs.declared.refusal.Refusal.TheVariants as refusal
+use Rattle.fm_base.specs.declared.{caller.Caller.{Caller}, arena_id.ArenaId.{ArenaId}, kind.Kind.{Kind}, refusal.Refusal.{Refusal}}
 use Rattle.fm_base.specs.Arenas.{State, Arena, MayUse, changed, arena_of, has_arena, same_id}
 use Rattle.fm_base.specs.Calls.{Call, Open, Enter, Read, Write, SwapIf, Add, Allocate, Leave, Hold, Unhold, Shut, End, Lend, Back, Reply, Fine, Closed, Given, NoRoom, Entry, entry_of}
-use Rattle.fm_base.specs.Does.{DidAllocate, DidOpen}
-use Rattle.fm_base.specs.Histories.{IsLegal, state_after}
+use Rattle.fm_base.specs.{Does.{DidAllocate, DidOpen}, Histories.{IsLegal, state_after}}
 use Rattle.fm_base.specs.Machine.{after, state_by, words_within, rounded_up, opened, entered, left, given_up_to, enter_reply, allocate_reply}
-use Rattle.fm_base.specs.View.{View, Makes, but_loans, is_loan, IsByItself, given_in}
-use Rattle.fm_base.specs.Visits.{visit, refused_visit}
-use Rattle.fm_base.proofs.Faith.{Makes-alone}
+use Rattle.fm_base.{specs.{View.{View, Makes, but_loans, is_loan, IsByItself, given_in}, Visits.{visit, refused_visit}}, proofs.Faith.{Makes-alone}}
 use Rattle.fm_base.proofs.Growing.{given_is}
 use Rattle.fm_base.proofs.Lookup.{KeepsName, changed_has, changed_lookup, changed_twice, lookup_changed, arena_of-id, arena_of-opened, has_arena-opened}
-use Rattle.fm_base.proofs.Making.{by_itself_still}
+use Rattle.fm_base.{proofs.Making.{by_itself_still}, specs.{Outcomes.{Nature, MayRefuse, FoundNoneFree}, Finds.{is_page}}}
+use Rattle.fm_base.specs.declared.refusal.Refusal.TheVariants as refusal
 use Rattle.fm_base_bytes.proofs.Words.{length-bytes_in}
-use Rattle.fm_segment_access.specs.Alone.{ChangesBytes, bytes_of_arena, with_words}
-use Rattle.fm_segment_access.proofs.Splicing.{keeps_count}
-use Rattle.fm_segment_access.proofs.Visits.{visit_stays}
+use Rattle.fm_segment_access.{specs.Alone.{ChangesBytes, bytes_of_arena, with_words}, proofs.{Splicing.{keeps_count}, Visits.{visit_stays}}}
 use Rattle.fm_top_load.specs.Held.{IsHeld, IsEmpty, HoldsThen, OnlyIn, Wants, names_in, words_at}
-use Rattle.fm_base.specs.Outcomes.{Nature, MayRefuse, FoundNoneFree}
-use Rattle.fm_base.specs.Finds.{is_page}
-use Rattle.std.proofs.lemmas.List.{length-replicate}
-use Rattle.std.proofs.lemmas.Bool.{le-leb}
 
 -- entries that lend blocks or take them back leave the state
 loan_stays : (limit : ℕ) (c : Caller) (s : State) (call : Call) (reply : Reply) → is_loan call ≡ true → state_by limit s c call reply ≡ s

@@ -1,28 +1,14 @@
 -- What one caller's own entries do to a machine in which nobody else is.
 use Rattle.std.proofs.Common.{◌≡◌, ◌==◌, ℕ, ◌+◌, ◌≤◌, Bool, true, false, List, [], ◌∷◌, ◌++◌, length, take, refl, ap, sym, subst, ◌∙◌, arith, inl, None, Result, Ok, length-append, cond}
-use Rattle.std.specs.Prelude.{MatchBool}
-use Rattle.std.specs.List.{AllByRecursion}
-use Rattle.std.proofs.lemmas.Bool.Decides.{nat_tests}
-use Rattle.fm_base.specs.declared.arena_id.ArenaId.{ArenaId}
-use Rattle.fm_base.specs.declared.caller.Caller.{Caller}
-use Rattle.fm_base.specs.Arenas.{State, are_one, has_arena}
-use Rattle.fm_base.specs.Calls.{Entry}
-use Rattle.fm_base.specs.Histories.{IsLegal, made_by, state_after}
-use Rattle.fm_base.specs.View.{View, Makes, given_in, inside_after}
-use Rattle.fm_base.proofs.Making.{IsLegal-split, state_after-append}
-use Rattle.fm_base.proofs.Running.{run_outside}
+use Rattle.std.{specs.{Prelude.{MatchBool}, List.{AllByRecursion}}, proofs.lemmas.Bool.Decides.{nat_tests}}
+use Rattle.fm_base.specs.{declared.{arena_id.ArenaId.{ArenaId}, caller.Caller.{Caller}}, Arenas.{State, are_one, has_arena}, Calls.{Entry}}
+use Rattle.fm_base.specs.{Histories.{IsLegal, made_by, state_after}, View.{View, Makes, given_in, inside_after}}
+use Rattle.fm_base.{proofs.{Making.{IsLegal-split, state_after-append}, Running.{run_outside}}, specs.declared.refusal.Refusal.{Refusal}}
 use Rattle.fm_base_bytes.specs.Bytes.{AreBytes}
 use Rattle.fm_base_lists.proofs.Each.{all_split}
-use Rattle.fm_base.specs.declared.refusal.Refusal.{Refusal}
-use Rattle.fm_segment_access.specs.Alone.{ChangesBytes, bytes_of_arena}
-use Rattle.fm_segment_access.specs.Ranges.{DoesPutBy, EndsPutting, Putting, putting}
-use Rattle.fm_segment_access.specs.Runs.{DoesPutAll, PutsMore}
-use Rattle.fm_segment_access.proofs.Alone.{changes, puts_none}
-use Rattle.fm_segment_access.proofs.PuttingAlone.{put_alone, words_put}
-use Rattle.fm_top_load.specs.Held.{IsHeld, OnlyIn}
-use Rattle.fm_top_load.specs.Putting.{ArePut, none_put, put_more}
-use Rattle.fm_top_load.proofs.GivenBytes.{put_behind}
-use Rattle.fm_top_load.proofs.Holding.{put_only, put_still}
+use Rattle.fm_segment_access.specs.{Alone.{ChangesBytes, bytes_of_arena}, Ranges.{DoesPutBy, EndsPutting, Putting, putting}, Runs.{DoesPutAll, PutsMore}}
+use Rattle.fm_segment_access.proofs.{Alone.{changes, puts_none}, PuttingAlone.{put_alone, words_put}}
+use Rattle.fm_top_load.{specs.{Held.{IsHeld, OnlyIn}, Putting.{ArePut, none_put, put_more}}, proofs.{GivenBytes.{put_behind}, Holding.{put_only, put_still}}}
 use Rattle.fm_top_load.proofs.Placing.{has_bytes, none_taken, only_here, only_then}
 
 -- a memory in which nobody else is, and the caller is in no arena

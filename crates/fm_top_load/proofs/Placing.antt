@@ -1,24 +1,13 @@
 -- A file that is put into an arena piece by piece.
 use Rattle.std.proofs.Common.{◌≡◌, ℕ, ◌+◌, ◌-◌, ◌<◌, ◌≤◌, List, [], ◌∷◌, ◌++◌, length, take, Bool, false, Option, Ok, refl, ap, sym, subst, ◌∙◌, arith, length-append}
 use Rattle.std.proofs.lemmas.List.{length-take-le}
-use Rattle.fm_base.specs.declared.arena_id.ArenaId.{ArenaId}
-use Rattle.fm_base.specs.declared.caller.Caller.{Caller}
-use Rattle.fm_base.specs.Arenas.{State}
-use Rattle.fm_base.specs.View.{View, Did}
+use Rattle.fm_base.specs.{declared.{arena_id.ArenaId.{ArenaId}, caller.Caller.{Caller}}, Arenas.{State}, View.{View, Did}}
 use Rattle.fm_base.proofs.Making.{Makes-then, Makes-none}
-use Rattle.fm_base_bytes.specs.Bytes.{AreBytes}
-use Rattle.fm_base_bytes.proofs.Words.{length-bytes_in}
-use Rattle.fm_segment_access.specs.Alone.{bytes_of_arena, with_bytes}
-use Rattle.fm_segment_access.specs.Runs.{DoesPutAll}
-use Rattle.fm_io.specs.Files.{Contents, AreBytesFrom, EndsBefore}
-use Rattle.fm_io.proofs.Filled.{AreBytesFrom-append}
-use Rattle.fm_top_load.specs.Filling.{no_run, run}
-use Rattle.fm_top_load.specs.Held.{IsHeld, OnlyIn, PutsHeld, words_at}
-use Rattle.fm_top_load.specs.Reached.{IsNext, IsNextPiece, PutsWithin}
-use Rattle.fm_top_load.specs.Reading.{piece_limit}
-use Rattle.fm_top_load.specs.declared.chunk.Chunk.{Chunk}
-use Rattle.fm_top_load.specs.Whole.{IsChunk, IsCut, TakesChunk}
-use Rattle.fm_top_load.proofs.Chunks.{takes_chunk}
+use Rattle.fm_base_bytes.{specs.Bytes.{AreBytes}, proofs.Words.{length-bytes_in}}
+use Rattle.fm_segment_access.specs.{Alone.{bytes_of_arena, with_bytes}, Runs.{DoesPutAll}}
+use Rattle.fm_io.{specs.Files.{Contents, AreBytesFrom, EndsBefore}, proofs.Filled.{AreBytesFrom-append}}
+use Rattle.fm_top_load.specs.{Filling.{no_run, run}, Held.{IsHeld, OnlyIn, PutsHeld, words_at}, Reached.{IsNext, IsNextPiece, PutsWithin}}
+use Rattle.fm_top_load.{specs.{Reading.{piece_limit}, declared.chunk.Chunk.{Chunk}, Whole.{IsChunk, IsCut, TakesChunk}}, proofs.Chunks.{takes_chunk}}
 use Rattle.fm_top_load.proofs.GivenBytes.{put_behind}
 
 -- nothing changed

@@ -1,26 +1,13 @@
 -- A part of a file that is put run behind run.
 use Rattle.std.proofs.Common.{◌≡◌, ℕ, ◌+◌, ◌-◌, ◌<◌, ◌≤◌, List, [], ◌++◌, length, take, Bool, false, Option, None, Ok, Err, refl, ap, sym, subst, ◌∙◌, arith, length-append}
 use Rattle.std.proofs.lemmas.List.{length-take-le}
-use Rattle.fm_base.specs.declared.arena_id.ArenaId.{ArenaId}
-use Rattle.fm_base.specs.declared.caller.Caller.{Caller}
-use Rattle.fm_base.specs.declared.refusal.Refusal.{Refusal}
-use Rattle.fm_base.specs.Calls.{Entry}
-use Rattle.fm_base.specs.Outcomes.{Lasts}
-use Rattle.fm_base.specs.View.{View, Did, given_in}
-use Rattle.fm_base.proofs.Making.{Makes-then, Makes-none}
+use Rattle.fm_base.specs.{declared.{arena_id.ArenaId.{ArenaId}, caller.Caller.{Caller}, refusal.Refusal.{Refusal}}, Calls.{Entry}, Outcomes.{Lasts}}
+use Rattle.fm_base.{specs.View.{View, Did, given_in}, proofs.Making.{Makes-then, Makes-none}}
 use Rattle.fm_base_bytes.specs.Bytes.{AreBytes}
-use Rattle.fm_io.specs.Files.{Contents, AreBytesFrom, EndsBefore}
-use Rattle.fm_io.proofs.Filled.{AreBytesFrom-append}
-use Rattle.fm_segment_access.specs.Learnt.{CanTouch}
-use Rattle.fm_segment_access.specs.Runs.{DoesPutAll}
-use Rattle.fm_top_load.specs.Putting.{ArePut, PutsPart, StopsPutting, none_put, put_more}
-use Rattle.fm_top_load.specs.Reached.{IsNextPiece}
-use Rattle.fm_top_load.specs.Reading.{piece_limit}
-use Rattle.fm_top_load.specs.Whole.{IsCut}
-use Rattle.fm_top_load.specs.declared.chunk.Chunk.{Chunk}
-use Rattle.fm_top_load.specs.declared.chunk.Part.{Part}
-use Rattle.fm_top_load.proofs.Chunks.{no_bytes_from}
-use Rattle.fm_top_load.proofs.Placing.{piece_fits, piece_short}
+use Rattle.fm_io.{specs.Files.{Contents, AreBytesFrom, EndsBefore}, proofs.Filled.{AreBytesFrom-append}}
+use Rattle.fm_segment_access.specs.{Learnt.{CanTouch}, Runs.{DoesPutAll}}
+use Rattle.fm_top_load.specs.{Putting.{ArePut, PutsPart, StopsPutting, none_put, put_more}, Reached.{IsNextPiece}, Reading.{piece_limit}, Whole.{IsCut}}
+use Rattle.fm_top_load.{specs.declared.chunk.{Chunk.{Chunk}, Part.{Part}}, proofs.{Chunks.{no_bytes_from}, Placing.{piece_fits, piece_short}}}
 
 -- so many of the file's bytes from the place on were put
 pub record PutSoFar (told : Option Contents) (name : List ℕ) (at : ℕ) (c : Caller) (a : ArenaId) (size : ℕ) (own : List Entry) : Type 0 where

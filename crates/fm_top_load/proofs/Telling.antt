@@ -1,11 +1,7 @@
 -- What loads tell of the files.
 use Rattle.std.proofs.Common.{ℕ, List, Option, None, Some, subst}
-use Rattle.fm_io.specs.Files.{Contents, IsAbsent}
-use Rattle.fm_io.specs.View.{FilesView, Leaves}
-use Rattle.fm_io.proofs.Left.{leaves_none, leaves_quiet, leaves_then}
-use Rattle.fm_top_load.specs.Whole.{IsOver, TellsLoad}
-use Rattle.fm_top_load.specs.declared.load_fault.LoadFault.{LoadFault}
-use Rattle.fm_top_load.specs.declared.load_fault.LoadFault.TheVariants.{Memory}
+use Rattle.fm_io.{specs.{Files.{Contents, IsAbsent}, View.{FilesView, Leaves}}, proofs.Left.{leaves_none, leaves_quiet, leaves_then}}
+use Rattle.fm_top_load.specs.{Whole.{IsOver, TellsLoad}, declared.load_fault.LoadFault.{LoadFault, TheVariants.{Memory}}}
 
 -- reads that came to something
 pub read_quietly : {Full : Type 0} {limit : ℕ} {old new : FilesView} {name : List ℕ} → TellsLoad Full limit old new name None → Leaves ⊥ ⊥ old new

@@ -1,10 +1,6 @@
 -- What a load does in its arena: runs of bytes, each given by the arena behind those before, and then put.
 use Rattle.std.specs.Prelude.{◌≡◌, ℕ, ◌+◌, ◌≤◌, List, [], ◌++◌, length, Result, Ok, Err}
-use Rattle.fm_base.specs.declared.caller.Caller.{Caller}
-use Rattle.fm_base.specs.declared.arena_id.ArenaId.{ArenaId}
-use Rattle.fm_base.specs.declared.refusal.Refusal.{Refusal}
-use Rattle.fm_base.specs.Calls.{Entry}
-use Rattle.fm_base.specs.Does.{DoesAllocate}
+use Rattle.fm_base.specs.{declared.{caller.Caller.{Caller}, arena_id.ArenaId.{ArenaId}, refusal.Refusal.{Refusal}}, Calls.{Entry}, Does.{DoesAllocate}}
 use Rattle.fm_base.specs.View.{View, Did, but_loans}
 use Rattle.fm_base_bytes.specs.Bytes.{AreBytes}
 use Rattle.fm_segment_access.specs.Runs.{DoesPutAll}

@@ -1,16 +1,10 @@
 -- An arena that a caller by itself holds, and the bytes that were loaded into it.
 use Rattle.std.specs.Prelude.{◌≡◌, ◌≢◌, ℕ, ◌+◌, ◌≤◌, ◌^◌, true, List, ◌++◌, None, Result, IfOk, OnOk, OnErr, length, map, IsTrue}
-use Rattle.fm_base.specs.declared.arena_id.ArenaId.{ArenaId}
-use Rattle.fm_base.specs.declared.refusal.Refusal.{Refusal}
-use Rattle.fm_base.specs.declared.refusal.Refusal.TheVariants.{Memory, PoolFull}
-use Rattle.fm_base.specs.Arenas.{Arena, State, Alive, arena_of, has_arena, MayUse}
-use Rattle.fm_base.specs.Machine.{rounded_up, words_within}
-use Rattle.fm_base.specs.Finds.{is_page}
-use Rattle.fm_base.specs.Outcomes.{Nature, FoundNoneFree}
-use Rattle.fm_base.specs.View.{View, IsByItself, given_in}
+use Rattle.fm_base.specs.declared.{arena_id.ArenaId.{ArenaId}, refusal.Refusal.{Refusal, TheVariants.{Memory, PoolFull}}}
+use Rattle.fm_base.specs.{Arenas.{Arena, State, Alive, arena_of, has_arena, MayUse}, Machine.{rounded_up, words_within}, Finds.{is_page}}
+use Rattle.fm_base.specs.{Outcomes.{Nature, FoundNoneFree}, View.{View, IsByItself, given_in}}
 use Rattle.fm_segment_access.specs.Alone.{bytes_of_arena, with_bytes}
-use Rattle.fm_segment.specs.Alone.{bytes_of_region}
-use Rattle.fm_segment.specs.Region.{Region}
+use Rattle.fm_segment.specs.{Alone.{bytes_of_region}, Region.{Region}}
 
 -- the words of an arena
 abbrev pub words_at : View → ArenaId → List ℕ

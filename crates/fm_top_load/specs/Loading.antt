@@ -1,13 +1,9 @@
 -- What is asked for and learnt where a record file is loaded into an arena, piece by piece.
 use Rattle.std.specs.Prelude.{◌≡◌, ℕ, ◌%◌, ◌≤◌, List, Option, length}
-use Rattle.fm_base.specs.declared.arena_id.ArenaId.{ArenaId}
-use Rattle.fm_base.specs.View.{View}
+use Rattle.fm_base.specs.{declared.arena_id.ArenaId.{ArenaId}, View.{View}}
 use Rattle.fm_io.specs.Files.{Contents}
 use Rattle.fm_segment.specs.Region.{Region}
-use Rattle.fm_top_load.specs.Filling.{Loads, LoadsAll, LoadsSome}
-use Rattle.fm_top_load.specs.Held.{IsHeld, IsReady, loaded_in}
-use Rattle.fm_top_load.specs.Limits.{record_file_limit}
-use Rattle.fm_top_load.specs.Reading.{piece_limit}
+use Rattle.fm_top_load.specs.{Filling.{Loads, LoadsAll, LoadsSome}, Held.{IsHeld, IsReady, loaded_in}, Limits.{record_file_limit}, Reading.{piece_limit}}
 use Rattle.fm_top_load.specs.Whole.{IsWhole}
 
 -- whole words were loaded, no more than a record file may have, and a buffer has room for a piece

@@ -1,23 +1,12 @@
 -- A part of a file that is put to the start of an arena, while others may make entries too.
 use Rattle.std.specs.Prelude.{◌≡◌, ℕ, ◌<◌, List, [], ◌++◌, length, Option, Some, None, Result, Ok, Err}
-use Rattle.fm_base.specs.declared.arena_id.ArenaId.{ArenaId}
-use Rattle.fm_base.specs.declared.caller.Caller.{Caller}
-use Rattle.fm_base.specs.declared.refusal.Refusal.{Refusal}
-use Rattle.fm_base.specs.declared.kind.Kind.TheVariants.{Shared}
-use Rattle.fm_base.specs.Calls.{Entry}
-use Rattle.fm_base.specs.Does.{DoesAllocate, DoesOpen}
-use Rattle.fm_base.specs.View.{View, but_loans}
+use Rattle.fm_base.specs.declared.{arena_id.ArenaId.{ArenaId}, caller.Caller.{Caller}, refusal.Refusal.{Refusal}, kind.Kind.TheVariants.{Shared}}
+use Rattle.fm_base.specs.{Calls.{Entry}, Does.{DoesAllocate, DoesOpen}, View.{View, but_loans}}
 use Rattle.fm_base_bytes.specs.Bytes.{AreBytes}
 use Rattle.fm_io.specs.Files.{Contents}
-use Rattle.fm_segment_access.specs.Learnt.{CanTouch}
-use Rattle.fm_segment_access.specs.Runs.{DoesPutAll}
-use Rattle.fm_top_load.specs.Reached.{IsNextPiece}
-use Rattle.fm_top_load.specs.Whole.{CanRead, IsCut}
-use Rattle.fm_top_load.specs.declared.chunk.Chunk.{Chunk}
-use Rattle.fm_top_load.specs.declared.chunk.Part.{Part}
-use Rattle.fm_top_load.specs.declared.load_fault.LoadFault.{LoadFault}
-use Rattle.fm_top_load.specs.declared.put_fault.PutFault.{PutFault}
-use Rattle.fm_top_load.specs.declared.put_fault.PutFault.TheVariants.{Load, Refused}
+use Rattle.fm_segment_access.specs.{Learnt.{CanTouch}, Runs.{DoesPutAll}}
+use Rattle.fm_top_load.specs.{Reached.{IsNextPiece}, Whole.{CanRead, IsCut}, declared.{chunk.{Chunk.{Chunk}, Part.{Part}}, load_fault.LoadFault.{LoadFault}}}
+use Rattle.fm_top_load.specs.declared.put_fault.PutFault.{PutFault, TheVariants.{Load, Refused}}
 
 -- these bytes were put to the arena's start, run behind run
 pub data ArePut (c : Caller) (a : ArenaId) : List ℕ → List Entry → Type 0 where

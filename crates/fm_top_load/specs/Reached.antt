@@ -1,17 +1,9 @@
 -- How far a file was read into an arena that has room for so many bytes.
 use Rattle.std.specs.Prelude.{◌≡◌, ℕ, ◌+◌, ◌<◌, ◌≤◌, List, length, take, Option}
-use Rattle.fm_base.specs.declared.arena_id.ArenaId.{ArenaId}
-use Rattle.fm_base.specs.View.{View, Did, given_in}
-use Rattle.fm_io.specs.Files.{Contents, AreBytesFrom}
-use Rattle.fm_io.specs.Reads.{Next, Ended}
-use Rattle.fm_top_load.specs.declared.chunk.Chunk.{Chunk}
-use Rattle.fm_top_load.specs.declared.chunk.Part.{Part}
-use Rattle.fm_top_load.specs.declared.reaching.Reached.{Reached}
-use Rattle.fm_top_load.specs.declared.reaching.Reached.TheVariants.{End, Full}
-use Rattle.fm_top_load.specs.Filling.{Puts}
-use Rattle.fm_top_load.specs.Held.{IsHeld, OnlyIn}
-use Rattle.fm_top_load.specs.Limits.{record_file_limit}
-use Rattle.fm_top_load.specs.Reading.{GoesBy, piece_limit}
+use Rattle.fm_base.specs.{declared.arena_id.ArenaId.{ArenaId}, View.{View, Did, given_in}}
+use Rattle.fm_io.specs.{Files.{Contents, AreBytesFrom}, Reads.{Next, Ended}}
+use Rattle.fm_top_load.specs.{declared.{chunk.{Chunk.{Chunk}, Part.{Part}}, reaching.Reached.{Reached, TheVariants.{End, Full}}}, Filling.{Puts}}
+use Rattle.fm_top_load.specs.{Held.{IsHeld, OnlyIn}, Limits.{record_file_limit}, Reading.{GoesBy, piece_limit}}
 use Rattle.fm_top_load.specs.Whole.{CanRead, IsChunk, IsCut, IsPiece, IsWhole}
 
 -- the next chunk of a file, which may have so many bytes, from the place on lies at the start of the buffer

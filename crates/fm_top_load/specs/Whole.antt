@@ -1,10 +1,7 @@
 -- What files tell of a file that was read whole, or was too long.
 use Rattle.std.specs.Prelude.{◌≡◌, ℕ, ◌+◌, ◌%◌, ◌<◌, ◌≤◌, List, ◌++◌, ◌^◌, length, min, Bool, true, false, Option, Some, IfSome, IsSomeAnd}
-use Rattle.fm_io.specs.Files.{Contents, file_of, AreBytesFrom, EndsBefore, IsAbsent}
-use Rattle.fm_io.specs.View.{FilesView, Leaves}
-use Rattle.fm_top_load.specs.Reading.{piece_limit}
-use Rattle.fm_top_load.specs.declared.load_fault.LoadFault.{LoadFault}
-use Rattle.fm_top_load.specs.declared.load_fault.LoadFault.TheVariants.{Missing, Failed, TooLong, PoolFull}
+use Rattle.fm_io.specs.{Files.{Contents, file_of, AreBytesFrom, EndsBefore, IsAbsent}, View.{FilesView, Leaves}}
+use Rattle.fm_top_load.specs.{Reading.{piece_limit}, declared.load_fault.LoadFault.{LoadFault, TheVariants.{Missing, Failed, TooLong, PoolFull}}}
 
 -- where the files tell, these are the bytes of the file of that name
 abbrev pub IsWhole : Option Contents → List ℕ → List ℕ → Type 0

@@ -1,14 +1,11 @@
 -- The command takes the words that are of the form, and reads what they say.
 use Rattle.std.proofs.Common.{◌≡◌, ◌∙◌, ◌++◌, ◌∷◌, Bool, true, false, List, [], Option, Some, None, refl, ap, sym, subst, if◌then◌else◌, length, nat_le, fold, IsUtf8, codes, is_some, unwrap_or, option_map, option_and_then, append_assoc, append-nil, arith}
 use Rattle.std.proofs.lemmas.Bool.Decides.{nat_tests}
-use Rattle.clap.specs.Kinds.{Kinds, or_else}
-use Rattle.clap.specs.Walk.{Row, Text, Waiting, Walk, all_of, has_row, option, positional, settled, used, walked}
+use Rattle.clap.specs.{Kinds.{Kinds, or_else}, Walk.{Row, Text, Waiting, Walk, all_of, has_row, option, positional, settled, used, walked}}
 use Rattle.clap.specs.Faults.{settle_fault, turn_fault, use_fault, walk_fault}
 use Rattle.fm_top_options.proofs.Said.{Said, is_apart, is_end, is_joined, is_plain, is_refused, said, with_threads, with_word}
-use Rattle.fm_top_options.proofs.Built.{option as threads, others, rules, shape}
-use Rattle.fm_top_options.proofs.Faulty.{IsFault, fault_first, fault_second}
-use Rattle.fm_top_options.proofs.Rows.{all_of-with_other, all_of-with_same, has_row-all_of, without_none}
-use Rattle.fm_top_options.proofs.Sorts.{IsPlain, sort_of}
+use Rattle.fm_top_options.proofs.{Built.{option as threads, others, rules, shape}, Faulty.{IsFault, fault_first, fault_second}}
+use Rattle.fm_top_options.proofs.{Rows.{all_of-with_other, all_of-with_same, has_row-all_of, without_none}, Sorts.{IsPlain, sort_of}}
 use Rattle.fm_top_options.proofs.Turns.{Pend, after, asking, ended, fault_apart_wanted, fault_joined_wanted, fault_unknown, fault_unknown_wanted, nothing, ready, settling, text, turn_apart, turn_ends, turn_ends_wanted, turn_joined, turn_plain, turn_text, turn_trailing, waits, wanted, word}
 
 -- ---- what rows show

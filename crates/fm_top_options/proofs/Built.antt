@@ -1,8 +1,6 @@
 -- The command as a parse has it.
 use Rattle.std.proofs.Common.{◌≡◌, ◌∙◌, ap, refl, [], ◌∷◌, List, true, Some, codes}
-use Rattle.clap.specs.Words.{App, Rule, Shape, is_simple, new_rule, with_rule}
-use Rattle.clap.specs.Faults.{is_simple_and_free}
-use Rattle.clap.specs.Simple.{new_shape}
+use Rattle.clap.specs.{Words.{App, Rule, Shape, is_simple, new_rule, with_rule}, Faults.{is_simple_and_free}, Simple.{new_shape}}
 use Rattle.clap.specs.declared.builder.action.ArgAction.TheVariants.{Set, Append}
 use Rattle.clap.specs.declared.builder.value_parser.ValueParser.TheVariants as vp
 use Rattle.fm_top_options.specs.Command.{bare_app, command_app, threads_rule, words_rule}

@@ -1,8 +1,7 @@
 -- What the rows of a walk hold for an argument.
 use Rattle.std.proofs.Common.{◌≡◌, ◌∙◌, ◌++◌, ◌∷◌, Bool, true, false, List, [], Some, refl, ap, sym, is_some, bytes_eq, unwrap_or}
-use Rattle.clap.specs.Walk.{Row, Text, all_of, has_row, with_values, without}
 use Rattle.std.proofs.lemmas.Slice.Eq.{bytes_eq-Decides}
-use Rattle.clap.specs.declared.builder.value_parser.Reading.{Reading}
+use Rattle.clap.specs.{Walk.{Row, Text, all_of, has_row, with_values, without}, declared.builder.value_parser.Reading.{Reading}}
 use Rattle.clap.specs.declared.parser.matches.ValueSource.{ValueSource}
 
 -- there is a row exactly where there are values

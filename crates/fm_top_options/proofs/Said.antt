@@ -1,7 +1,6 @@
 -- What words say, as a function of them.
 use Rattle.std.proofs.Common.{◌≡◌, ◌≢◌, ◌∙◌, ◌++◌, ◌∷◌, inl, inr, ℕ, ◌==◌, Bool, true, false, List, [], Option, Some, None, refl, ap, sym, subst, arith, if◌then◌else◌, bytes_eq, codes, take, drop, length, nat_le, option_map, unwrap_or, take-append-drop}
-use Rattle.std.proofs.lemmas.Bool.Decides.{nat_tests}
-use Rattle.std.proofs.lemmas.Slice.Eq.{bytes_eq-Decides}
+use Rattle.std.proofs.lemmas.{Bool.Decides.{nat_tests}, Slice.Eq.{bytes_eq-Decides}}
 use Rattle.fm_top_options.specs.Options.{IsPlain, Say, apart, joined, name, nothing, only_names}
 
 -- the word has two bytes or more and begins with a dash

@@ -1,18 +1,12 @@
 -- What sort of word a word is, to the definition of the form and to the command.
 use Rattle.std.proofs.Common.{◌≡◌, ◌∙◌, ◌++◌, ◌∷◌, ◌⊎◌, inl, inr, ℕ, ◌<◌, ◌≤◌, ◌==◌, Bool, true, false, List, [], Option, Some, None, refl, ap, sym, subst, arith, bytes_eq, codes, take, length, get_or, IsUtf8, chars, encode_utf8_all}
-use Rattle.std.specs.List.{position_or_len, before_first, after_first}
-use Rattle.std.proofs.lemmas.Bool.Decides.{nat_tests}
-use Rattle.std.proofs.lemmas.List.Sums.{split_at_first, passes_at_first, fails_before_first}
-use Rattle.std.proofs.lemmas.Slice.Eq.{bytes_eq-Decides}
+use Rattle.std.{specs.List.{position_or_len, before_first, after_first}, proofs.lemmas.Bool.Decides.{nat_tests}}
+use Rattle.std.proofs.lemmas.{List.Sums.{split_at_first, passes_at_first, fails_before_first}, Slice.Eq.{bytes_eq-Decides}}
 use Rattle.std.proofs.lemmas.Str.{encodes-chars, IsUtf8-drop, IsCharBoundary-after_ascii}
-use Rattle.clap.specs.Lexer.{long_of, short_of, name_and_value, has_byte}
-use Rattle.clap.specs.Walk.{Held, Row, Text}
-use Rattle.clap.specs.Faults.{flag_word_fault, flags_fault}
-use Rattle.clap.proofs.CutLemmas.{Lacks, list_any-at}
-use Rattle.clap.proofs.LexerLemmas.{name_and_value-without}
+use Rattle.clap.specs.{Lexer.{long_of, short_of, name_and_value, has_byte}, Walk.{Held, Row, Text}, Faults.{flag_word_fault, flags_fault}}
+use Rattle.clap.proofs.{CutLemmas.{Lacks, list_any-at}, LexerLemmas.{name_and_value-without}}
 use Rattle.fm_top_options.proofs.Said.{Look, LooksPlain, LooksRefused, has_dash, is_apart, is_dash, is_end, is_joined, is_plain, is_refused, look}
-use Rattle.fm_top_options.proofs.Built.{rules}
-use Rattle.fm_top_options.proofs.Faulty.{IsFault}
+use Rattle.fm_top_options.proofs.{Built.{rules}, Faulty.{IsFault}}
 
 -- what is held between two words
 abbrev pub held : List Row → Option (Text × List Text) → Held

@@ -1,23 +1,15 @@
 -- Which words the command takes, and what it reads of them.
 use Rattle.std.proofs.Common.{◌≡◌, ◌∙◌, ◌∷◌, ◌||◌, inl, inr, Bool, true, false, List, [], Option, Some, None, refl, ap, sym, subst, if◌then◌else◌, length, nat_le, codes, unwrap_or, option_and_then, option_map, slice_get, fold, is_some, String}
-use Rattle.std.specs.declared.alloc.Global.{Global}
-use Rattle.std.proofs.lemmas.Str.{IsUtf8-string_bytes}
-use Rattle.clap.specs.Words.{App, HasMatchesOf, HasKind, found_of, kind_of, rows_of}
-use Rattle.clap.specs.Kinds.{Kinds, or_else}
-use Rattle.clap.specs.Walk.{Row, Text, Walk, all_of, finished, first_of, has_row, settled, with_default}
-use Rattle.clap.specs.Simple.{entered, matches_of}
-use Rattle.clap.specs.Faults.{check_fault, defaults_fault, entered_fault, fault_of, settle_fault, walk_fault}
-use Rattle.clap.specs.declared.error.Error.{Error}
+use Rattle.std.{specs.declared.alloc.Global.{Global}, proofs.lemmas.Str.{IsUtf8-string_bytes}}
+use Rattle.clap.specs.{Words.{App, HasMatchesOf, HasKind, found_of, kind_of, rows_of}, Kinds.{Kinds, or_else}}
+use Rattle.clap.specs.{Walk.{Row, Text, Walk, all_of, finished, first_of, has_row, settled, with_default}, Simple.{entered, matches_of}}
+use Rattle.clap.specs.{Faults.{check_fault, defaults_fault, entered_fault, fault_of, settle_fault, walk_fault}, declared.error.Error.{Error}}
+use Rattle.clap.{specs.declared.parser.matches.ArgMatches.{ArgMatches}, proofs.WalkLemmas.{first_value-rows, raw_values-rows}}
 use Rattle.clap.specs.declared.error.kind.ErrorKind.TheVariants as kind
-use Rattle.clap.specs.declared.parser.matches.ArgMatches.{ArgMatches}
-use Rattle.clap.proofs.WalkLemmas.{first_value-rows, raw_values-rows}
-use Rattle.fm_top_options.specs.Command.{Match, command_app}
-use Rattle.fm_top_options.specs.Options.{Say, texts}
+use Rattle.fm_top_options.specs.{Command.{Match, command_app}, Options.{Say, texts}}
 use Rattle.fm_top_options.proofs.Agreeing.{Agrees, AllText, Shows, agrees, end, faults, given, once}
-use Rattle.fm_top_options.proofs.Built.{app, is_simple-command, option as threads, rules, shape}
-use Rattle.fm_top_options.proofs.Faulty.{IsFault, fault_first, fault_second}
-use Rattle.fm_top_options.proofs.Said.{Said, Say_from_said, first_use, said, said_from_Say, uses}
-use Rattle.fm_top_options.proofs.Turns.{nothing, ready}
+use Rattle.fm_top_options.proofs.{Built.{app, is_simple-command, option as threads, rules, shape}, Faulty.{IsFault, fault_first, fault_second}}
+use Rattle.fm_top_options.proofs.{Said.{Said, Say_from_said, first_use, said, said_from_Say, uses}, Turns.{nothing, ready}}
 
 abbrev start : Walk
 start = ready [] nothing false

@@ -1,11 +1,8 @@
 -- What one word does to a walk.
 use Rattle.std.proofs.Common.{◌≡◌, ◌++◌, ◌∷◌, ℕ, Bool, true, false, List, [], Option, Some, None, refl, codes}
-use Rattle.clap.specs.Kinds.{Kinds, or_else}
-use Rattle.clap.specs.Walk.{Row, Text, Waiting, Walk, idle, option, positional, settled_rows, used, walked}
+use Rattle.clap.specs.{Kinds.{Kinds, or_else}, Walk.{Row, Text, Waiting, Walk, idle, option, positional, settled_rows, used, walked}}
 use Rattle.clap.specs.Faults.{settle_fault, turn_fault, use_fault}
-use Rattle.fm_top_options.proofs.Built.{option as threads, rules, shape}
-use Rattle.fm_top_options.proofs.Faulty.{IsFault, fault_first, or_else-nil}
-use Rattle.fm_top_options.proofs.Sorts.{IsPlain, IsUnknown, held}
+use Rattle.fm_top_options.proofs.{Built.{option as threads, rules, shape}, Faulty.{IsFault, fault_first, or_else-nil}, Sorts.{IsPlain, IsUnknown, held}}
 
 -- what waits to be used: nothing, the option with no text yet, the option with its text, or a positional word
 pub data Pend : Type 0 where

@@ -1,8 +1,7 @@
 -- The command by which the words are read.
 use Rattle.std.specs.Prelude.{ℕ, [], List, true, Some, codes, option_map, unwrap_or}
 use Rattle.clap.specs.Words.{App, Rule, first_value, found_of, matched_of, new_app, new_rule, raw_values, with_rule}
-use Rattle.clap.specs.declared.builder.action.ArgAction.TheVariants.{Set, Append}
-use Rattle.clap.specs.declared.parser.matches.ArgMatches.{ArgMatches}
+use Rattle.clap.specs.declared.{builder.action.ArgAction.TheVariants.{Set, Append}, parser.matches.ArgMatches.{ArgMatches}}
 use Rattle.fm_top_options.specs.Options.{Say}
 
 -- `--threads`, which has a text and is used once

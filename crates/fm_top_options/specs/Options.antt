@@ -1,7 +1,6 @@
 -- What the words after a command's name say, where `--threads` is the command's one option.
 use Rattle.std.specs.Prelude.{◌≡◌, ◌≢◌, ◌⊎◌, ℕ, List, [], ◌∷◌, ◌++◌, Option, Some, None, map, option_map, slice_index, codes, String, string_bytes}
-use Rattle.std.specs.Borrow.{Bor}
-use Rattle.std.specs.declared.alloc.Global.{Global}
+use Rattle.std.specs.{Borrow.{Bor}, declared.alloc.Global.{Global}}
 
 -- the bytes of each word
 abbrev pub texts : List (String Global) → List (List ℕ)

@@ -1,27 +1,14 @@
 -- A pool's first pass that has a new arena give its first bytes.
 use Rattle.std.proofs.Common.{◌≡◌, ℕ, ◌+◌, ◌<◌, ◌≤◌, true, false, List, Ok, Err, refl, ap, ◌∙◌, sym, subst, arith}
-use Rattle.fm_base.specs.declared.arena_id.ArenaId.{ArenaId}
-use Rattle.fm_base.specs.declared.refusal.Refusal.{Refusal}
-use Rattle.fm_base.specs.declared.refusal.Refusal.TheVariants.{Memory, NoSlot, PoolFull}
-use Rattle.fm_base.specs.Does.{DidAllocate, DoesAllocate}
-use Rattle.fm_base.specs.Finds.{Gathered}
-use Rattle.fm_base.specs.Machine.{rounded_up}
-use Rattle.fm_base.specs.Outcomes.{MayRefuse, Nature}
-use Rattle.fm_base.specs.View.{but_loans, given_in}
-use Rattle.fm_rule_calls.specs.Told.{view_of_pass}
-use Rattle.fm_rule_calls.proofs.Telling.{did_of}
-use Rattle.fm_gate.specs.Learnt.{AfterAllocate}
-use Rattle.fm_gate.proofs.Scarce.{one_empty}
-use Rattle.fm_top_load.specs.Held.{HoldsThen, IsEmpty, OnlyIn, Wants, words_at}
-use Rattle.fm_top_load.proofs.Holding.{allocated_held, allocated_only, refusal_wants}
-use Rattle.fm_rule_facts.specs.Loans.{loans_of}
-use Rattle.fm_rule_facts.specs.Scarcity.{IsScarce, lacking, parts_before}
-use Rattle.fm_rule_facts.specs.Views.{View, given_of, limit_of, state_in, unlent}
+use Rattle.fm_base.specs.declared.{arena_id.ArenaId.{ArenaId}, refusal.Refusal.{Refusal, TheVariants.{Memory, NoSlot, PoolFull}}}
+use Rattle.fm_base.specs.{Does.{DidAllocate, DoesAllocate}, Finds.{Gathered}, Machine.{rounded_up}, Outcomes.{MayRefuse, Nature}, View.{but_loans, given_in}}
+use Rattle.fm_rule_calls.{specs.Told.{view_of_pass}, proofs.Telling.{did_of}}
+use Rattle.fm_gate.{specs.Learnt.{AfterAllocate}, proofs.Scarce.{one_empty}}
+use Rattle.fm_top_load.{specs.Held.{HoldsThen, IsEmpty, OnlyIn, Wants, words_at}, proofs.Holding.{allocated_held, allocated_only, refusal_wants}}
+use Rattle.fm_rule_facts.specs.{Loans.{loans_of}, Scarcity.{IsScarce, lacking, parts_before}, Views.{View, given_of, limit_of, state_in, unlent}}
 use Rattle.fm_rule_facts.proofs.Scarcity.{lacking_most}
 use Rattle.fm_rule.specs.declared.pool.Pool.{Pool}
-use Rattle.fm_top_pooled.specs.Stocked.{HasPagesFor, IsAlone}
-use Rattle.fm_top_pooled.proofs.Opening.{kept_alone}
-use Rattle.fm_top_pooled.proofs.Tidying.{AllChangeNone}
+use Rattle.fm_top_pooled.{specs.Stocked.{HasPagesFor, IsAlone}, proofs.{Opening.{kept_alone}, Tidying.{AllChangeNone}}}
 
 -- ---- nothing is wanting
 

@@ -1,37 +1,22 @@
 -- What a crew that only reads records, and adds to counts beside them, leaves as it was.
 use Rattle.std.proofs.Common.{◌≡◌, ◌≢◌, ℕ, ◌+◌, ◌*◌, ◌<◌, ◌≤◌, Bool, true, false, List, [], ◌∷◌, ◌++◌, refl, ap, sym, ◌∙◌, subst, inl, arith}
-use Rattle.std.specs.Prelude.{◌⊎◌, cond, ⊤}
-use Rattle.std.specs.List.{AllByRecursion, flat_map}
-use Rattle.std.proofs.lemmas.Grind.{same_number_lists}
-use Rattle.fm_base.specs.declared.arena_id.ArenaId.{ArenaId}
-use Rattle.fm_base.specs.declared.caller.Caller.{Caller}
-use Rattle.fm_base.specs.Arenas.{State, Alive, arena_of, has_arena, are_one}
-use Rattle.fm_base.specs.Calls.{Call, Enter, Read, Add, Leave, Reply, Entry, entry_of}
+use Rattle.std.{specs.{Prelude.{◌⊎◌, cond, ⊤}, List.{AllByRecursion, flat_map}}, proofs.lemmas.Grind.{same_number_lists}}
+use Rattle.fm_base.specs.{declared.{arena_id.ArenaId.{ArenaId}, caller.Caller.{Caller}}, Arenas.{State, Alive, arena_of, has_arena, are_one}}
+use Rattle.fm_base.specs.{Calls.{Call, Enter, Read, Add, Leave, Reply, Entry, entry_of}, Histories.{made_by}, Untouched.{AllSpare, ComesIn, LeavesOpen, Spares}}
+use Rattle.fm_base.{specs.Visits.{refused_visit}, proofs.Untouched.{alive, spared}}
 use Rattle.fm_base.specs.Calls as calls
-use Rattle.fm_base.specs.Histories.{made_by}
-use Rattle.fm_base.specs.Untouched.{AllSpare, ComesIn, LeavesOpen, Spares}
-use Rattle.fm_base.specs.Visits.{refused_visit}
-use Rattle.fm_base.proofs.Untouched.{alive, spared}
 use Rattle.fm_base_bytes.specs.Words.{byte_at}
 use Rattle.fm_segment_laws.proofs.Staying.{ChangesBelow, StayBelow, tidy_alone}
-use Rattle.fm_rule_calls.specs.Told.{view_of_pass}
-use Rattle.fm_rule_calls.proofs.Going.{Reached, reached_by}
+use Rattle.fm_rule_calls.{specs.Told.{view_of_pass}, proofs.Going.{Reached, reached_by}}
 use Rattle.fm_gate.specs.Needs.{IsOutside}
-use Rattle.fm_base_lists.specs.Among.{IsAmong}
-use Rattle.fm_base_lists.proofs.Each.{all_both, all_weaker}
+use Rattle.fm_base_lists.{specs.Among.{IsAmong}, proofs.Each.{all_both, all_weaker}}
 use Rattle.fm_rule_facts.specs.Views.{View, IsSound, limit_of, state_in}
-use Rattle.fm_records.specs.Alone.{bytes_at_places}
-use Rattle.fm_records.specs.Reads.{AreReads, read_visit}
-use Rattle.fm_records.specs.Shares.{AreSpared}
-use Rattle.fm_records.proofs.AnsweringBytes.{get_or-places, length-places}
+use Rattle.fm_records.{specs.{Alone.{bytes_at_places}, Reads.{AreReads, read_visit}, Shares.{AreSpared}}, proofs.AnsweringBytes.{get_or-places, length-places}}
 use Rattle.fm_rule.specs.declared.pool.Pool.{Pool}
-use Rattle.fm_segment.specs.Access.{IsKnown}
-use Rattle.fm_segment.specs.Region.{Region}
+use Rattle.fm_segment.specs.{Access.{IsKnown}, Region.{Region}}
 use Rattle.fm_workers_crew.specs.Crew.{CrewGathered}
-use Rattle.fm_workers.specs.Query.{OnlyReads, reads, stops}
-use Rattle.fm_workers.proofs.Sparing.{by_either}
-use Rattle.fm_top_pooled.specs.Stocked.{IsStockedOf, bytes_in_pool}
-use Rattle.fm_top_pooled.proofs.Tidying.{tidy_on}
+use Rattle.fm_workers.{specs.Query.{OnlyReads, reads, stops}, proofs.Sparing.{by_either}}
+use Rattle.fm_top_pooled.{specs.Stocked.{IsStockedOf, bytes_in_pool}, proofs.Tidying.{tidy_on}}
 
 -- a visit's call that reads, or adds to a word that may be added to
 abbrev pub Touches : (ArenaId → ℕ → Type 0) → Call → Type 0

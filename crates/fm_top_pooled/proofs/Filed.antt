@@ -1,43 +1,25 @@
 -- A pool's first pass that reads a file into an arena, piece by piece.
 use Rattle.std.proofs.Common.{◌≡◌, ℕ, ◌+◌, ◌≤◌, Bool, true, false, Option, List, [], length, take, Ok, refl, ap, sym, ◌∙◌, subst, ⊎_elim, arith}
-use Rattle.std.specs.Prelude.{◌⊎◌}
-use Rattle.std.proofs.lemmas.List.{length-take-le, take-take}
-use Rattle.fm_base.specs.declared.arena_id.ArenaId.{ArenaId}
-use Rattle.fm_base.specs.declared.caller.Caller.{Caller}
-use Rattle.fm_base.specs.Arenas.{State, arena_of}
-use Rattle.fm_base.specs.Calls.{Entry}
-use Rattle.fm_base.specs.Histories.{state_after}
+use Rattle.std.{specs.Prelude.{◌⊎◌}, proofs.lemmas.List.{length-take-le, take-take}}
+use Rattle.fm_base.specs.{declared.{arena_id.ArenaId.{ArenaId}, caller.Caller.{Caller}}, Arenas.{State, arena_of}, Calls.{Entry}, Histories.{state_after}}
 use Rattle.fm_base.specs.View.{given_in}
 use Rattle.fm_base_bytes.specs.Words.{bytes_in}
 use Rattle.fm_segment_access.specs.Alone.{bytes_of_arena}
-use Rattle.fm_segment_laws.proofs.Putting.{put_all_stays}
-use Rattle.fm_segment_laws.proofs.Staying.{StayBelow, stay_append}
+use Rattle.fm_segment_laws.proofs.{Putting.{put_all_stays}, Staying.{StayBelow, stay_append}}
 use Rattle.fm_rule_calls.specs.Told.{view_of_pass}
 use Rattle.fm_gate.specs.Needs.{IsOutside}
-use Rattle.fm_io.specs.Files.{Contents, AreBytesFrom}
-use Rattle.fm_io.specs.Reads.{Read, Next, At}
-use Rattle.fm_top_load.specs.Filling.{Puts, no_run, run}
-use Rattle.fm_top_load.specs.Held.{IsHeld}
-use Rattle.fm_top_load.specs.Limits.{record_file_limit}
-use Rattle.fm_top_load.specs.declared.chunk.Chunk.{Chunk}
-use Rattle.fm_top_load.specs.declared.reaching.Reached.{Reached}
-use Rattle.fm_top_load.specs.declared.reaching.Reached.TheVariants.{End, Full}
+use Rattle.fm_io.specs.{Files.{Contents, AreBytesFrom}, Reads.{Read, Next, At}}
+use Rattle.fm_top_load.specs.{Filling.{Puts, no_run, run}, Held.{IsHeld}, Limits.{record_file_limit}, declared.chunk.Chunk.{Chunk}}
+use Rattle.fm_top_load.specs.declared.reaching.Reached.{Reached, TheVariants.{End, Full}}
 use Rattle.fm_top_load.specs.Reached.{CanReadBehind, GoesBeyond, HasFirst, HasWhole, IsNext, PutsWithin, Reaches}
-use Rattle.fm_top_load.specs.Reading.{GoesBy, ReadsBehind, ReadsSome, ReadsUpTo, piece_limit}
-use Rattle.fm_top_load.specs.Whole.{IsWhole}
-use Rattle.fm_top_load.proofs.Following.{chunk_reads, reads_then}
+use Rattle.fm_top_load.{specs.{Reading.{GoesBy, ReadsBehind, ReadsSome, ReadsUpTo, piece_limit}, Whole.{IsWhole}}, proofs.Following.{chunk_reads, reads_then}}
 use Rattle.fm_rule_facts.specs.Views.{View, IsKnown, IsSound, limit_of, state_in}
-use Rattle.fm_records.proofs.AnsweringBytes.{length-places, places_have}
-use Rattle.fm_records.specs.Alone.{bytes_at_places}
-use Rattle.fm_rule.specs.declared.pool.Pool.{Pool}
-use Rattle.fm_rule.specs.Finishing.{FinishedView, Finishes}
-use Rattle.fm_rule.specs.GivenBytes.{given_bytes, state_of}
-use Rattle.fm_rule.specs.Passes.{IsOf}
+use Rattle.fm_records.{proofs.AnsweringBytes.{length-places, places_have}, specs.Alone.{bytes_at_places}}
+use Rattle.fm_rule.specs.{declared.pool.Pool.{Pool}, Finishing.{FinishedView, Finishes}, GivenBytes.{given_bytes, state_of}, Passes.{IsOf}}
 use Rattle.fm_segment.specs.Region.{Region, region_of}
 use Rattle.fm_words.specs.declared.shape.Shape.{Shape}
 use Rattle.fm_top_pooled.specs.Stocked.{HasRoomIn, HoldsWhole, IsLone, IsMadeFor, IsStock, ReadsIn, bytes_in_pool}
-use Rattle.fm_top_pooled.proofs.Filling.{held_room, only_on, stay_lone}
-use Rattle.fm_top_pooled.proofs.Opening.{knows_none}
+use Rattle.fm_top_pooled.proofs.{Filling.{held_room, only_on, stay_lone}, Opening.{knows_none}}
 
 -- ---- runs of bytes
 

@@ -1,35 +1,21 @@
 -- A pool's first pass that puts bytes into an arena that it opened.
-use Rattle.std.proofs.Common.{◌≡◌, ℕ, ◌+◌, ◌≤◌, List, ◌++◌, length, take, drop, Ok, refl, ap, sym, ◌∙◌, subst, inr, arith}
-use Rattle.std.specs.Prelude.{◌⊎◌}
+use Rattle.std.{proofs.Common.{◌≡◌, ℕ, ◌+◌, ◌≤◌, List, ◌++◌, length, take, drop, Ok, refl, ap, sym, ◌∙◌, subst, inr, arith}, specs.Prelude.{◌⊎◌}}
 use Rattle.std.proofs.Math.Seq.{take-append_seam}
-use Rattle.fm_base.specs.declared.arena_id.ArenaId.{ArenaId}
-use Rattle.fm_base.specs.declared.kind.Kind.TheVariants.{Shared}
-use Rattle.fm_base.specs.Arenas.{State}
-use Rattle.fm_base.specs.Calls.{Entry}
-use Rattle.fm_base.specs.Finds.{Gathered, Rest}
-use Rattle.fm_base.specs.Histories.{IsLegal, IsTidy}
-use Rattle.fm_base.specs.View.{Did, Makes, given_in}
-use Rattle.fm_base_bytes.specs.Bytes.{AreBytes}
-use Rattle.fm_base_bytes.proofs.Words.{length-bytes_in}
-use Rattle.fm_segment_access.specs.Alone.{bytes_of_arena, with_bytes}
-use Rattle.fm_segment_access.specs.Runs.{DoesPutAll}
-use Rattle.fm_segment_access.proofs.Splicing.{keeps_count}
-use Rattle.fm_segment_laws.proofs.Staying.{StayBelow, tidy_alone}
+use Rattle.fm_base.specs.{declared.{arena_id.ArenaId.{ArenaId}, kind.Kind.TheVariants.{Shared}}, Arenas.{State}, Calls.{Entry}, Finds.{Gathered, Rest}}
+use Rattle.fm_base.specs.{Histories.{IsLegal, IsTidy}, View.{Did, Makes, given_in}}
+use Rattle.fm_base_bytes.{specs.Bytes.{AreBytes}, proofs.Words.{length-bytes_in}}
+use Rattle.fm_segment_access.{specs.{Alone.{bytes_of_arena, with_bytes}, Runs.{DoesPutAll}}, proofs.Splicing.{keeps_count}}
+use Rattle.fm_segment_laws.proofs.{Staying.{StayBelow, tidy_alone}, Putting.{put_all_stays}}
 use Rattle.fm_arena.proofs.Lasting.{keeps as pool_keeps}
-use Rattle.fm_rule_calls.specs.Told.{view_of_pass}
-use Rattle.fm_rule_calls.proofs.Sweeps.{no_sweeps}
+use Rattle.fm_rule_calls.{specs.Told.{view_of_pass}, proofs.Sweeps.{no_sweeps}}
 use Rattle.fm_gate.specs.Needs.{IsOutside}
 use Rattle.fm_top_load.specs.Held.{IsHeld, OnlyIn, words_at}
 use Rattle.fm_rule_facts.specs.Views.{View, IsKnown, IsSound, limit_of, state_in}
-use Rattle.fm_records.specs.Alone.{bytes_at_places}
-use Rattle.fm_records.proofs.AnsweringBytes.{places_have}
-use Rattle.fm_rule.specs.declared.pool.Pool.{Pool}
-use Rattle.fm_rule.specs.Passes.{IsOf}
+use Rattle.fm_records.{specs.Alone.{bytes_at_places}, proofs.AnsweringBytes.{places_have}}
+use Rattle.fm_rule.specs.{declared.pool.Pool.{Pool}, Passes.{IsOf}}
 use Rattle.fm_segment.specs.Region.{Region, region_of}
 use Rattle.fm_words.specs.declared.shape.Shape.{Shape}
-use Rattle.fm_top_pooled.specs.Stocked.{HasOpened, IsAlone, IsStockedOf, KeepsArenas, bytes_in_pool}
-use Rattle.fm_segment_laws.proofs.Putting.{put_all_stays}
-use Rattle.fm_top_pooled.proofs.Tidying.{tidy_on}
+use Rattle.fm_top_pooled.{specs.Stocked.{HasOpened, IsAlone, IsStockedOf, KeepsArenas, bytes_in_pool}, proofs.Tidying.{tidy_on}}
 
 -- ---- calls of a memory
 

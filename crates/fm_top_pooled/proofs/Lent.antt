@@ -1,18 +1,11 @@
 -- How many pages of a pool are lent, where few arenas are known.
 use Rattle.std.proofs.Common.{◌≡◌, ℕ, zero, suc, ◌+◌, ◌-◌, ◌*◌, ◌/◌, ◌<◌, ◌≤◌, ◌==◌, not, cond, Bool, true, false, List, [], ◌∷◌, filter, refl, sym, ap, subst, ⊎_elim, arith, div-lt_iff_lt-mul}
-use Rattle.std.specs.Prelude.{Contains, ⊤}
-use Rattle.std.proofs.lemmas.List.Elements.{All-filter}
-use Rattle.fm_base.specs.declared.arena_id.ArenaId.{ArenaId}
-use Rattle.fm_base.specs.Arenas.{State, has_arena}
-use Rattle.fm_base.specs.Calls.{Call, Lend, Back, Entry}
-use Rattle.fm_base.specs.Histories.{IsLegal, state_after}
-use Rattle.fm_base.specs.Machine.{after}
-use Rattle.fm_base.proofs.Growing.{Grows-after}
+use Rattle.std.{specs.Prelude.{Contains, ⊤}, proofs.lemmas.List.Elements.{All-filter}}
+use Rattle.fm_base.specs.{declared.arena_id.ArenaId.{ArenaId}, Arenas.{State, has_arena}, Calls.{Call, Lend, Back, Entry}, Histories.{IsLegal, state_after}}
+use Rattle.fm_base.{specs.Machine.{after}, proofs.Growing.{Grows-after}}
 use Rattle.fm_rule_facts.specs.Loans.{Loan, loan_of, loans_after, loans_by, loans_of, HasPart, IsFree, IsRightlyLentFrom, IsRightlyLentIn}
-use Rattle.fm_rule_facts.specs.Scarcity.{lacking, parts_before}
-use Rattle.fm_rule_facts.specs.Views.{View, IsKnown, IsSound, limit_of, unlent}
-use Rattle.fm_rule_facts.proofs.Lending.{loan_cases, loan_was, first_loan, more_loans}
-use Rattle.fm_rule_facts.proofs.Scarcity.{block_free, has_part_not, lacking_lend, unlent_lend}
+use Rattle.fm_rule_facts.specs.{Scarcity.{lacking, parts_before}, Views.{View, IsKnown, IsSound, limit_of, unlent}}
+use Rattle.fm_rule_facts.proofs.{Lending.{loan_cases, loan_was, first_loan, more_loans}, Scarcity.{block_free, has_part_not, lacking_lend, unlent_lend}}
 use Rattle.fm_words.specs.declared.shape.Shape.{Shape}
 
 -- ---- each block once, and as one part

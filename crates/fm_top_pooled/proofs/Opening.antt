@@ -1,35 +1,16 @@
 -- A pool's first pass that opens an arena.
 use Rattle.std.proofs.Common.{◌≡◌, ℕ, ◌*◌, ◌≤◌, Bool, true, false, List, [], ◌∷◌, ◌++◌, Ok, Err, refl, ap, sym, ◌∙◌, subst, inl, inr, arith}
-use Rattle.std.specs.Prelude.{◌⊎◌, if◌then◌else◌}
-use Rattle.fm_base.specs.declared.arena_id.ArenaId.{ArenaId}
-use Rattle.fm_base.specs.declared.kind.Kind.TheVariants.{Shared}
-use Rattle.fm_base.specs.declared.refusal.Refusal.{Refusal}
-use Rattle.fm_base.specs.Arenas.{Arena, State, arena_of, has_arena, same_id}
-use Rattle.fm_base.specs.Calls.{Entry, Open, Fine, entry_of}
-use Rattle.fm_base.specs.Does.{DoesOpen}
-use Rattle.fm_base.specs.Finds.{Gathered, Rest}
-use Rattle.fm_base.specs.Histories.{IsTidy, state_after}
-use Rattle.fm_base.specs.Machine.{opened}
-use Rattle.fm_base.specs.View.{but_loans}
-use Rattle.fm_base.proofs.Lookup.{arena_of-append}
-use Rattle.fm_base.proofs.Names.{same_id-true}
-use Rattle.std.proofs.lemmas.List.{map-append}
-use Rattle.fm_gate.specs.Needs.{IsOutside}
-use Rattle.fm_rule_calls.specs.Kept.{Kept}
-use Rattle.fm_rule_calls.specs.Told.{view_of_pass}
-use Rattle.fm_top_load.specs.Held.{names_in}
-use Rattle.fm_rule_calls.proofs.Sweeps.{no_sweeps}
-use Rattle.fm_rule_calls.proofs.Telling.{did_of}
-use Rattle.fm_gate.specs.Learnt.{AfterOpen, AllBusy}
-use Rattle.fm_top_load.proofs.Holding.{did_only, opened_held}
-use Rattle.fm_rule_facts.specs.Loans.{Loan, loans_of}
-use Rattle.fm_rule_facts.specs.Scarcity.{parts_before}
-use Rattle.fm_rule_facts.specs.Views.{View, IsKnown, IsSound, limit_of, state_in, unlent}
-use Rattle.fm_rule.specs.declared.pool.Pool.{Pool}
-use Rattle.fm_rule.specs.Views.{first_pass, numbers_of}
+use Rattle.std.{specs.Prelude.{◌⊎◌, if◌then◌else◌}, proofs.lemmas.List.{map-append}}
+use Rattle.fm_base.specs.declared.{arena_id.ArenaId.{ArenaId}, kind.Kind.TheVariants.{Shared}, refusal.Refusal.{Refusal}}
+use Rattle.fm_base.specs.{Arenas.{Arena, State, arena_of, has_arena, same_id}, Calls.{Entry, Open, Fine, entry_of}, Does.{DoesOpen}, Finds.{Gathered, Rest}}
+use Rattle.fm_base.{specs.{Histories.{IsTidy, state_after}, Machine.{opened}, View.{but_loans}}, proofs.{Lookup.{arena_of-append}, Names.{same_id-true}}}
+use Rattle.fm_gate.specs.{Needs.{IsOutside}, Learnt.{AfterOpen, AllBusy}}
+use Rattle.fm_rule_calls.{specs.{Kept.{Kept}, Told.{view_of_pass}}, proofs.{Sweeps.{no_sweeps}, Telling.{did_of}}}
+use Rattle.fm_top_load.{specs.Held.{names_in}, proofs.Holding.{did_only, opened_held}}
+use Rattle.fm_rule_facts.specs.{Loans.{Loan, loans_of}, Scarcity.{parts_before}, Views.{View, IsKnown, IsSound, limit_of, state_in, unlent}}
+use Rattle.fm_rule.specs.{declared.pool.Pool.{Pool}, Views.{first_pass, numbers_of}}
 use Rattle.fm_words.specs.declared.shape.Shape.{Shape}
-use Rattle.fm_top_pooled.specs.Stocked.{CanStock, HasOpened, HasPagesFor, IsAlone, IsLone}
-use Rattle.fm_top_pooled.proofs.Lent.{none_lent, parts_within}
+use Rattle.fm_top_pooled.{specs.Stocked.{CanStock, HasOpened, HasPagesFor, IsAlone, IsLone}, proofs.Lent.{none_lent, parts_within}}
 use Rattle.fm_top_pooled.proofs.Tidying.{AllChangeNone, loans_too, tidy_none, tidy_on}
 
 -- ---- a pool's first pass

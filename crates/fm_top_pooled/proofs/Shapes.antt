@@ -1,8 +1,6 @@
 -- Numbers of the shape that is made for so many bytes.
 use Rattle.std.proofs.Common.{◌≡◌, ℕ, zero, suc, ◌+◌, ◌-◌, ◌*◌, ◌/◌, ◌%◌, ◌^◌, ◌<◌, ◌≤◌, max, min, sym, ◌∙◌, subst, arith, pow_mono, pow-suc, lt_of_not-le, mul-le-mul_right}
-use Rattle.std.specs.Int.{IsPowerOfTwo}
-use Rattle.std.proofs.lemmas.Grind.{div_ceil_times}
-use Rattle.std.proofs.lemmas.Nat.{mul-le}
+use Rattle.std.{specs.Int.{IsPowerOfTwo}, proofs.lemmas.{Grind.{div_ceil_times}, Nat.{mul-le}}}
 use mathlib.Core.Logic.{dite}
 use native.Mathlib.Decide.{dec_le}
 use Rattle.fm_words.specs.Shapes.{IsValid}

@@ -1,39 +1,21 @@
 -- What a crew answers of records in a pool, that nothing but memory is wanting, and what the pool's history shows then.
 use Rattle.std.proofs.Common.{◌≡◌, ℕ, ◌%◌, ◌<◌, ◌≤◌, List, [], ◌++◌, append_assoc, length, Result, Ok, Err, IfErr, refl, ap, sym, ◌∙◌, subst, inl, inr, ⊎_elim, arith, length-append}
-use Rattle.std.specs.Prelude.{◌⊎◌}
-use Rattle.std.specs.List.{AllByRecursion}
-use Rattle.std.proofs.Math.Nat.{zero-mod}
-use Rattle.fm_base.specs.declared.arena_id.ArenaId.{ArenaId}
-use Rattle.fm_base.specs.declared.caller.Caller.{Caller}
-use Rattle.fm_base.specs.declared.kind.Kind.TheVariants.{Confined, Shared}
-use Rattle.fm_base.specs.declared.refusal.Refusal.{Refusal}
-use Rattle.fm_base.specs.declared.refusal.Refusal.TheVariants.{Ragged, WrongThread, Closed, NoPass, Memory}
-use Rattle.fm_base.specs.Arenas.{State, are_one, has_arena}
-use Rattle.fm_base.specs.Calls.{Entry, Read, Found as Found_word, entry_of}
-use Rattle.fm_base.specs.Histories.{IsTidy, made_by, state_after}
-use Rattle.fm_base.specs.Untouched.{Spares}
+use Rattle.std.{specs.{Prelude.{◌⊎◌}, List.{AllByRecursion}}, proofs.Math.Nat.{zero-mod}}
+use Rattle.fm_base.specs.declared.{arena_id.ArenaId.{ArenaId}, caller.Caller.{Caller}, kind.Kind.TheVariants.{Confined, Shared}, refusal.Refusal.{Refusal}}
+use Rattle.fm_base.specs.{declared.refusal.Refusal.TheVariants.{Ragged, WrongThread, Closed, NoPass, Memory}, Arenas.{State, are_one, has_arena}}
+use Rattle.fm_base.specs.{Calls.{Entry, Read, Found as Found_word, entry_of}, Histories.{IsTidy, made_by, state_after}, Untouched.{Spares}}
 use Rattle.fm_gate.specs.Needs.{IsOutside}
-use Rattle.fm_base_lists.specs.Among.{IsAmong}
-use Rattle.fm_base_lists.proofs.Among.{among_kept, among_left, among_right}
-use Rattle.fm_base_lists.proofs.Each.{all_among, all_both, all_weaker}
+use Rattle.fm_base_lists.{specs.Among.{IsAmong}, proofs.{Among.{among_kept, among_left, among_right}, Each.{all_among, all_both, all_weaker}}}
 use Rattle.fm_path.specs.Resolution.{Resolution}
 use Rattle.fm_rule_facts.specs.Views.{View, IsSound, limit_of, state_in}
 use Rattle.fm_records_query.specs.Plan.{Plan}
-use Rattle.fm_records.specs.declared.found.Found.{Found}
-use Rattle.fm_records.specs.Alone.{bytes_at_places}
-use Rattle.fm_records.specs.Answers.{answer}
-use Rattle.fm_records.specs.Laws.{IsAsked, value_in}
-use Rattle.fm_records.specs.Reads.{IsWordOf}
-use Rattle.fm_records.specs.Shares.{AreSpared}
-use Rattle.fm_records.proofs.AnsweringBytes.{length-places}
-use Rattle.fm_rule.specs.declared.pool.Pool.{Pool}
-use Rattle.fm_rule.specs.Finishing.{FinishedView, Finishes}
-use Rattle.fm_rule.specs.GivenBytes.{state_of}
+use Rattle.fm_records.specs.{declared.found.Found.{Found}, Alone.{bytes_at_places}, Answers.{answer}, Laws.{IsAsked, value_in}, Reads.{IsWordOf}}
+use Rattle.fm_records.{specs.Shares.{AreSpared}, proofs.AnsweringBytes.{length-places}}
+use Rattle.fm_rule.specs.{declared.pool.Pool.{Pool}, Finishing.{FinishedView, Finishes}, GivenBytes.{state_of}}
 use Rattle.fm_segment.specs.Region.{Region, region_of}
 use Rattle.fm_words.specs.declared.shape.Shape.{Shape}
-use Rattle.fm_workers_crew.specs.Crew.{AreTooMany, CrewGathered, IsFresh, IsWhole, callers}
+use Rattle.fm_workers_crew.{specs.Crew.{AreTooMany, CrewGathered, IsFresh, IsWhole, callers}, proofs.Wanting.{few_last}}
 use Rattle.fm_workers.specs.Query.{CanQueryWith, IsReadByCrew, NobodyElseWrites, OnlyReads, QueriedWith}
-use Rattle.fm_workers_crew.proofs.Wanting.{few_last}
 use Rattle.fm_top_pooled.specs.Asking.{Asked, AskedOf, HasPasses, KeepsHistory}
 use Rattle.fm_top_pooled.specs.Shown.{AreRead, AsksWord, IsReadByOther, ShowsBoth, ShowsQuery, ShowsRecords, state_before}
 use Rattle.fm_top_pooled.specs.Stocked.{IsStocked, IsStockedOf, IsTidyPass, bytes_in_pool}

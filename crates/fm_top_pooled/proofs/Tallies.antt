@@ -1,47 +1,27 @@
 -- Counts beside records in a pool: room for them, and what a crew counts.
 use Rattle.std.proofs.Common.{◌≡◌, ℕ, ◌+◌, ◌*◌, ◌%◌, ◌<◌, ◌≤◌, List, [], ◌∷◌, map, Result, Ok, Err, IfErr, IfOk, refl, ap, sym, ◌∙◌, subst, inl, inr, arith}
-use Rattle.std.specs.Prelude.{◌⊎◌}
-use Rattle.std.specs.List.{AllByRecursion, range_with_len}
-use Rattle.std.proofs.lemmas.Nat.{mul-le}
-use Rattle.std.proofs.lemmas.Result.{IfOk-weaker}
-use Rattle.fm_base.specs.declared.arena_id.ArenaId.{ArenaId}
-use Rattle.fm_base.specs.declared.caller.Caller.{Caller}
-use Rattle.fm_base.specs.declared.kind.Kind.TheVariants.{Confined, Shared}
-use Rattle.fm_base.specs.declared.refusal.Refusal.{Refusal}
-use Rattle.fm_base.specs.declared.refusal.Refusal.TheVariants.{Unsupported, Ragged, WrongThread, Closed, NoPass, Memory}
-use Rattle.fm_base.specs.Arenas.{Arena, arena_of}
-use Rattle.fm_base.specs.Calls.{Add, Entry, Found}
-use Rattle.fm_base.specs.Histories.{made_by}
-use Rattle.fm_base.specs.Untouched.{ComesIn, Spares}
-use Rattle.fm_base.specs.Visits.{visit}
+use Rattle.std.{specs.{Prelude.{◌⊎◌}, List.{AllByRecursion, range_with_len}}, proofs.lemmas.{Nat.{mul-le}, Result.{IfOk-weaker}}}
+use Rattle.fm_base.specs.declared.{arena_id.ArenaId.{ArenaId}, caller.Caller.{Caller}, kind.Kind.TheVariants.{Confined, Shared}, refusal.Refusal.{Refusal}}
+use Rattle.fm_base.specs.{declared.refusal.Refusal.TheVariants.{Unsupported, Ragged, WrongThread, Closed, NoPass, Memory}, Arenas.{Arena, arena_of}}
+use Rattle.fm_base.specs.{Calls.{Add, Entry, Found}, Histories.{made_by}, Untouched.{ComesIn, Spares}, Visits.{visit}}
 use Rattle.fm_rule_calls.specs.Told.{view_of_pass}
 use Rattle.fm_base_bytes.specs.Words.{byte_at}
-use Rattle.fm_gate.specs.Learnt.{AllBusy}
-use Rattle.fm_gate.specs.Needs.{IsOutside}
-use Rattle.fm_base_lists.specs.Among.{IsAmong}
-use Rattle.fm_base_lists.proofs.Each.{all_both, all_weaker}
+use Rattle.fm_gate.specs.{Learnt.{AllBusy}, Needs.{IsOutside}}
+use Rattle.fm_base_lists.{specs.Among.{IsAmong}, proofs.Each.{all_both, all_weaker}}
 use Rattle.fm_top_load.specs.Held.{HoldsThen}
-use Rattle.fm_rule_facts.specs.Loans.{loans_of}
-use Rattle.fm_rule_facts.specs.Scarcity.{parts_before}
-use Rattle.fm_rule_facts.specs.Views.{View, IsKnown, IsSound, limit_of, state_in, unlent}
+use Rattle.fm_rule_facts.specs.{Loans.{loans_of}, Scarcity.{parts_before}, Views.{View, IsKnown, IsSound, limit_of, state_in, unlent}}
 use Rattle.fm_records_query.specs.Plan.{Plan}
-use Rattle.fm_records.specs.Answers.{answer}
-use Rattle.fm_records.specs.Reads.{IsWordOf}
+use Rattle.fm_records.specs.{Answers.{answer}, Reads.{IsWordOf}}
 use Rattle.fm_rule.specs.declared.pool.Pool.{Pool}
 use Rattle.fm_segment.specs.Region.{Region, region_of}
 use Rattle.fm_words.specs.declared.shape.Shape.{Shape}
-use Rattle.fm_workers.specs.Adding.{HasCounts}
-use Rattle.fm_workers.specs.Counts.{AreCounts, IsTally, listed}
-use Rattle.fm_workers_crew.specs.Crew.{callers}
-use Rattle.fm_workers.specs.Query.{NobodyElseWrites}
+use Rattle.fm_workers.specs.{Adding.{HasCounts}, Counts.{AreCounts, IsTally, listed}, Query.{NobodyElseWrites}}
 use Rattle.fm_workers.specs.Tally.{CanTallyWith, OnlyAddsTo, no_more, closed, one_add, OnlyTallies, TalliedWith}
-use Rattle.fm_top_pooled.specs.Asking.{Asked, HasPasses}
-use Rattle.fm_top_pooled.specs.Stocked.{HasPagesFor, IsLone, IsOpened, IsStock, IsStocked, KeepsArenas, bytes_in_pool}
+use Rattle.fm_workers_crew.specs.Crew.{callers}
+use Rattle.fm_top_pooled.specs.{Asking.{Asked, HasPasses}, Stocked.{HasPagesFor, IsLone, IsOpened, IsStock, IsStocked, KeepsArenas, bytes_in_pool}}
 use Rattle.fm_top_pooled.specs.Tallied.{CanOpenSecond, HasRoomForCounts, IsBeside}
 use Rattle.fm_top_pooled.proofs.Crews.{AllTouch, Touches, bytes_stay, crew_touches, not_stopped, only_reads_touch, records_spared, stays_alive, stocked_still}
-use Rattle.fm_top_pooled.proofs.Lent.{lent_to_one, parts_within}
-use Rattle.fm_top_pooled.proofs.Opening.{pages_left}
-use Rattle.fm_top_pooled.proofs.Shows.{asked, can_ask, is_whole, never_wanting, pooled_is}
+use Rattle.fm_top_pooled.proofs.{Lent.{lent_to_one, parts_within}, Opening.{pages_left}, Shows.{asked, can_ask, is_whole, never_wanting, pooled_is}}
 
 -- ---- room for counts
 

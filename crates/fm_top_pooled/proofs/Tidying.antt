@@ -1,11 +1,7 @@
 -- Histories that change only bytes that were given: what may be put behind one.
-use Rattle.std.proofs.Common.{◌≡◌, ℕ, Bool, true, false, List, [], ◌∷◌, ◌++◌, refl, sym, subst}
-use Rattle.std.specs.Prelude.{if◌then◌else◌, not, ⊤}
+use Rattle.std.{proofs.Common.{◌≡◌, ℕ, Bool, true, false, List, [], ◌∷◌, ◌++◌, refl, sym, subst}, specs.Prelude.{if◌then◌else◌, not, ⊤}}
 use Rattle.std.specs.List.{AllByRecursion}
-use Rattle.fm_base.specs.Arenas.{State}
-use Rattle.fm_base.specs.Calls.{Call, Write, SwapIf, Add, Entry}
-use Rattle.fm_base.specs.Histories.{IsTidy, IsTidyIn, state_after}
-use Rattle.fm_base.specs.Machine.{after}
+use Rattle.fm_base.specs.{Arenas.{State}, Calls.{Call, Write, SwapIf, Add, Entry}, Histories.{IsTidy, IsTidyIn, state_after}, Machine.{after}}
 use Rattle.fm_base.specs.View.{but_loans, is_loan}
 use Rattle.fm_rule_facts.specs.Views.{View, limit_of, state_in}
 use Rattle.fm_words.specs.declared.shape.Shape.{Shape}

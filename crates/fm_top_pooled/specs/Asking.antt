@@ -4,11 +4,9 @@ use Rattle.fm_base.specs.Calls.{Entry}
 use Rattle.fm_rule_facts.specs.Views.{View}
 use Rattle.fm_records_query.specs.Plan.{Plan}
 use Rattle.fm_records.specs.Shares.{AreSpared}
-use Rattle.fm_rule.specs.declared.pool.Pool.{Pool}
-use Rattle.fm_rule.specs.Finishing.{FinishedView}
+use Rattle.fm_rule.specs.{declared.pool.Pool.{Pool}, Finishing.{FinishedView}}
 use Rattle.fm_segment.specs.Region.{Region}
-use Rattle.fm_top_pooled.specs.Shown.{AreRead, AsksWord, IsHistory}
-use Rattle.fm_top_pooled.specs.Stocked.{IsStockedOf, bytes_in_pool, pool_passes}
+use Rattle.fm_top_pooled.specs.{Shown.{AreRead, AsksWord, IsHistory}, Stocked.{IsStockedOf, bytes_in_pool, pool_passes}}
 
 -- so many passes are a crew
 pub record IsCrew (threads : ℕ) : Type 0 where

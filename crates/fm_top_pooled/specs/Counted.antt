@@ -1,8 +1,6 @@
 -- Bytes in a pool of their own, beside an arena for counts.
 use Rattle.std.specs.Prelude.{◌≡◌, ℕ, List, []}
-use Rattle.fm_top_pooled.specs.Stocked.{IsStocked, bytes_in_pool}
-use Rattle.fm_top_pooled.specs.Tallied.{IsBeside}
-use Rattle.fm_top_pooled.specs.declared.tallying.PooledWithCounts.TheInside.{Inside}
+use Rattle.fm_top_pooled.specs.{Stocked.{IsStocked, bytes_in_pool}, Tallied.{IsBeside}, declared.tallying.PooledWithCounts.TheInside.{Inside}}
 
 abbrev pub counted_bytes : Inside → List ℕ
 counted_bytes p = bytes_in_pool p.pass p.segment

@@ -1,7 +1,6 @@
 -- Bytes in a pool of their own.
 use Rattle.std.specs.Prelude.{◌≡◌, ℕ, List, []}
-use Rattle.fm_top_pooled.specs.Stocked.{IsStocked, bytes_in_pool}
-use Rattle.fm_top_pooled.specs.declared.pooled.Pooled.TheInside.{Inside}
+use Rattle.fm_top_pooled.specs.{Stocked.{IsStocked, bytes_in_pool}, declared.pooled.Pooled.TheInside.{Inside}}
 
 abbrev pub pooled_bytes : Inside → List ℕ
 pooled_bytes p = bytes_in_pool p.pass p.segment

@@ -1,21 +1,12 @@
 -- What the history of a finished pool shows of records that passes read.
 use Rattle.std.specs.Prelude.{◌≡◌, ◌≢◌, ◌⊎◌, ℕ, true, List, [], ◌++◌, length}
-use Rattle.fm_base.specs.declared.arena_id.ArenaId.{ArenaId}
-use Rattle.fm_base.specs.declared.caller.Caller.{Caller}
-use Rattle.fm_base.specs.Arenas.{State, has_arena, only_caller}
-use Rattle.fm_base.specs.Calls.{Entry}
+use Rattle.fm_base.specs.{declared.{arena_id.ArenaId.{ArenaId}, caller.Caller.{Caller}}, Arenas.{State, has_arena, only_caller}, Calls.{Entry}}
 use Rattle.fm_base.specs.Histories.{IsLegal, IsTidy, state_after}
 use Rattle.fm_path.specs.Resolution.{Resolution}
-use Rattle.fm_rule_facts.specs.Loans.{IsRightlyLent}
-use Rattle.fm_rule_facts.specs.Views.{limit_of}
+use Rattle.fm_rule_facts.specs.{Loans.{IsRightlyLent}, Views.{limit_of}}
 use Rattle.fm_records_query.specs.Plan.{Plan}
-use Rattle.fm_records.specs.Alone.{bytes_at_places}
-use Rattle.fm_records.specs.Bytes.{HasRead}
-use Rattle.fm_records.specs.Laws.{IsAsked, value_in}
-use Rattle.fm_records.specs.Reads.{IsWordOf}
-use Rattle.fm_records.specs.Shares.{AreSpared}
-use Rattle.fm_rule.specs.Finishing.{FinishedView}
-use Rattle.fm_rule.specs.GivenBytes.{state_of}
+use Rattle.fm_records.specs.{Alone.{bytes_at_places}, Bytes.{HasRead}, Laws.{IsAsked, value_in}, Reads.{IsWordOf}, Shares.{AreSpared}}
+use Rattle.fm_rule.specs.{Finishing.{FinishedView}, GivenBytes.{state_of}}
 use Rattle.fm_segment.specs.Region.{region_of}
 
 -- one history of one-thread arenas, which changes only bytes that were given, and whose pages are lent rightly

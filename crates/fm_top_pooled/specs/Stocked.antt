@@ -1,33 +1,18 @@
 -- Where the first pass of a pool stands, before bytes are put into an arena of it, and then.
-use Rattle.std.specs.Prelude.{◌≡◌, ◌⊎◌, ℕ, ◌+◌, ◌<◌, ◌≤◌, true, List, [], ◌∷◌, ◌++◌, Option, Result, IfOk, length}
-use Rattle.fm_base.specs.declared.arena_id.ArenaId.{ArenaId}
-use Rattle.fm_base.specs.declared.kind.Kind.TheVariants.{Shared}
-use Rattle.fm_base.specs.Arenas.{Alive, arena_of}
-use Rattle.fm_base.specs.Finds.{Gathered}
-use Rattle.fm_base.specs.Histories.{IsTidy}
-use Rattle.fm_rule_calls.specs.Told.{view_of_pass}
-use Rattle.fm_gate.specs.Learnt.{AllBusy}
-use Rattle.fm_gate.specs.Needs.{IsOutside}
+use Rattle.std.specs.{Prelude.{◌≡◌, ◌⊎◌, ℕ, ◌+◌, ◌<◌, ◌≤◌, true, List, [], ◌∷◌, ◌++◌, Option, Result, IfOk, length}, Result.{result_err}}
+use Rattle.fm_base.specs.{declared.{arena_id.ArenaId.{ArenaId}, kind.Kind.TheVariants.{Shared}}, Arenas.{Alive, arena_of}, Finds.{Gathered}, Histories.{IsTidy}}
 use Rattle.fm_base.specs.View.{given_in}
-use Rattle.fm_io.specs.Files.{Contents}
-use Rattle.fm_io.specs.View.{FilesView}
+use Rattle.fm_rule_calls.specs.Told.{view_of_pass}
+use Rattle.fm_gate.specs.{Learnt.{AllBusy}, Needs.{IsOutside}}
+use Rattle.fm_io.specs.{Files.{Contents}, View.{FilesView}}
 use Rattle.fm_segment_access.specs.Alone.{bytes_of_arena}
-use Rattle.fm_top_load.specs.declared.reaching.Reached.{Reached}
-use Rattle.fm_top_load.specs.Held.{HoldsThen, IsEmpty, IsHeld, OnlyIn, names_in, words_at}
-use Rattle.fm_top_load.specs.Limits.{record_file_limit}
-use Rattle.fm_top_load.specs.Reached.{Reaches}
-use Rattle.fm_top_load.specs.Reading.{ReadsSome}
-use Rattle.fm_top_load.specs.Whole.{IsWhole, TellsLoad}
-use Rattle.fm_top_load.specs.declared.load_fault.LoadFault.{LoadFault}
+use Rattle.fm_top_load.specs.{declared.reaching.Reached.{Reached}, Held.{HoldsThen, IsEmpty, IsHeld, OnlyIn, names_in, words_at}, Limits.{record_file_limit}}
+use Rattle.fm_top_load.specs.{Reached.{Reaches}, Reading.{ReadsSome}, Whole.{IsWhole, TellsLoad}, declared.load_fault.LoadFault.{LoadFault}}
 use Rattle.fm_top_pooled.specs.declared.stock.Stock.{Stock}
-use Rattle.std.specs.Result.{result_err}
-use Rattle.fm_rule_facts.specs.Loans.{loans_of}
-use Rattle.fm_rule_facts.specs.Scarcity.{parts_before}
-use Rattle.fm_rule_facts.specs.Views.{View, IsKnown, IsSound, limit_of, state_in, unlent}
+use Rattle.fm_rule_facts.specs.{Loans.{loans_of}, Scarcity.{parts_before}, Views.{View, IsKnown, IsSound, limit_of, state_in, unlent}}
 use Rattle.fm_records.specs.Alone.{bytes_at_places}
 use Rattle.fm_rule.specs.declared.pool.Pool.{Pool}
-use Rattle.fm_segment.specs.Access.{IsKnown as IsKnownTo}
-use Rattle.fm_segment.specs.Region.{Region, region_of}
+use Rattle.fm_segment.specs.{Access.{IsKnown as IsKnownTo}, Region.{Region, region_of}}
 use Rattle.fm_words.specs.declared.shape.Shape.{Shape}
 
 -- how many passes a pool has

@@ -1,16 +1,12 @@
 -- Counts in a second arena of the pool in which records stand.
 use Rattle.std.specs.Prelude.{◌≡◌, ◌≢◌, ◌%◌, ◌<◌, ◌≤◌, false}
-use Rattle.fm_base.specs.declared.arena_id.ArenaId.{ArenaId}
-use Rattle.fm_base.specs.declared.kind.Kind.TheVariants.{Shared}
-use Rattle.fm_base.specs.Arenas.{Alive, arena_of}
+use Rattle.fm_base.specs.{declared.{arena_id.ArenaId.{ArenaId}, kind.Kind.TheVariants.{Shared}}, Arenas.{Alive, arena_of}}
 use Rattle.fm_rule_calls.specs.Told.{view_of_pass}
 use Rattle.fm_rule_facts.specs.Views.{View, IsKnown as HasArena, state_in}
 use Rattle.fm_rule.specs.declared.pool.Pool.{Pool}
-use Rattle.fm_segment.specs.Access.{IsKnown}
-use Rattle.fm_segment.specs.Region.{Region}
+use Rattle.fm_segment.specs.{Access.{IsKnown}, Region.{Region}}
 use Rattle.fm_records_query.specs.Plan.{Plan}
-use Rattle.fm_workers.specs.Adding.{HasCounts}
-use Rattle.fm_workers.specs.Counts.{IsTally}
+use Rattle.fm_workers.specs.{Adding.{HasCounts}, Counts.{IsTally}}
 use Rattle.fm_top_pooled.specs.Stocked.{IsLone, IsStocked}
 
 -- the first pass of a pool of two slots, which knows this arena alone; there is a page more than an arena can have, with room for the counts

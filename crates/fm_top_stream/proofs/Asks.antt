@@ -1,35 +1,21 @@
 -- What a crew answers over a chunk, and what stands then of the next one.
 use Rattle.std.proofs.Common.{◌≡◌, ◌≢◌, ℕ, ◌+◌, ◌<◌, ◌≤◌, List, map, Option, Some, None, Result, Ok, Err, refl, ap, sym, ◌∙◌, subst, arith}
-use Rattle.std.specs.Prelude.{IfOk, IfSome}
-use Rattle.std.specs.List.{range_with_len}
-use Rattle.std.proofs.lemmas.List.{append-nil}
+use Rattle.std.{specs.{Prelude.{IfOk, IfSome}, List.{range_with_len}}, proofs.lemmas.List.{append-nil}}
 use Rattle.fm_base_bytes.specs.Words.{byte_at}
-use Rattle.fm_base.specs.declared.arena_id.ArenaId.{ArenaId}
-use Rattle.fm_base.specs.Arenas.{Arena, arena_of}
+use Rattle.fm_base.specs.{declared.arena_id.ArenaId.{ArenaId}, Arenas.{Arena, arena_of}}
 use Rattle.fm_io.specs.Files.{Contents}
 use Rattle.fm_records_query.specs.Plan.{Plan}
-use Rattle.fm_records.specs.declared.found.Found.{Found}
-use Rattle.fm_records.specs.Answers.{answer}
+use Rattle.fm_records.specs.{declared.found.Found.{Found}, Answers.{answer}}
 use Rattle.fm_rule_calls.specs.Told.{view_of_pass}
 use Rattle.fm_rule_facts.specs.Views.{View, IsKnown, limit_of, state_in}
 use Rattle.fm_rule.specs.declared.pool.Pool.{Pool}
 use Rattle.fm_segment.specs.Region.{Region}
 use Rattle.fm_words.specs.declared.shape.Shape.{Shape}
-use Rattle.fm_top_load.specs.declared.chunk.Chunk.{Chunk}
-use Rattle.fm_top_load.specs.declared.chunk.Part.{Part}
-use Rattle.fm_top_load.specs.declared.load_fault.LoadFault.{LoadFault}
-use Rattle.fm_top_load.specs.Held.{IsHeld}
-use Rattle.fm_top_pooled.specs.Shown.{AsksWord}
-use Rattle.fm_top_pooled.specs.Stocked.{IsStockedOf, bytes_in_pool}
-use Rattle.fm_top_pooled.proofs.Shows.{pooled_is}
-use Rattle.fm_top_stream.specs.Ahead.{AsksAhead, CanAskBeside, CanPutAs}
-use Rattle.fm_top_stream.specs.Gone.{AnswersAhead, CanAnswer}
-use Rattle.fm_top_stream.specs.declared.ahead.Ahead.{Ahead}
-use Rattle.fm_top_stream.specs.declared.placed.Placed.{Placed}
-use Rattle.fm_top_stream.specs.declared.putting.Putting.{Putting}
-use Rattle.fm_top_stream.specs.Steps.{Answers, AnswersBeside, AnswersOn, Gives, Opens}
-use Rattle.fm_top_stream.proofs.Going.{goes_then}
-use Rattle.fm_top_stream.proofs.Runs.{ends_here}
+use Rattle.fm_top_load.specs.{declared.{chunk.{Chunk.{Chunk}, Part.{Part}}, load_fault.LoadFault.{LoadFault}}, Held.{IsHeld}}
+use Rattle.fm_top_pooled.{specs.{Shown.{AsksWord}, Stocked.{IsStockedOf, bytes_in_pool}}, proofs.Shows.{pooled_is}}
+use Rattle.fm_top_stream.specs.{Ahead.{AsksAhead, CanAskBeside, CanPutAs}, Gone.{AnswersAhead, CanAnswer}, declared.ahead.Ahead.{Ahead}}
+use Rattle.fm_top_stream.specs.{declared.{placed.Placed.{Placed}, putting.Putting.{Putting}}, Steps.{Answers, AnswersBeside, AnswersOn, Gives, Opens}}
+use Rattle.fm_top_stream.proofs.{Going.{goes_then}, Runs.{ends_here}}
 
 module _ {part : Part} {told : Option Contents} {threads : ℕ} {p : Plan} {pool : Pool} {v : View} {s : Region} {buffer : List ℕ} {first : Chunk}
     (can : CanAnswer part told threads p pool v s buffer first) where

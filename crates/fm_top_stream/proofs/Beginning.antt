@@ -1,19 +1,13 @@
 -- The first chunk stands in an arena.
 use Rattle.std.proofs.Common.{◌≡◌, ℕ, [], ◌∷◌, ◌≢◌, length, Option, ap, sym, ◌∙◌, subst, arith}
-use Rattle.fm_base.specs.declared.arena_id.ArenaId.{ArenaId}
-use Rattle.fm_base.specs.Arenas.{arena_of}
+use Rattle.fm_base.specs.{declared.arena_id.ArenaId.{ArenaId}, Arenas.{arena_of}}
 use Rattle.fm_io.specs.Files.{Contents}
 use Rattle.fm_records_query.specs.Plan.{Plan}
 use Rattle.fm_rule_facts.specs.Views.{View, IsKnown, state_in}
 use Rattle.fm_rule.specs.declared.pool.Pool.{Pool}
-use Rattle.fm_top_load.specs.declared.chunk.Chunk.{Chunk}
-use Rattle.fm_top_load.specs.declared.chunk.Part.{Part}
-use Rattle.fm_top_load.specs.Reading.{piece_limit}
-use Rattle.fm_top_stream.specs.Gone.{CanBegin, GoneSoFar, HasGone, HasNext}
-use Rattle.fm_top_stream.specs.declared.under_way.UnderWay.{UnderWay}
-use Rattle.fm_top_stream.specs.Steps.{Fills, Gives, Opens, StandsIn}
-use Rattle.fm_top_stream.proofs.Going.{goes_then}
-use Rattle.fm_top_stream.proofs.GoesOn.{gone_behind, gone_later}
+use Rattle.fm_top_load.specs.{declared.chunk.{Chunk.{Chunk}, Part.{Part}}, Reading.{piece_limit}}
+use Rattle.fm_top_stream.specs.{Gone.{CanBegin, GoneSoFar, HasGone, HasNext}, declared.under_way.UnderWay.{UnderWay}, Steps.{Fills, Gives, Opens, StandsIn}}
+use Rattle.fm_top_stream.proofs.{Going.{goes_then}, GoesOn.{gone_behind, gone_later}}
 
 pub begins : {part : Part} {told : Option Contents} {threads : ℕ} {p : Plan} {pool : Pool} {g h : UnderWay} {first : Chunk} {u w q : View} {a : ArenaId} {chunk : Chunk}
     → CanBegin part told threads p pool g first → Opens pool g.pass u a → Gives pool u w a part.most → Fills part told pool w q a chunk

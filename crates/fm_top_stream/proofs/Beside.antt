@@ -1,11 +1,7 @@
 -- What a crew answered over a segment, and what its drawer put beside that.
 use Rattle.std.proofs.Common.{◌≡◌, ◌≢◌, ℕ, ◌+◌, ◌≤◌, List, length, Option, Some, None, Result, Ok, Err, refl, ap, sym, ◌∙◌, subst}
-use Rattle.std.specs.Prelude.{IfErr, IfOk, IfSome}
-use Rattle.std.specs.Result.{result_err}
-use Rattle.fm_base.specs.declared.arena_id.ArenaId.{ArenaId}
-use Rattle.fm_base.specs.declared.caller.Caller.{Caller}
-use Rattle.fm_base.specs.declared.refusal.Refusal.{Refusal}
-use Rattle.fm_base.specs.Calls.{Entry}
+use Rattle.std.specs.{Prelude.{IfErr, IfOk, IfSome}, Result.{result_err}}
+use Rattle.fm_base.specs.{declared.{arena_id.ArenaId.{ArenaId}, caller.Caller.{Caller}, refusal.Refusal.{Refusal}}, Calls.{Entry}}
 use Rattle.fm_gate.specs.Needs.{IsOutside}
 use Rattle.fm_io.specs.View.{FilesView}
 use Rattle.fm_records_query.specs.Plan.{Plan}
@@ -14,23 +10,12 @@ use Rattle.fm_rule_facts.specs.Views.{View, limit_of}
 use Rattle.fm_rule.specs.declared.pool.Pool.{Pool}
 use Rattle.fm_segment.specs.Region.{Region}
 use Rattle.fm_workers.specs.Beside.{AskedBeside}
-use Rattle.fm_top_load.specs.declared.chunk.Chunk.{Chunk}
-use Rattle.fm_top_load.specs.declared.load_fault.LoadFault.{LoadFault}
-use Rattle.fm_top_load.specs.declared.load_fault.LoadFault.TheVariants.{Memory}
-use Rattle.fm_top_load.specs.declared.put_fault.PutFault.{PutFault}
-use Rattle.fm_top_load.specs.declared.put_fault.PutFault.TheVariants.{Refused}
-use Rattle.fm_top_load.specs.Putting.{DoesPutPart, StopsPutting, load_fault_of}
-use Rattle.fm_top_load.specs.Reading.{GoesBy, ReadsFurther}
-use Rattle.fm_top_load.specs.Whole.{TellsLoad}
-use Rattle.fm_top_load.proofs.Telling.{read_quietly, tells_memory}
-use Rattle.fm_top_stream.specs.declared.ahead.Ahead.{Ahead}
-use Rattle.fm_top_stream.specs.declared.placed.Placed.{Placed}
-use Rattle.fm_top_stream.specs.declared.putting.Putting.{Putting}
-use Rattle.fm_top_stream.specs.Ahead.{AsksAhead, IsBoth, IsFollowed, IsNeither, PutsAhead, WasLetIn}
-use Rattle.fm_top_stream.specs.Steps.{AnswersBeside}
-use Rattle.fm_top_stream.proofs.Chunking.{further_says}
-use Rattle.fm_top_stream.proofs.Refusing.{never_refused}
-use Rattle.fm_top_stream.proofs.Rounds.{AwaitsBeside, answered_beside}
+use Rattle.fm_top_load.specs.declared.{chunk.Chunk.{Chunk}, load_fault.LoadFault.{LoadFault, TheVariants.{Memory}}, put_fault.PutFault.{PutFault}}
+use Rattle.fm_top_load.specs.{declared.put_fault.PutFault.TheVariants.{Refused}, Putting.{DoesPutPart, StopsPutting, load_fault_of}}
+use Rattle.fm_top_load.{specs.{Reading.{GoesBy, ReadsFurther}, Whole.{TellsLoad}}, proofs.Telling.{read_quietly, tells_memory}}
+use Rattle.fm_top_stream.specs.declared.{ahead.Ahead.{Ahead}, placed.Placed.{Placed}, putting.Putting.{Putting}}
+use Rattle.fm_top_stream.{specs.{Ahead.{AsksAhead, IsBoth, IsFollowed, IsNeither, PutsAhead, WasLetIn}, Steps.{AnswersBeside}}, proofs.Chunking.{further_says}}
+use Rattle.fm_top_stream.proofs.{Refusing.{never_refused}, Rounds.{AwaitsBeside, answered_beside}}
 
 -- There is one answer.
 put_same : {old new : FilesView} {x y : Putting} {c : Caller} {own other : List Entry} (puts : PutsAhead old new x y c own) (h : PutsAhead old new x y c other)

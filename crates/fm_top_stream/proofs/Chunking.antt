@@ -1,14 +1,8 @@
 -- The reads of a stream, each behind those before.
 use Rattle.std.proofs.Common.{◌≡◌, ℕ, ◌+◌, List, false, Option, Some, None, refl, ◌∙◌}
-use Rattle.fm_io.specs.Reads.{Read, Next, ReadsFile, At}
-use Rattle.fm_io.specs.View.{FilesView, Leaves}
-use Rattle.fm_io.proofs.Left.{leaves_none, leaves_then}
-use Rattle.fm_top_load.specs.declared.load_fault.LoadFault.{LoadFault}
-use Rattle.fm_top_load.specs.declared.load_fault.LoadFault.TheVariants.{Memory}
-use Rattle.fm_top_load.specs.Reading.{GoesBy, ReadsFurther, piece_limit}
-use Rattle.fm_top_load.specs.Whole.{TellsLoad}
-use Rattle.fm_top_load.proofs.Following.{chunk_reads, reads_then}
-use Rattle.fm_top_load.proofs.Telling.{read_quietly, tells_memory, tells_then}
+use Rattle.fm_io.{specs.{Reads.{Read, Next, ReadsFile, At}, View.{FilesView, Leaves}}, proofs.Left.{leaves_none, leaves_then}}
+use Rattle.fm_top_load.specs.{declared.load_fault.LoadFault.{LoadFault, TheVariants.{Memory}}, Reading.{GoesBy, ReadsFurther, piece_limit}, Whole.{TellsLoad}}
+use Rattle.fm_top_load.proofs.{Following.{chunk_reads, reads_then}, Telling.{read_quietly, tells_memory, tells_then}}
 
 -- They were read on, and on.
 pub further_then : (limit : ℕ) {old mid new : Option (List Read)} {name : List ℕ} {Starts Goes Says : Next → Type 0} → ReadsFurther old mid name limit Starts Goes

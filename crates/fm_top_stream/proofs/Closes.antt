@@ -1,25 +1,16 @@
 -- A pass closes an arena that it alone uses, or waits.
 use Rattle.std.proofs.Common.{◌≡◌, ℕ, List, [], ◌∷◌, Ok, Err, refl, ap, sym, ◌∙◌, subst, inr}
-use Rattle.fm_base.specs.declared.arena_id.ArenaId.{ArenaId}
-use Rattle.fm_base.specs.declared.caller.Caller.{Caller}
-use Rattle.fm_base.specs.declared.refusal.Refusal.{Refusal}
+use Rattle.fm_base.specs.{declared.{arena_id.ArenaId.{ArenaId}, caller.Caller.{Caller}, refusal.Refusal.{Refusal}}, Arenas.{Arena, State, arena_of, changed}}
+use Rattle.fm_base.specs.{Calls.{End, Entry, Fine, Shut, entry_of}, Does.{DidClose, DoesClose}, Histories.{state_after}, Machine.{closing, ended}}
+use Rattle.fm_base.{specs.View.{but_loans}, proofs.Lookup.{changed_twice, lookup_changed}}
 use Rattle.fm_base.specs.declared.refusal.Refusal.TheVariants as refusal
-use Rattle.fm_base.specs.Arenas.{Arena, State, arena_of, changed}
-use Rattle.fm_base.specs.Calls.{End, Entry, Fine, Shut, entry_of}
-use Rattle.fm_base.specs.Does.{DidClose, DoesClose}
-use Rattle.fm_base.specs.Histories.{state_after}
-use Rattle.fm_base.specs.Machine.{closing, ended}
-use Rattle.fm_base.specs.View.{but_loans}
-use Rattle.fm_base.proofs.Lookup.{changed_twice, lookup_changed}
 use Rattle.fm_close.specs.Learnt.{AfterClose}
-use Rattle.fm_rule_calls.specs.Told.{view_of_pass}
-use Rattle.fm_rule_calls.proofs.Telling.{did_of}
+use Rattle.fm_rule_calls.{specs.Told.{view_of_pass}, proofs.Telling.{did_of}}
 use Rattle.fm_rule_facts.specs.Views.{View, IsKnown, limit_of, state_in}
 use Rattle.fm_rule.specs.declared.pool.Pool.{Pool}
 use Rattle.fm_top_load.proofs.Holding.{did_only, only_changed}
 use Rattle.fm_top_pooled.proofs.Tidying.{AllChangeNone}
-use Rattle.fm_top_stream.specs.Steps.{CanClose, Closes, GoesOn}
-use Rattle.fm_top_stream.proofs.Going.{goes_here, goes_then, kept_goes}
+use Rattle.fm_top_stream.{specs.Steps.{CanClose, Closes, GoesOn}, proofs.Going.{goes_here, goes_then, kept_goes}}
 
 -- what a close that is refused leaves
 record LeavesAll (es : List Entry) : Type 0 where

@@ -1,7 +1,6 @@
 -- Runs of bytes as long as chunks are the chunks of what they are together.
 use Rattle.std.proofs.Common.{◌≡◌, ℕ, ◌+◌, ◌-◌, ◌*◌, ◌/◌, ◌<◌, List, [], ◌∷◌, ◌++◌, length, take, drop, refl, ap, ◌∙◌, arith, length-append}
-use Rattle.std.proofs.lemmas.Nat.{div-mul-add}
-use Rattle.std.proofs.lemmas.List.{append-nil, take_all, take_at, drop_at}
+use Rattle.std.proofs.lemmas.{Nat.{div-mul-add}, List.{append-nil, take_all, take_at, drop_at}}
 use Rattle.fm_records.specs.Records.{pieces}
 use Rattle.fm_top_stream.specs.Chunks.{AreCut, all_bytes, cut_in}
 

@@ -1,17 +1,11 @@
 -- What holds of each call by which bytes are put into an arena: each spares the bytes of every other arena, and none closes one.
 use Rattle.std.proofs.Common.{◌≡◌, ◌≢◌, ℕ, ◌/◌, ◌==◌, Bool, true, false, suc, Result, Ok, List, [], ◌∷◌, length, inl, inr, sym, subst}
-use Rattle.std.specs.Prelude.{MatchBool, ⊤}
-use Rattle.std.specs.List.{AllByRecursion}
-use Rattle.fm_base.specs.declared.arena_id.ArenaId.{ArenaId}
-use Rattle.fm_base.specs.declared.caller.Caller.{Caller}
-use Rattle.fm_base.specs.declared.refusal.Refusal.{Refusal}
-use Rattle.fm_base.specs.Calls.{Call, Enter, Entry, Fine, Found, Leave, Read, SwapIf, Write, entry_of}
-use Rattle.fm_base.specs.Untouched.{AllSpare, LeavesOpen, Spares}
+use Rattle.std.specs.{Prelude.{MatchBool, ⊤}, List.{AllByRecursion}}
+use Rattle.fm_base.specs.declared.{arena_id.ArenaId.{ArenaId}, caller.Caller.{Caller}, refusal.Refusal.{Refusal}}
+use Rattle.fm_base.specs.{Calls.{Call, Enter, Entry, Fine, Found, Leave, Read, SwapIf, Write, entry_of}, Untouched.{AllSpare, LeavesOpen, Spares}}
 use Rattle.fm_base.specs.Visits.{Acts, Tries, entries_of, hit, looked, missed, visit, writes}
 use Rattle.fm_base_lists.proofs.Each.{all_both}
-use Rattle.fm_segment_access.specs.Pieces.{PutsBytes, PutsPiece, ReadsPiece, narrow, whole}
-use Rattle.fm_segment_access.specs.Ranges.{DoesPutBy, Putting}
-use Rattle.fm_segment_access.specs.Runs.{DoesPutAll, PutsMore}
+use Rattle.fm_segment_access.specs.{Pieces.{PutsBytes, PutsPiece, ReadsPiece, narrow, whole}, Ranges.{DoesPutBy, Putting}, Runs.{DoesPutAll, PutsMore}}
 use Rattle.fm_segment_access.proofs.Keeping.{IsKept, put_kept}
 use Rattle.fm_top_load.specs.Putting.{ArePut, none_put, put_more}
 

@@ -1,28 +1,16 @@
 -- What a stream's finished pool shows.
-use Rattle.std.proofs.Common.{◌≡◌, ℕ, ◌/◌, ◌%◌, ◌<◌, ◌≤◌, List, length, Option, ap, sym, ◌∙◌, subst, arith}
-use Rattle.std.specs.List.{AllZip}
-use Rattle.std.proofs.Math.Nat.{mul-mod_left}
+use Rattle.std.{proofs.{Common.{◌≡◌, ℕ, ◌/◌, ◌%◌, ◌<◌, ◌≤◌, List, length, Option, ap, sym, ◌∙◌, subst, arith}, Math.Nat.{mul-mod_left}}, specs.List.{AllZip}}
 use Rattle.std.proofs.lemmas.List.{append-nil}
-use Rattle.fm_base.specs.Arenas.{State}
-use Rattle.fm_base.specs.Calls.{Entry}
+use Rattle.fm_base.specs.{Arenas.{State}, Calls.{Entry}}
 use Rattle.fm_io.specs.Files.{Contents}
 use Rattle.fm_records_query.specs.Plan.{Plan}
-use Rattle.fm_records.specs.declared.found.Found.{Found}
-use Rattle.fm_records.proofs.Few.{few_answer}
+use Rattle.fm_records.{specs.declared.found.Found.{Found}, proofs.Few.{few_answer}}
 use Rattle.fm_rule_facts.specs.Views.{View, IsSound, limit_of, state_in}
-use Rattle.fm_rule.specs.Finishing.{FinishedView, Finishes}
-use Rattle.fm_rule.specs.GivenBytes.{state_of}
-use Rattle.fm_rule.specs.Views.{first_pass, numbers_of}
-use Rattle.fm_rule.specs.declared.pool.Pool.{Pool}
+use Rattle.fm_rule.specs.{Finishing.{FinishedView, Finishes}, GivenBytes.{state_of}, Views.{first_pass, numbers_of}, declared.pool.Pool.{Pool}}
 use Rattle.fm_top_load.specs.Held.{names_in}
-use Rattle.fm_top_pooled.proofs.Opening.{begun}
-use Rattle.fm_top_pooled.proofs.Shows.{keeps_history, state_kept}
-use Rattle.fm_top_stream.specs.Chunks.{all_bytes, chunk_size, cut_in, most_chunk, stream_file_limit}
-use Rattle.fm_top_stream.specs.Gone.{CanGoThrough, GoneThrough}
-use Rattle.fm_top_stream.specs.Shapes.{CanStream, stream_shape}
-use Rattle.fm_top_stream.specs.Shown.{ShowsChunk, Streams}
-use Rattle.fm_top_stream.proofs.Cutting.{cuts_again}
-use Rattle.fm_top_stream.proofs.Going.{alone_still}
+use Rattle.fm_top_pooled.proofs.{Opening.{begun}, Shows.{keeps_history, state_kept}}
+use Rattle.fm_top_stream.specs.{Chunks.{all_bytes, chunk_size, cut_in, most_chunk, stream_file_limit}, Gone.{CanGoThrough, GoneThrough}}
+use Rattle.fm_top_stream.{specs.{Shapes.{CanStream, stream_shape}, Shown.{ShowsChunk, Streams}}, proofs.{Cutting.{cuts_again}, Going.{alone_still}}}
 
 -- A chunk has a byte at least.
 pub some_in_chunk : (size : ℕ) → 0 < size → size ≤ most_chunk → 0 < chunk_size size

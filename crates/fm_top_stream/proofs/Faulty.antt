@@ -1,12 +1,8 @@
 -- What a stream tells of the files where no read told of a fault.
 use Rattle.std.proofs.Common.{◌≡◌, ℕ, List, Option, Some, None}
-use Rattle.fm_io.specs.View.{FilesView, Leaves}
-use Rattle.fm_io.proofs.Left.{leaves_none, leaves_then}
+use Rattle.fm_io.{specs.View.{FilesView, Leaves}, proofs.Left.{leaves_none, leaves_then}}
 use Rattle.fm_records_query.specs.Plan.{Plan}
-use Rattle.fm_top_stream.specs.Chunks.{stream_file_limit}
-use Rattle.fm_top_stream.specs.Faults.{TellsStream}
-use Rattle.fm_top_stream.specs.Gone.{IsRagged}
-use Rattle.fm_top_stream.specs.declared.stream_fault.StreamFault.{StreamFault}
+use Rattle.fm_top_stream.specs.{Chunks.{stream_file_limit}, Faults.{TellsStream}, Gone.{IsRagged}, declared.stream_fault.StreamFault.{StreamFault}}
 use Rattle.fm_top_stream.specs.declared.stream_fault.StreamFault.TheVariants.{Missing, Read, Ragged, TooLong, Memory}
 
 module _ {old new : FilesView} {name : List ℕ} {p : Plan} (left : Leaves ⊥ ⊥ old new) where

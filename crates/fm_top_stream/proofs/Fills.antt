@@ -1,24 +1,15 @@
 -- A chunk that is put into the arena of a pass that is known to be whole.
 use Rattle.std.proofs.Common.{◌≡◌, ◌≤◌, List, ◌++◌, Option, ap, sym, ◌∙◌, subst, inr}
-use Rattle.fm_base.specs.declared.arena_id.ArenaId.{ArenaId}
-use Rattle.fm_base.specs.Calls.{Entry}
-use Rattle.fm_base.specs.View.{given_in}
+use Rattle.fm_base.specs.{declared.arena_id.ArenaId.{ArenaId}, Calls.{Entry}, View.{given_in}}
 use Rattle.fm_gate.specs.Needs.{IsOutside}
 use Rattle.fm_io.specs.Files.{Contents}
 use Rattle.fm_rule_calls.specs.Told.{view_of_pass}
 use Rattle.fm_rule_facts.specs.Views.{View, IsSound, state_in}
-use Rattle.fm_rule.specs.declared.pool.Pool.{Pool}
-use Rattle.fm_rule.specs.Passes.{IsOf}
+use Rattle.fm_rule.specs.{declared.pool.Pool.{Pool}, Passes.{IsOf}}
 use Rattle.fm_segment_access.specs.Alone.{bytes_of_arena}
-use Rattle.fm_top_load.specs.declared.chunk.Chunk.{Chunk}
-use Rattle.fm_top_load.specs.Held.{IsHeld}
-use Rattle.fm_top_load.specs.declared.chunk.Part.{Part}
-use Rattle.fm_top_load.specs.Reached.{HasChunk, PutsWithin}
-use Rattle.fm_top_pooled.specs.Stocked.{IsAlone}
-use Rattle.fm_top_pooled.proofs.Filed.{puts_stay}
-use Rattle.fm_top_pooled.proofs.Filling.{only_on, stay_lone}
-use Rattle.fm_top_stream.specs.Steps.{Fills}
-use Rattle.fm_top_stream.proofs.Going.{alone_still}
+use Rattle.fm_top_load.specs.{declared.chunk.{Chunk.{Chunk}, Part.{Part}}, Held.{IsHeld}, Reached.{HasChunk, PutsWithin}}
+use Rattle.fm_top_pooled.{specs.Stocked.{IsAlone}, proofs.{Filed.{puts_stay}, Filling.{only_on, stay_lone}}}
+use Rattle.fm_top_stream.{specs.Steps.{Fills}, proofs.Going.{alone_still}}
 
 module _ {part : Part} {told : Option Contents} {pool : Pool} {p m q r : View} {a : ArenaId} {chunk : Chunk} where
   -- Between the pass and its memory.

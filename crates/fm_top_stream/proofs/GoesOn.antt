@@ -1,20 +1,10 @@
 -- A stream goes on by one chunk, and ends.
 use Rattle.std.proofs.Common.{◌≡◌, ◌≢◌, ℕ, ◌+◌, ◌%◌, ◌^◌, ◌<◌, ◌≤◌, Bool, true, false, List, [], ◌∷◌, ◌++◌, length, map, take, Option, Some, None, refl, ap, sym, ◌∙◌, subst, inr, ⊎_elim, arith, append_assoc, length-append}
-use Rattle.std.specs.Prelude.{IfSome}
-use Rattle.std.specs.List.{AllByRecursion, range_with_len}
-use Rattle.std.proofs.Math.Nat.{zero-mod}
-use Rattle.std.proofs.lemmas.List.{length-take-le}
-use Rattle.fm_base_bytes.specs.Words.{byte_at}
-use Rattle.fm_base_lists.specs.Among.{IsAmong}
-use Rattle.fm_base_lists.proofs.Among.{among_either, among_left}
-use Rattle.fm_base_lists.proofs.Each.{all_both, all_weaker}
-use Rattle.fm_base.specs.declared.arena_id.ArenaId.{ArenaId}
-use Rattle.fm_base.specs.declared.kind.Kind.TheVariants.{Confined, Shared}
-use Rattle.fm_base.specs.Arenas.{Arena, arena_of}
-use Rattle.fm_base.specs.Machine.{words_within}
-use Rattle.fm_base_bytes.specs.Words.{bytes_in}
-use Rattle.fm_base.specs.Calls.{Entry}
-use Rattle.fm_base.specs.Histories.{state_after}
+use Rattle.std.{specs.{Prelude.{IfSome}, List.{AllByRecursion, range_with_len}}, proofs.{Math.Nat.{zero-mod}, lemmas.List.{length-take-le}}}
+use Rattle.fm_base_bytes.specs.Words.{byte_at, bytes_in}
+use Rattle.fm_base_lists.{specs.Among.{IsAmong}, proofs.{Among.{among_either, among_left}, Each.{all_both, all_weaker}}}
+use Rattle.fm_base.specs.{declared.{arena_id.ArenaId.{ArenaId}, kind.Kind.TheVariants.{Confined, Shared}}, Arenas.{Arena, arena_of}, Machine.{words_within}}
+use Rattle.fm_base.specs.{Calls.{Entry}, Histories.{state_after}}
 use Rattle.fm_io.specs.Files.{Contents, AreBytesFrom, EndsBefore}
 use Rattle.fm_rule_calls.specs.Told.{view_of_pass}
 use Rattle.fm_rule_facts.specs.Views.{View, IsKnown, limit_of, state_in}
@@ -22,30 +12,15 @@ use Rattle.fm_rule.specs.declared.pool.Pool.{Pool}
 use Rattle.fm_segment_access.specs.Alone.{bytes_of_arena}
 use Rattle.fm_segment.specs.Region.{Region, region_of}
 use Rattle.fm_records_query.specs.Plan.{Plan}
-use Rattle.fm_records.specs.declared.found.Found.{Found}
-use Rattle.fm_records.specs.Alone.{bytes_at_places}
-use Rattle.fm_records.specs.Answers.{answer}
-use Rattle.fm_records.specs.Few.{AreFew}
-use Rattle.fm_records.specs.Joined.{CanJoin, joined}
-use Rattle.fm_records.proofs.AnsweringBytes.{places_have}
-use Rattle.fm_records.proofs.Few.{few_join}
-use Rattle.fm_records.proofs.Joining.{answer-append}
+use Rattle.fm_records.specs.{declared.found.Found.{Found}, Alone.{bytes_at_places}, Answers.{answer}, Few.{AreFew}, Joined.{CanJoin, joined}}
+use Rattle.fm_records.proofs.{AnsweringBytes.{places_have}, Few.{few_join}, Joining.{answer-append}}
 use Rattle.fm_words.specs.declared.shape.Shape.{Shape}
-use Rattle.fm_top_load.specs.declared.chunk.Part.{Part}
-use Rattle.fm_top_load.specs.Held.{IsHeld, OnlyIn, names_in}
-use Rattle.fm_top_load.specs.Reading.{piece_limit}
-use Rattle.fm_top_load.specs.Whole.{IsCut, IsWhole}
+use Rattle.fm_top_load.specs.{declared.chunk.Part.{Part}, Held.{IsHeld, OnlyIn, names_in}, Reading.{piece_limit}, Whole.{IsCut, IsWhole}}
 use Rattle.fm_top_load.proofs.Chunks.{first_to_last}
-use Rattle.fm_top_pooled.specs.Shown.{AsksWord, IsReadByOther}
-use Rattle.fm_top_pooled.specs.Stocked.{IsAlone, IsStockedOf, bytes_in_pool}
-use Rattle.fm_top_pooled.proofs.Filling.{held_room}
+use Rattle.fm_top_pooled.{specs.{Shown.{AsksWord, IsReadByOther}, Stocked.{IsAlone, IsStockedOf, bytes_in_pool}}, proofs.Filling.{held_room}}
 use Rattle.fm_top_pooled.proofs.Shows.{pooled_is, read_in}
-use Rattle.fm_top_stream.specs.Chunks.{all_bytes}
-use Rattle.fm_top_stream.specs.Gone.{CanAsk, CanTakeChunk, GoesByChunk, GoesThrough, GoneSoFar, GoneThrough, HasGone, HasNext}
-use Rattle.fm_top_stream.specs.declared.under_way.UnderWay.{UnderWay}
-use Rattle.fm_top_stream.specs.declared.gone.Gone.{Gone}
-use Rattle.fm_top_stream.specs.declared.placed.Placed.{Placed}
-use Rattle.fm_top_stream.specs.Shown.{ShowsChunk}
+use Rattle.fm_top_stream.specs.{Chunks.{all_bytes}, Gone.{CanAsk, CanTakeChunk, GoesByChunk, GoesThrough, GoneSoFar, GoneThrough, HasGone, HasNext}}
+use Rattle.fm_top_stream.specs.{declared.{under_way.UnderWay.{UnderWay}, gone.Gone.{Gone}, placed.Placed.{Placed}}, Shown.{ShowsChunk}}
 use Rattle.fm_top_stream.specs.Steps.{AnswersOn, CanClose, Closes, GoesOn, StandsIn, arenas_of}
 use Rattle.fm_top_stream.proofs.Runs.{all_more, count_more, cut_more, cut_whole, even_all, even_sum, first_more, is_ragged, whole_file, whole_more}
 use Rattle.fm_top_stream.proofs.Standing.{all_shown, all_zip_more, named_known}

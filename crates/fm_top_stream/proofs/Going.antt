@@ -1,16 +1,11 @@
 -- A pass that is known to be whole goes on by itself.
-use Rattle.std.proofs.Common.{List, [], ◌++◌, refl, ap, sym, ◌∙◌, append_assoc}
-use Rattle.std.proofs.lemmas.List.{append-nil}
-use Rattle.fm_base.specs.Calls.{Entry}
-use Rattle.fm_base.specs.Finds.{Gathered}
-use Rattle.fm_base.specs.View.{but_loans}
+use Rattle.std.proofs.{Common.{List, [], ◌++◌, refl, ap, sym, ◌∙◌, append_assoc}, lemmas.List.{append-nil}}
+use Rattle.fm_base.specs.{Calls.{Entry}, Finds.{Gathered}, View.{but_loans}}
 use Rattle.fm_gate.specs.Needs.{IsOutside}
 use Rattle.fm_rule_calls.specs.Kept.{Kept}
 use Rattle.fm_rule_facts.specs.Views.{View}
 use Rattle.fm_rule.specs.declared.pool.Pool.{Pool}
-use Rattle.fm_top_pooled.specs.Stocked.{IsAlone}
-use Rattle.fm_top_pooled.proofs.Opening.{kept_alone}
-use Rattle.fm_top_pooled.proofs.Tidying.{AllChangeNone}
+use Rattle.fm_top_pooled.{specs.Stocked.{IsAlone}, proofs.{Opening.{kept_alone}, Tidying.{AllChangeNone}}}
 use Rattle.fm_top_stream.specs.Steps.{GoesOn}
 
 -- whatever it has gathered

@@ -1,14 +1,9 @@
 -- A crew that answers a query over a segment changes no arena's life nor words.
 use Rattle.std.proofs.Common.{◌≡◌, ◌≢◌, ℕ, ◌%◌, List, [], ◌∷◌, ◌++◌, Result, Ok, Err, refl, ap, sym, ◌∙◌, subst, ⊎_elim, arith}
-use Rattle.fm_base.specs.declared.arena_id.ArenaId.{ArenaId}
-use Rattle.fm_base.specs.declared.caller.Caller.{Caller}
-use Rattle.fm_base.specs.declared.refusal.Refusal.{Refusal}
-use Rattle.fm_base.specs.declared.refusal.Refusal.TheVariants.{Memory, NoPass}
+use Rattle.fm_base.specs.declared.{arena_id.ArenaId.{ArenaId}, caller.Caller.{Caller}, refusal.Refusal.{Refusal, TheVariants.{Memory, NoPass}}}
 use Rattle.fm_base.specs.Arenas.{Arena, State, arena_of, changed}
-use Rattle.fm_base.specs.Calls.{Call, Closed, Enter, Entry, Fine, Found, Given, Held, Leave, NoRoom, Read, Reply, TooManyHolds}
-use Rattle.fm_base.specs.Histories.{state_after}
-use Rattle.fm_base.specs.Machine.{after, state_by, entered, left}
-use Rattle.fm_base.proofs.Lookup.{KeepsName, changed_has, changed_lookup}
+use Rattle.fm_base.specs.{Calls.{Call, Closed, Enter, Entry, Fine, Found, Given, Held, Leave, NoRoom, Read, Reply, TooManyHolds}, Histories.{state_after}}
+use Rattle.fm_base.{specs.Machine.{after, state_by, entered, left}, proofs.Lookup.{KeepsName, changed_has, changed_lookup}}
 use Rattle.fm_base_lists.proofs.Among.{among_right}
 use Rattle.fm_gate.specs.Needs.{IsOutside}
 use Rattle.fm_rule_calls.proofs.Going.{reached_by}
@@ -16,16 +11,12 @@ use Rattle.fm_rule_facts.specs.Views.{View, limit_of, state_in}
 use Rattle.fm_rule.specs.declared.pool.Pool.{Pool}
 use Rattle.fm_segment.specs.Region.{Region}
 use Rattle.fm_records_query.specs.Plan.{Plan}
-use Rattle.fm_records.specs.declared.found.Found.{Found as Answer}
-use Rattle.fm_records.specs.Answers.{answer}
+use Rattle.fm_records.specs.{declared.found.Found.{Found as Answer}, Answers.{answer}}
 use Rattle.fm_top_load.proofs.Holding.{changed_names}
-use Rattle.fm_top_pooled.specs.Shown.{AsksWord, IsReadByOther}
-use Rattle.fm_top_pooled.specs.Stocked.{IsAlone, IsStockedOf, bytes_in_pool}
-use Rattle.fm_top_pooled.proofs.Crews.{AllTouch, Touches, bytes_stay, stocked_still}
-use Rattle.fm_top_pooled.proofs.Shows.{NoneMayAdd, answers, read_in, touch, wants, was_asked}
+use Rattle.fm_top_pooled.specs.{Shown.{AsksWord, IsReadByOther}, Stocked.{IsAlone, IsStockedOf, bytes_in_pool}}
+use Rattle.fm_top_pooled.proofs.{Crews.{AllTouch, Touches, bytes_stay, stocked_still}, Shows.{NoneMayAdd, answers, read_in, touch, wants, was_asked}}
 use Rattle.fm_workers.specs.Query.{QueriedWith}
-use Rattle.fm_top_stream.specs.Steps.{Answers, GoesOn, Stand}
-use Rattle.fm_top_stream.proofs.Going.{goes_here, goes_then}
+use Rattle.fm_top_stream.{specs.Steps.{Answers, GoesOn, Stand}, proofs.Going.{goes_here, goes_then}}
 
 -- ---- the arenas
 

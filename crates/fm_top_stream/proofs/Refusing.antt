@@ -1,31 +1,21 @@
 -- What is put beside a crew is never refused: nobody shuts the arena.
 use Rattle.std.proofs.Common.{◌≡◌, ℕ, ◌==◌, Bool, true, false, List, [], ◌++◌, length, Result, Ok, Err, ap, sym, ◌∙◌, subst, append_assoc}
 use Rattle.std.specs.Prelude.{MatchBool}
-use Rattle.fm_base.specs.declared.arena_id.ArenaId.{ArenaId}
-use Rattle.fm_base.specs.declared.caller.Caller.{Caller}
-use Rattle.fm_base.specs.declared.refusal.Refusal.{Refusal}
-use Rattle.fm_base.specs.declared.refusal.Refusal.TheVariants.{Closed, WrongThread}
-use Rattle.fm_base.specs.Arenas.{MayUse}
-use Rattle.fm_base.specs.Calls.{Call, Enter, Entry, Leave, Read}
-use Rattle.fm_base.specs.Histories.{made_by}
-use Rattle.fm_base.specs.Untouched.{AllLeaveOpen, LeavesOpen}
-use Rattle.fm_base.specs.Visits.{Run, ends, goes_on, refused_visit}
-use Rattle.fm_base.proofs.Untouched.{alive}
+use Rattle.fm_base.specs.declared.{arena_id.ArenaId.{ArenaId}, caller.Caller.{Caller}, refusal.Refusal.{Refusal, TheVariants.{Closed, WrongThread}}}
+use Rattle.fm_base.specs.{Arenas.{MayUse}, Calls.{Call, Enter, Entry, Leave, Read}, Histories.{made_by}, Untouched.{AllLeaveOpen, LeavesOpen}}
+use Rattle.fm_base.{specs.Visits.{Run, ends, goes_on, refused_visit}, proofs.Untouched.{alive}}
 use Rattle.fm_base_lists.proofs.Each.{all_both, all_weaker}
 use Rattle.fm_records_query.specs.Plan.{Plan}
 use Rattle.fm_records.specs.declared.found.Found.{Found as Answer}
 use Rattle.fm_rule_facts.specs.Views.{View, limit_of, state_in}
 use Rattle.fm_rule.specs.declared.pool.Pool.{Pool}
 use Rattle.fm_segment.specs.Region.{Region}
-use Rattle.fm_segment_access.specs.Ranges.{DoesPutBy, EndsPutting, Putting, putting}
-use Rattle.fm_segment_access.specs.Runs.{DoesPutAll, PutsMore}
+use Rattle.fm_segment_access.specs.{Ranges.{DoesPutBy, EndsPutting, Putting, putting}, Runs.{DoesPutAll, PutsMore}}
 use Rattle.fm_top_load.specs.Putting.{StopsPutting}
-use Rattle.fm_top_pooled.proofs.Crews.{Touches, not_stopped}
-use Rattle.fm_top_pooled.proofs.Shows.{NoneMayAdd}
+use Rattle.fm_top_pooled.proofs.{Crews.{Touches, not_stopped}, Shows.{NoneMayAdd}}
 use Rattle.fm_workers.specs.Beside.{AskedBeside}
 use Rattle.fm_workers_crew.specs.Crew.{callers}
-use Rattle.fm_top_stream.proofs.Elsewhere.{IsOfPuts, open_by_puts, run_is, runs_are}
-use Rattle.fm_top_stream.proofs.Rounds.{AwaitsBeside, are_of, crew_each, of_all, reach}
+use Rattle.fm_top_stream.proofs.{Elsewhere.{IsOfPuts, open_by_puts, run_is, runs_are}, Rounds.{AwaitsBeside, are_of, crew_each, of_all, reach}}
 
 -- ---- how a run is refused
 

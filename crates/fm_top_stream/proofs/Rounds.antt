@@ -1,56 +1,32 @@
 -- A pass that draws a crew for the segment, and puts the next part of the file into another arena while the crew answers.
 use Rattle.std.proofs.Common.{◌≡◌, ◌≢◌, ℕ, ◌≤◌, Bool, true, false, List, [], ◌∷◌, ◌++◌, length, take, Option, Result, Ok, cond, refl, ap, sym, ◌∙◌, subst, inl, inr, ⊎_elim, arith, length-append}
-use Rattle.std.specs.Prelude.{◌⊎◌}
-use Rattle.std.specs.List.{AllByRecursion}
-use Rattle.fm_base_aside.specs.Aside.{IsLook, IsOwnOrLook, OthersLook, arena_for, state_for}
-use Rattle.fm_base_aside.proofs.Looks.{alone_for, arena_for_of, has_for}
-use Rattle.fm_base.specs.declared.arena_id.ArenaId.{ArenaId}
-use Rattle.fm_base.specs.declared.caller.Caller.{Caller}
-use Rattle.fm_base.specs.declared.refusal.Refusal.{Refusal}
-use Rattle.fm_base.specs.Arenas.{Alive, Arena, State, MayUse, are_one, arena_of, has_arena}
-use Rattle.fm_base.specs.Calls.{Call, Enter, Entry, Leave, Read}
-use Rattle.fm_base.specs.Histories.{made_by, state_after}
-use Rattle.fm_base.specs.Machine.{words_within}
-use Rattle.fm_base.specs.Untouched.{AllSpare, Spares}
-use Rattle.fm_base.specs.View.{given_in}
+use Rattle.std.specs.{Prelude.{◌⊎◌}, List.{AllByRecursion}}
+use Rattle.fm_base_aside.{specs.Aside.{IsLook, IsOwnOrLook, OthersLook, arena_for, state_for}, proofs.Looks.{alone_for, arena_for_of, has_for}}
+use Rattle.fm_base.specs.declared.{arena_id.ArenaId.{ArenaId}, caller.Caller.{Caller}, refusal.Refusal.{Refusal}}
+use Rattle.fm_base.specs.{Arenas.{Alive, Arena, State, MayUse, are_one, arena_of, has_arena}, Calls.{Call, Enter, Entry, Leave, Read}}
+use Rattle.fm_base.specs.{Histories.{made_by, state_after}, Machine.{words_within}, Untouched.{AllSpare, Spares}, View.{given_in}}
 use Rattle.fm_base.proofs.Names.{are_one-not, are_one-true}
 use Rattle.fm_base_bytes.specs.Words.{bytes_in}
-use Rattle.fm_base_lists.specs.Among.{IsAmong}
-use Rattle.fm_base_lists.proofs.Among.{among_right}
-use Rattle.fm_base_lists.proofs.Each.{all_weaker}
+use Rattle.fm_base_lists.{specs.Among.{IsAmong}, proofs.{Among.{among_right}, Each.{all_weaker}}}
 use Rattle.fm_gate.specs.Needs.{IsOutside}
 use Rattle.fm_io.specs.Files.{Contents}
 use Rattle.fm_records_query.specs.Plan.{Plan}
-use Rattle.fm_records.specs.declared.found.Found.{Found as Answer}
-use Rattle.fm_records.specs.Answers.{answer}
-use Rattle.fm_rule_calls.specs.Told.{view_of_pass}
-use Rattle.fm_rule_calls.proofs.Going.{Reached, reached_by}
+use Rattle.fm_records.specs.{declared.found.Found.{Found as Answer}, Answers.{answer}}
+use Rattle.fm_rule_calls.{specs.Told.{view_of_pass}, proofs.Going.{Reached, reached_by}}
 use Rattle.fm_rule_facts.specs.Views.{View, limit_of, state_in}
 use Rattle.fm_rule.specs.declared.pool.Pool.{Pool}
 use Rattle.fm_segment.specs.Region.{Region}
 use Rattle.fm_segment_access.specs.Alone.{bytes_of_arena}
-use Rattle.fm_segment_laws.proofs.Putting.{put_all_stays}
-use Rattle.fm_segment_laws.proofs.Staying.{ChangesBelow, StayBelow, stay_append, tidy_alone}
-use Rattle.fm_top_load.specs.declared.chunk.Chunk.{Chunk}
-use Rattle.fm_top_load.specs.declared.chunk.Part.{Part}
-use Rattle.fm_top_load.specs.Held.{IsHeld, names_in, words_at}
-use Rattle.fm_top_load.specs.Putting.{ArePut, PutsPart, none_put, put_more}
-use Rattle.fm_top_load.specs.Reached.{HasChunk}
-use Rattle.fm_top_load.specs.Whole.{IsCut}
-use Rattle.fm_top_load.proofs.Lone.{AreOwn, StandsAt, lone, puts_stand}
-use Rattle.fm_top_pooled.specs.Shown.{AreRead, AsksWord, IsReadByOther}
-use Rattle.fm_top_pooled.specs.Stocked.{IsAlone, IsStockedOf, bytes_in_pool}
-use Rattle.fm_top_pooled.proofs.Crews.{AllTouch, Touches, only_reads_touch, stay_below}
-use Rattle.fm_top_pooled.proofs.Shows.{NoneMayAdd, are_read, is_whole, pooled_is, read_in}
+use Rattle.fm_segment_laws.proofs.{Putting.{put_all_stays}, Staying.{ChangesBelow, StayBelow, stay_append, tidy_alone}}
+use Rattle.fm_top_load.specs.{declared.chunk.{Chunk.{Chunk}, Part.{Part}}, Held.{IsHeld, names_in, words_at}, Putting.{ArePut, PutsPart, none_put, put_more}}
+use Rattle.fm_top_load.{specs.{Reached.{HasChunk}, Whole.{IsCut}}, proofs.Lone.{AreOwn, StandsAt, lone, puts_stand}}
+use Rattle.fm_top_pooled.specs.{Shown.{AreRead, AsksWord, IsReadByOther}, Stocked.{IsAlone, IsStockedOf, bytes_in_pool}}
+use Rattle.fm_top_pooled.proofs.{Crews.{AllTouch, Touches, only_reads_touch, stay_below}, Shows.{NoneMayAdd, are_read, is_whole, pooled_is, read_in}}
 use Rattle.fm_top_pooled.proofs.Tidying.{tidy_on}
-use Rattle.fm_workers.specs.Beside.{AskedBeside}
-use Rattle.fm_workers.specs.Query.{IsAnswer, NobodyElseWrites, OnlyReads, QueriedWith}
-use Rattle.fm_workers.proofs.Sparing.{by_either}
+use Rattle.fm_workers.{specs.{Beside.{AskedBeside}, Query.{IsAnswer, NobodyElseWrites, OnlyReads, QueriedWith}}, proofs.Sparing.{by_either}}
 use Rattle.fm_workers_crew.specs.Crew.{IsFresh, callers}
 use Rattle.fm_words.specs.declared.shape.Shape.{Shape}
-use Rattle.fm_top_stream.specs.Steps.{AnswersBeside, GoesOn, Stand, StandBut}
-use Rattle.fm_top_stream.proofs.Elsewhere.{put_elsewhere}
-use Rattle.fm_top_stream.proofs.Going.{goes_then}
+use Rattle.fm_top_stream.{specs.Steps.{AnswersBeside, GoesOn, Stand, StandBut}, proofs.{Elsewhere.{put_elsewhere}, Going.{goes_then}}}
 use Rattle.fm_top_stream.proofs.Reading.{Awaits, awaits_more}
 
 -- ---- whose entries they are

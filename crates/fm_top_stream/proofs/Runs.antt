@@ -1,19 +1,11 @@
 -- Runs of bytes that follow on one another in a file.
 use Rattle.std.proofs.Common.{◌≡◌, ℕ, ◌+◌, ◌*◌, ◌/◌, ◌%◌, ◌<◌, ◌≤◌, Bool, true, false, List, [], ◌∷◌, ◌++◌, length, take, Option, refl, ap, sym, ◌∙◌, subst, arith, append_assoc, length-append}
-use Rattle.std.specs.List.{AllByRecursion}
-use Rattle.std.proofs.Math.Nat.{mul-add-mod_self_right, mul-mod_left}
-use Rattle.std.proofs.lemmas.List.{append-nil}
-use Rattle.std.proofs.lemmas.Nat.{div-add-mod'}
-use Rattle.fm_io.specs.Files.{Contents, AreBytesFrom, EndsBefore}
-use Rattle.fm_io.proofs.Filled.{AreBytesFrom-append}
+use Rattle.std.{specs.List.{AllByRecursion}, proofs.{Math.Nat.{mul-add-mod_self_right, mul-mod_left}, lemmas.{List.{append-nil}, Nat.{div-add-mod'}}}}
+use Rattle.fm_io.{specs.Files.{Contents, AreBytesFrom, EndsBefore}, proofs.Filled.{AreBytesFrom-append}}
 use Rattle.fm_records_query.specs.Plan.{Plan}
-use Rattle.fm_top_load.specs.declared.chunk.Chunk.{Chunk}
-use Rattle.fm_top_load.specs.Reached.{IsNextPiece}
-use Rattle.fm_top_load.specs.Whole.{IsCut, IsWhole}
-use Rattle.fm_top_load.proofs.Chunks.{first_to_last}
+use Rattle.fm_top_load.{specs.{declared.chunk.Chunk.{Chunk}, Reached.{IsNextPiece}, Whole.{IsCut, IsWhole}}, proofs.Chunks.{first_to_last}}
 use Rattle.fm_top_load.proofs.Placing.{none_taken}
-use Rattle.fm_top_stream.specs.Chunks.{AreCut, all_bytes}
-use Rattle.fm_top_stream.specs.Gone.{IsRagged}
+use Rattle.fm_top_stream.specs.{Chunks.{AreCut, all_bytes}, Gone.{IsRagged}}
 
 -- ---- runs of bytes
 

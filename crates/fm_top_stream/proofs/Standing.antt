@@ -1,19 +1,13 @@
 -- What was shown of chunks is shown still, while the pass goes on with the next.
-use Rattle.std.proofs.Common.{◌≡◌, ℕ, true, false, List, [], ◌∷◌, ◌++◌, length, map, refl, ap, sym, ◌∙◌, subst, inl, inr}
-use Rattle.std.specs.Prelude.{if◌then◌else◌}
+use Rattle.std.{proofs.Common.{◌≡◌, ℕ, true, false, List, [], ◌∷◌, ◌++◌, length, map, refl, ap, sym, ◌∙◌, subst, inl, inr}, specs.Prelude.{if◌then◌else◌}}
 use Rattle.std.specs.List.{AllZip, range_with_len}
 use Rattle.fm_base_bytes.specs.Words.{byte_at}
-use Rattle.fm_base_lists.specs.Among.{IsAmong}
-use Rattle.fm_base_lists.proofs.Among.{among_left}
-use Rattle.fm_base.specs.declared.arena_id.ArenaId.{ArenaId}
-use Rattle.fm_base.specs.Arenas.{State, arena_of, has_arena, same_id}
-use Rattle.fm_base.specs.Calls.{Entry}
-use Rattle.fm_base.proofs.Names.{same_id-self}
+use Rattle.fm_base_lists.{specs.Among.{IsAmong}, proofs.Among.{among_left}}
+use Rattle.fm_base.{specs.{declared.arena_id.ArenaId.{ArenaId}, Arenas.{State, arena_of, has_arena, same_id}, Calls.{Entry}}, proofs.Names.{same_id-self}}
 use Rattle.fm_records_query.specs.Plan.{Plan}
 use Rattle.fm_rule_facts.specs.Views.{View, state_in}
 use Rattle.fm_top_load.specs.Held.{names_in}
-use Rattle.fm_top_pooled.specs.Shown.{IsReadByOther}
-use Rattle.fm_top_pooled.proofs.Shows.{read_in}
+use Rattle.fm_top_pooled.{specs.Shown.{IsReadByOther}, proofs.Shows.{read_in}}
 use Rattle.fm_top_stream.specs.Shown.{ShowsChunk}
 
 -- ---- two lists side by side

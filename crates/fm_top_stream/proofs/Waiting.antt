@@ -1,29 +1,16 @@
 -- A pass that waits for a slot or a page, which changes no arena.
 use Rattle.std.proofs.Common.{◌≡◌, ℕ, ◌+◌, ◌≤◌, List, [], ◌∷◌, ◌++◌, Ok, Err, refl, ap, sym, ◌∙◌, subst, inl, inr, ⊎_elim, arith}
-use Rattle.fm_base.specs.declared.arena_id.ArenaId.{ArenaId}
-use Rattle.fm_base.specs.declared.kind.Kind.TheVariants.{Shared}
-use Rattle.fm_base.specs.declared.refusal.Refusal.{Refusal}
-use Rattle.fm_base.specs.declared.refusal.Refusal.TheVariants as refusal
-use Rattle.fm_base.specs.declared.caller.Caller.{Caller}
-use Rattle.fm_base.specs.Arenas.{State, arena_of, has_arena}
-use Rattle.fm_base.specs.Calls.{Entry}
-use Rattle.fm_base.specs.Does.{DidAllocate, DoesAllocate, DoesOpen}
-use Rattle.fm_base.specs.Machine.{rounded_up}
+use Rattle.fm_base.specs.declared.{arena_id.ArenaId.{ArenaId}, kind.Kind.TheVariants.{Shared}, refusal.Refusal.{Refusal}, caller.Caller.{Caller}}
+use Rattle.fm_base.specs.{Arenas.{State, arena_of, has_arena}, Calls.{Entry}, Does.{DidAllocate, DoesAllocate, DoesOpen}, Machine.{rounded_up}}
 use Rattle.fm_base.specs.View.{but_loans, given_in}
-use Rattle.fm_rule_calls.specs.Told.{view_of_pass}
-use Rattle.fm_rule_calls.proofs.Telling.{did_of}
+use Rattle.fm_base.specs.declared.refusal.Refusal.TheVariants as refusal
+use Rattle.fm_rule_calls.{specs.Told.{view_of_pass}, proofs.Telling.{did_of}}
 use Rattle.fm_gate.specs.Learnt.{AfterAllocate, AfterOpen}
-use Rattle.fm_rule_facts.specs.Loans.{loans_of}
-use Rattle.fm_rule_facts.specs.Views.{View, IsKnown, limit_of, state_in}
+use Rattle.fm_rule_facts.specs.{Loans.{loans_of}, Views.{View, IsKnown, limit_of, state_in}}
 use Rattle.fm_rule.specs.declared.pool.Pool.{Pool}
-use Rattle.fm_top_load.specs.Held.{HoldsThen, IsEmpty, OnlyIn, names_in}
-use Rattle.fm_top_load.proofs.Holding.{did_only, refusal_stays, refused_held}
-use Rattle.fm_top_pooled.specs.Stocked.{IsAlone}
-use Rattle.fm_top_pooled.proofs.Allocating.{first_held, first_only}
-use Rattle.fm_top_pooled.proofs.Opening.{opens}
-use Rattle.fm_top_pooled.proofs.Tidying.{AllChangeNone}
-use Rattle.fm_top_stream.specs.Steps.{Gives, GoesOn, Opens}
-use Rattle.fm_top_stream.proofs.Going.{alone_still, goes_here, goes_then, kept_goes}
+use Rattle.fm_top_load.{specs.Held.{HoldsThen, IsEmpty, OnlyIn, names_in}, proofs.Holding.{did_only, refusal_stays, refused_held}}
+use Rattle.fm_top_pooled.{specs.Stocked.{IsAlone}, proofs.{Allocating.{first_held, first_only}, Opening.{opens}, Tidying.{AllChangeNone}}}
+use Rattle.fm_top_stream.{specs.Steps.{Gives, GoesOn, Opens}, proofs.Going.{alone_still, goes_here, goes_then, kept_goes}}
 
 -- it waited, and the arenas are as they were
 pub record Waits (pool : Pool) (p m : View) : Type 0 where

@@ -1,36 +1,19 @@
 -- The part of a file that the first pass puts into an arena of its own while a crew is at work.
 use Rattle.std.specs.Prelude.{◌≡◌, ◌≢◌, ℕ, ◌+◌, ◌%◌, ◌<◌, ◌≤◌, ◌^◌, List, length, Option, Some, None, Result, Ok, Err, IfOk, IfSome}
 use Rattle.std.proofs.Math.Nat.{le_trans}
-use Rattle.fm_base.specs.declared.arena_id.ArenaId.{ArenaId}
-use Rattle.fm_base.specs.declared.caller.Caller.{Caller}
-use Rattle.fm_base.specs.declared.refusal.Refusal.{Refusal}
-use Rattle.fm_base.specs.Calls.{Entry}
-use Rattle.fm_io.specs.Files.{Contents}
-use Rattle.fm_io.specs.Reads.{Next}
-use Rattle.fm_io.specs.View.{FilesView}
+use Rattle.fm_base.specs.{declared.{arena_id.ArenaId.{ArenaId}, caller.Caller.{Caller}, refusal.Refusal.{Refusal}}, Calls.{Entry}}
+use Rattle.fm_io.specs.{Files.{Contents}, Reads.{Next}, View.{FilesView}}
 use Rattle.fm_records_query.specs.Plan.{Plan}
 use Rattle.fm_records.specs.declared.found.Found.{Found}
-use Rattle.fm_rule_calls.specs.Kept.{Lasts}
-use Rattle.fm_rule_calls.specs.Told.{view_of_pass}
+use Rattle.fm_rule_calls.specs.{Kept.{Lasts}, Told.{view_of_pass}}
 use Rattle.fm_rule_facts.specs.Views.{View, IsKnown, given_of, limit_of}
 use Rattle.fm_rule.specs.declared.pool.Pool.{Pool}
 use Rattle.fm_segment.specs.Region.{Region}
-use Rattle.fm_top_load.specs.declared.chunk.Chunk.{Chunk}
-use Rattle.fm_top_load.specs.declared.chunk.Part.{Part}
-use Rattle.fm_top_load.specs.declared.load_fault.LoadFault.{LoadFault}
-use Rattle.fm_top_load.specs.declared.load_fault.LoadFault.TheVariants.{Memory}
-use Rattle.fm_top_load.specs.declared.put_fault.PutFault.{PutFault}
-use Rattle.fm_top_load.specs.declared.put_fault.PutFault.TheVariants.{Refused}
-use Rattle.fm_top_load.specs.Held.{IsHeld}
-use Rattle.fm_top_load.specs.Putting.{DoesPutPart, load_fault_of}
-use Rattle.fm_top_load.specs.Reached.{IsNextPiece}
-use Rattle.fm_top_load.specs.Reading.{GoesBy, ReadsFurther, piece_limit}
-use Rattle.fm_top_load.specs.Whole.{CanRead, TellsLoad}
+use Rattle.fm_top_load.specs.declared.{chunk.{Chunk.{Chunk}, Part.{Part}}, load_fault.LoadFault.{LoadFault, TheVariants.{Memory}}}
+use Rattle.fm_top_load.specs.{declared.put_fault.PutFault.{PutFault, TheVariants.{Refused}}, Held.{IsHeld}, Putting.{DoesPutPart, load_fault_of}}
+use Rattle.fm_top_load.specs.{Reached.{IsNextPiece}, Reading.{GoesBy, ReadsFurther, piece_limit}, Whole.{CanRead, TellsLoad}}
 use Rattle.fm_top_pooled.specs.Stocked.{IsAlone, IsStockedOf}
-use Rattle.fm_top_stream.specs.declared.ahead.Ahead.{Ahead}
-use Rattle.fm_top_stream.specs.declared.putting.Putting.{Putting}
-use Rattle.fm_top_stream.specs.declared.placed.Placed.{Placed}
-use Rattle.fm_top_stream.specs.Steps.{AnswersBeside}
+use Rattle.fm_top_stream.specs.{declared.{ahead.Ahead.{Ahead}, putting.Putting.{Putting}, placed.Placed.{Placed}}, Steps.{AnswersBeside}}
 
 -- the arena is known, and has given room for the part, whose first piece lies in the buffer
 pub record CanPutAs (told : Option Contents) (part : Part) (buffer : List ℕ) (first : Chunk) (arena : ArenaId) (v : View) : Type 0 where

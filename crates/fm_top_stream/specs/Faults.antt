@@ -1,15 +1,11 @@
 -- Why a stream gives no answer, as far as the source of files tells.
 use Rattle.std.specs.Prelude.{◌≡◌, ℕ, List, Option, Some}
-use Rattle.fm_io.specs.Files.{IsAbsent}
-use Rattle.fm_io.specs.View.{FilesView, Leaves}
+use Rattle.fm_io.specs.{Files.{IsAbsent}, View.{FilesView, Leaves}}
 use Rattle.fm_records_query.specs.Plan.{Plan}
-use Rattle.fm_top_load.specs.Whole.{IsOver}
-use Rattle.fm_top_load.specs.declared.load_fault.LoadFault.{LoadFault}
+use Rattle.fm_top_load.specs.{Whole.{IsOver}, declared.load_fault.LoadFault.{LoadFault}}
 use Rattle.fm_top_load.specs.declared.load_fault.LoadFault.TheVariants as load
-use Rattle.fm_top_stream.specs.declared.stream_fault.StreamFault.{StreamFault}
-use Rattle.fm_top_stream.specs.declared.stream_fault.StreamFault.TheVariants.{Missing, Read, Ragged, TooLong, Memory}
-use Rattle.fm_top_stream.specs.Chunks.{stream_file_limit}
-use Rattle.fm_top_stream.specs.Gone.{IsRagged}
+use Rattle.fm_top_stream.specs.declared.stream_fault.StreamFault.{StreamFault, TheVariants.{Missing, Read, Ragged, TooLong, Memory}}
+use Rattle.fm_top_stream.specs.{Chunks.{stream_file_limit}, Gone.{IsRagged}}
 
 -- what a load's fault is to a stream
 abbrev pub fault_of_load : LoadFault → StreamFault

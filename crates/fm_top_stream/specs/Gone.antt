@@ -1,31 +1,18 @@
 -- How far a stream has gone.
-use Rattle.std.specs.Prelude.{◌≡◌, ◌+◌, ◌%◌, ◌<◌, ◌≤◌, ℕ, Bool, true, List, [], ◌∷◌, ◌++◌, length, Option, None, IfSome}
-use Rattle.std.specs.List.{AllByRecursion, AllZip}
+use Rattle.std.specs.{Prelude.{◌≡◌, ◌+◌, ◌%◌, ◌<◌, ◌≤◌, ℕ, Bool, true, List, [], ◌∷◌, ◌++◌, length, Option, None, IfSome}, List.{AllByRecursion, AllZip}}
 use Rattle.fm_base.specs.declared.arena_id.ArenaId.{ArenaId}
 use Rattle.fm_base_lists.specs.Among.{IsAmong}
 use Rattle.fm_io.specs.Files.{Contents, AreBytesFrom, EndsBefore}
 use Rattle.fm_rule_facts.specs.Views.{View, limit_of, state_in}
 use Rattle.fm_rule.specs.declared.pool.Pool.{Pool}
 use Rattle.fm_records_query.specs.Plan.{Plan}
-use Rattle.fm_records.specs.declared.found.Found.{Found}
-use Rattle.fm_records.specs.Answers.{answer}
-use Rattle.fm_records.specs.Few.{AreFew}
-use Rattle.fm_records.specs.Joined.{joined}
-use Rattle.fm_top_load.specs.Held.{names_in}
-use Rattle.fm_top_load.specs.declared.chunk.Chunk.{Chunk}
-use Rattle.fm_top_load.specs.declared.chunk.Part.{Part}
-use Rattle.fm_top_load.specs.Reached.{IsNextPiece}
-use Rattle.fm_top_load.specs.Reading.{piece_limit}
+use Rattle.fm_records.specs.{declared.found.Found.{Found}, Answers.{answer}, Few.{AreFew}, Joined.{joined}}
+use Rattle.fm_top_load.specs.{Held.{names_in}, declared.chunk.{Chunk.{Chunk}, Part.{Part}}, Reached.{IsNextPiece}, Reading.{piece_limit}}
 use Rattle.fm_top_load.specs.Whole.{CanRead, IsWhole}
 use Rattle.fm_top_pooled.specs.Stocked.{IsAlone, IsStockedOf}
 use Rattle.fm_segment.specs.Region.{Region}
-use Rattle.fm_top_stream.specs.Chunks.{AreCut, all_bytes}
-use Rattle.fm_top_stream.specs.Shown.{ShowsChunk}
-use Rattle.fm_top_stream.specs.declared.ahead.Ahead.{Ahead}
-use Rattle.fm_top_stream.specs.declared.under_way.UnderWay.{UnderWay}
-use Rattle.fm_top_stream.specs.declared.gone.Gone.{Gone}
-use Rattle.fm_top_stream.specs.declared.placed.Placed.{Placed}
-use Rattle.fm_top_stream.specs.Steps.{AnswersOn, StandsIn}
+use Rattle.fm_top_stream.specs.{Chunks.{AreCut, all_bytes}, Shown.{ShowsChunk}, declared.{ahead.Ahead.{Ahead}, under_way.UnderWay.{UnderWay}, gone.Gone.{Gone}}}
+use Rattle.fm_top_stream.specs.{declared.placed.Placed.{Placed}, Steps.{AnswersOn, StandsIn}}
 
 -- These runs of bytes went through arenas of their own, one after the other, and this is the answer over all of them. Behind those the pool has
 -- these arenas, and no other

@@ -1,23 +1,14 @@
 -- What the history of a stream's pool shows, and what the stream answers.
-use Rattle.std.specs.Prelude.{◌≡◌, ◌%◌, ◌≤◌, ℕ, List, length, Option}
-use Rattle.std.specs.List.{AllZip}
-use Rattle.fm_base.specs.declared.arena_id.ArenaId.{ArenaId}
-use Rattle.fm_base.specs.Arenas.{Ended, State, arena_of}
-use Rattle.fm_base.specs.Calls.{Entry}
+use Rattle.std.specs.{Prelude.{◌≡◌, ◌%◌, ◌≤◌, ℕ, List, length, Option}, List.{AllZip}}
+use Rattle.fm_base.specs.{declared.arena_id.ArenaId.{ArenaId}, Arenas.{Ended, State, arena_of}, Calls.{Entry}}
 use Rattle.fm_io.specs.Files.{Contents}
 use Rattle.fm_records_query.specs.Plan.{Plan}
-use Rattle.fm_records.specs.declared.found.Found.{Found}
-use Rattle.fm_records.specs.Alone.{bytes_at_places}
-use Rattle.fm_records.specs.Answers.{answer}
-use Rattle.fm_records.specs.Texts.{IsAnswerOf}
-use Rattle.fm_rule.specs.Finishing.{FinishedView}
-use Rattle.fm_rule.specs.GivenBytes.{state_of}
+use Rattle.fm_records.specs.{declared.found.Found.{Found}, Alone.{bytes_at_places}, Answers.{answer}, Texts.{IsAnswerOf}}
+use Rattle.fm_rule.specs.{Finishing.{FinishedView}, GivenBytes.{state_of}}
 use Rattle.fm_segment.specs.Region.{region_of}
-use Rattle.fm_top_load.specs.Held.{names_in}
-use Rattle.fm_top_load.specs.Whole.{IsWhole}
+use Rattle.fm_top_load.specs.{Held.{names_in}, Whole.{IsWhole}}
 use Rattle.fm_top_pooled.specs.Shown.{AreRead, AsksWord, IsHistory}
-use Rattle.fm_top_stream.specs.Chunks.{chunks, stream_file_limit}
-use Rattle.fm_top_stream.specs.Shapes.{stream_shape}
+use Rattle.fm_top_stream.specs.{Chunks.{chunks, stream_file_limit}, Shapes.{stream_shape}}
 
 -- the chunk's bytes stand from place 0 of the arena, which has ended, and others than the first pass have read there each word that is
 -- asked for

@@ -1,10 +1,7 @@
 -- What each step with a chunk's arena does, by the pool's first pass while it is known to be whole.
 use Rattle.std.specs.Prelude.{◌≡◌, ◌≢◌, ◌<◌, ◌≤◌, ℕ, List, [], ◌∷◌, ◌++◌, take, Option, Some, None, IfSome}
-use Rattle.fm_base.specs.declared.arena_id.ArenaId.{ArenaId}
-use Rattle.fm_base.specs.declared.kind.Kind.TheVariants.{Shared}
-use Rattle.fm_base.specs.Arenas.{Alive, Ended, State, arena_of, has_arena}
-use Rattle.fm_base.specs.Calls.{Entry}
-use Rattle.fm_base.specs.View.{given_in}
+use Rattle.fm_base.specs.{declared.{arena_id.ArenaId.{ArenaId}, kind.Kind.TheVariants.{Shared}}, Arenas.{Alive, Ended, State, arena_of, has_arena}}
+use Rattle.fm_base.specs.{Calls.{Entry}, View.{given_in}}
 use Rattle.fm_io.specs.Files.{Contents, EndsBefore}
 use Rattle.fm_segment_access.specs.Alone.{bytes_of_arena}
 use Rattle.fm_rule_calls.specs.Told.{view_of_pass}
@@ -12,16 +9,10 @@ use Rattle.fm_rule_facts.specs.Views.{View, IsKnown, state_in}
 use Rattle.fm_rule.specs.declared.pool.Pool.{Pool}
 use Rattle.fm_segment.specs.Region.{Region}
 use Rattle.fm_records_query.specs.Plan.{Plan}
-use Rattle.fm_records.specs.declared.found.Found.{Found}
-use Rattle.fm_records.specs.Answers.{answer}
-use Rattle.fm_records.specs.Few.{AreFew}
-use Rattle.fm_top_load.specs.declared.chunk.Chunk.{Chunk}
-use Rattle.fm_top_load.specs.Held.{HoldsThen, IsHeld, OnlyIn, names_in, words_at}
-use Rattle.fm_top_load.specs.declared.chunk.Part.{Part}
-use Rattle.fm_top_load.specs.Reached.{HasChunk}
+use Rattle.fm_records.specs.{declared.found.Found.{Found}, Answers.{answer}, Few.{AreFew}}
+use Rattle.fm_top_load.specs.{declared.chunk.{Chunk.{Chunk}, Part.{Part}}, Held.{HoldsThen, IsHeld, OnlyIn, names_in, words_at}, Reached.{HasChunk}}
 use Rattle.fm_top_load.specs.Whole.{IsCut}
-use Rattle.fm_top_pooled.specs.Shown.{AreRead, AsksWord}
-use Rattle.fm_top_pooled.specs.Stocked.{HasOpened, IsAlone, IsStockedOf, bytes_in_pool}
+use Rattle.fm_top_pooled.specs.{Shown.{AreRead, AsksWord}, Stocked.{HasOpened, IsAlone, IsStockedOf, bytes_in_pool}}
 use Rattle.fm_top_stream.specs.declared.placed.Placed.{Placed}
 
 -- it is known to be whole still, and has seen more

@@ -1,11 +1,9 @@
 -- A bit that is made 0, and the lowest that is 1.
-use Rattle.std.proofs.Common.{◌≡◌, ◌≢◌, ℕ, ◌*◌, ◌%◌, ◌^◌, ◌<◌, inl, inr, sym, ap, ◌∙◌}
+use Rattle.std.{proofs.Common.{◌≡◌, ◌≢◌, ℕ, ◌*◌, ◌%◌, ◌^◌, ◌<◌, inl, inr, sym, ap, ◌∙◌}, specs.Int.{bit_at, bit_not, w64}}
+use Rattle.std.proofs.lemmas.{Nat.Bits.{bit_at_clear_same, bit_at_clear_other, bit_at_above, same_from_bits_below}, Bool.{cases_lt}}
 use mathlib.Core.Logic.{dite}
 use native.Mathlib.Decide.{ℕ_discrete}
 use lib.Bits.{bit_and}
-use Rattle.std.specs.Int.{bit_at, bit_not, w64}
-use Rattle.std.proofs.lemmas.Nat.Bits.{bit_at_clear_same, bit_at_clear_other, bit_at_above, same_from_bits_below}
-use Rattle.std.proofs.lemmas.Bool.{cases_lt}
 use Rattle.fm_words.specs.Bits.{IsWithout}
 
 pub is_without : (w b x : ℕ) → w < 2 ^ 64 → x < 2 ^ 64 → b < 64 → x ≡ bit_and w (bit_not w64 (1 * 2 ^ b % 2 ^ 64)) → IsWithout w b x

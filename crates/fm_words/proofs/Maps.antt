@@ -1,6 +1,5 @@
 -- Words that map pages read back.
-use Rattle.std.proofs.Common.{◌≡◌, ◌≢◌, ℕ, zero, suc, ◌+◌, ◌-◌, ◌≤◌, Option, None, Some, IfSome, refl, ap, arith}
-use Rattle.std.specs.Option.{SomeIff}
+use Rattle.std.{proofs.Common.{◌≡◌, ◌≢◌, ℕ, zero, suc, ◌+◌, ◌-◌, ◌≤◌, Option, None, Some, IfSome, refl, ap, arith}, specs.Option.{SomeIff}}
 use Rattle.fm_words.specs.Maps.{map_word, map_of}
 
 -- A page is read back from its word.

@@ -1,9 +1,6 @@
 -- Words of sessions read back, and what one word more or less changes.
-use Rattle.std.proofs.Common.{◌≡◌, ℕ, ◌+◌, ◌-◌, ◌*◌, ◌/◌, ◌%◌, ◌^◌, ◌<◌, refl, ap, sym, ◌∙◌, arith}
-use Rattle.std.proofs.Common.{zero, suc}
-use Rattle.fm_words.specs.declared.life.Life.{Life}
-use Rattle.fm_words.specs.declared.life.Life.TheVariants.{Free, Alive, Closing, Unused}
-use Rattle.fm_words.specs.declared.session.Session.{Session}
+use Rattle.std.proofs.Common.{◌≡◌, ℕ, ◌+◌, ◌-◌, ◌*◌, ◌/◌, ◌%◌, ◌^◌, ◌<◌, refl, ap, sym, ◌∙◌, arith, zero, suc}
+use Rattle.fm_words.specs.declared.{life.Life.{Life, TheVariants.{Free, Alive, Closing, Unused}}, session.Session.{Session}}
 use Rattle.fm_words.specs.Sessions.{IsSession, session_word, session_of, alive, closing, free_session, life_bits, life_of}
 
 -- ---- lives

@@ -1,9 +1,7 @@
 -- Shifts and masks as sums and remainders: what the code makes of fields and words.
 use Rattle.std.proofs.Common.{◌≡◌, ℕ, ◌+◌, ◌*◌, ◌/◌, ◌%◌, ◌^◌, ◌<◌, ◌≤◌, bit_and, bit_or, ap, sym, subst, ◌∙◌, arith}
 use Rattle.std.proofs.lemmas.Nat.{or_shifted, and_mask, shl_whole}
-use Rattle.fm_words.specs.declared.session.Session.{Session}
-use Rattle.fm_words.specs.declared.life.Life.{Life}
-use Rattle.fm_words.specs.Sessions.{IsSession, session_word, session_of, life_bits, life_of}
+use Rattle.fm_words.specs.{declared.{session.Session.{Session}, life.Life.{Life}}, Sessions.{IsSession, session_word, session_of, life_bits, life_of}}
 use Rattle.fm_words.proofs.Sessions.{few_lives}
 
 -- A number that is shifted within a word of `width` bits, with a lower one put below it, is their sum.

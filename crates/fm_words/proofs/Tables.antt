@@ -1,11 +1,9 @@
 -- Each word of a table is that of one place.
 use Rattle.std.proofs.Common.{◌≡◌, ◌≢◌, ℕ, zero, suc, ◌+◌, ◌-◌, ◌*◌, ◌/◌, ◌%◌, ◌<◌, ◌≤◌, List, length, set, slice_index, refl, ap, arith, inl, inr, get_or-set_other, get_or-set_same, mul-le-mul_left}
+use Rattle.std.proofs.lemmas.{Bool.{cases_lt}, Nat.{mul-add-lt, same_from_place, div-add-mod', mod_below, div_below}}
 use mathlib.Core.Logic.{dite}
 use native.Mathlib.Decide.{ℕ_discrete}
-use Rattle.std.proofs.lemmas.Bool.{cases_lt}
-use Rattle.std.proofs.lemmas.Nat.{mul-add-lt, same_from_place, div-add-mod', mod_below, div_below}
-use Rattle.fm_words.specs.declared.shape.Shape.{Shape}
-use Rattle.fm_words.specs.Shapes.{IsValid}
+use Rattle.fm_words.specs.{declared.shape.Shape.{Shape}, Shapes.{IsValid}}
 use Rattle.fm_words.specs.Places.{Place, front, draw, slot_bits, mark, page_bits, session, given, map, number_bits, term, page_word, IsPlace, page_groups, groups, marks_from, sessions_from, given_from, maps_from, pages_from, page_bits_from, numbers_from, terms_from, at, words, NamesEachWordOnce}
 
 -- Places lie within the table.

@@ -1,6 +1,5 @@
 -- Words of bits: bit k is for the thing of number k; of many words, bit k of word g for that of number 64 g + k.
-use Rattle.std.specs.Prelude.{◌≡◌, ◌≢◌, ℕ, ◌+◌, ◌-◌, ◌*◌, ◌/◌, ◌%◌, ◌<◌, ◌^◌}
-use Rattle.std.specs.Int.{bit_at}
+use Rattle.std.specs.{Prelude.{◌≡◌, ◌≢◌, ℕ, ◌+◌, ◌-◌, ◌*◌, ◌/◌, ◌%◌, ◌<◌, ◌^◌}, Int.{bit_at}}
 
 -- the word whose first bits are 1, this many
 abbrev pub ones : ℕ → ℕ

@@ -1,6 +1,5 @@
 -- The word of a mark: slot plus 1 in the high 32 bits, the generation in the low ones.
-use Rattle.std.specs.Prelude.{ℕ, ◌+◌, ◌*◌, ◌/◌, ◌%◌, ◌^◌, Option, None, Some}
-use Rattle.std.proofs.Common.{zero, suc}
+use Rattle.std.{specs.Prelude.{ℕ, ◌+◌, ◌*◌, ◌/◌, ◌%◌, ◌^◌, Option, None, Some}, proofs.Common.{zero, suc}}
 
 unfoldable pub mark_word : ℕ → ℕ → ℕ
 mark_word slot generation = (slot + 1) * 2 ^ 32 + generation

@@ -1,9 +1,6 @@
 -- The word of a session: generation (32 bits), life (2), kind (2), owner (12) and holds (16), from the highest bit.
-use Rattle.std.specs.Prelude.{ℕ, ◌+◌, ◌*◌, ◌/◌, ◌%◌, ◌^◌, ◌<◌, ◌≤◌}
-use Rattle.std.proofs.Common.{zero, suc}
-use Rattle.fm_words.specs.declared.life.Life.{Life}
-use Rattle.fm_words.specs.declared.life.Life.TheVariants.{Free, Alive, Closing, Unused}
-use Rattle.fm_words.specs.declared.session.Session.{Session}
+use Rattle.std.{specs.Prelude.{ℕ, ◌+◌, ◌*◌, ◌/◌, ◌%◌, ◌^◌, ◌<◌, ◌≤◌}, proofs.Common.{zero, suc}}
+use Rattle.fm_words.specs.declared.{life.Life.{Life, TheVariants.{Free, Alive, Closing, Unused}}, session.Session.{Session}}
 
 -- ---- lives
 

@@ -1,7 +1,6 @@
 -- The shapes that a pool can have.
 use Rattle.std.specs.Prelude.{◌*◌, ◌≤◌}
-use Rattle.fm_words.specs.Within.{Within}
-use Rattle.fm_words.specs.declared.shape.Shape.{Shape}
+use Rattle.fm_words.specs.{Within.{Within}, declared.shape.Shape.{Shape}}
 
 pub record IsValid (z : Shape) : Type 0 where
   pub passes : Within 1 4096 z.passes

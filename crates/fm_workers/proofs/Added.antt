@@ -1,30 +1,16 @@
 -- What a crew adds to a word.
 use Rattle.std.proofs.Common.{◌≡◌, ◌≢◌, ℕ, ◌+◌, ◌/◌, ◌<◌, ◌≤◌, ◌==◌, ◌&&◌, Bool, true, false, if◌then◌else◌, List, [], ◌∷◌, ◌++◌, slice_index, refl, sym, ap, ◌∙◌, subst, inl, inr, ⊎_elim, arith, Ok}
-use Rattle.std.specs.Prelude.{◌⊎◌}
-use Rattle.std.specs.List.{AllByRecursion, AllZip, flat_map}
-use Rattle.std.proofs.lemmas.Bool.Decides.{nat_tests}
-use Rattle.fm_base_lists.specs.Among.{AreApart, IsAmong}
-use Rattle.fm_base_lists.proofs.Each.{all_both, all_weaker}
-use Rattle.fm_base.specs.declared.arena_id.ArenaId.{ArenaId}
-use Rattle.fm_base.specs.declared.caller.Caller.{Caller}
-use Rattle.fm_base.specs.Arenas.{same_id}
-use Rattle.fm_base.specs.Calls.{Entry}
-use Rattle.fm_base.specs.Counting.{OnlyAdds, all_added, total}
-use Rattle.fm_base.specs.Histories.{made_by}
-use Rattle.fm_base.proofs.Counting.{added_by}
-use Rattle.fm_base.proofs.Names.{same_id-self}
+use Rattle.std.{specs.{Prelude.{◌⊎◌}, List.{AllByRecursion, AllZip, flat_map}}, proofs.lemmas.Bool.Decides.{nat_tests}}
+use Rattle.fm_base_lists.{specs.Among.{AreApart, IsAmong}, proofs.Each.{all_both, all_weaker}}
+use Rattle.fm_base.specs.{declared.{arena_id.ArenaId.{ArenaId}, caller.Caller.{Caller}}, Arenas.{same_id}, Calls.{Entry}, Counting.{OnlyAdds, all_added, total}}
+use Rattle.fm_base.{specs.Histories.{made_by}, proofs.{Counting.{added_by}, Names.{same_id-self}}}
 use Rattle.fm_segment.specs.Region.{Region}
 use Rattle.fm_records_query.specs.Plan.{Plan}
-use Rattle.fm_workers_shares.specs.declared.taker.Done.{Done}
-use Rattle.fm_workers_shares.specs.Answered.{all_of}
+use Rattle.fm_workers_shares.specs.{declared.taker.Done.{Done}, Answered.{all_of}}
 use Rattle.fm_records.specs.Reads.{AreReads, read_visit}
-use Rattle.fm_workers.specs.Adding.{AddsAt, AddsBelow, adds, count_word, none_yet, nothing, one_more}
-use Rattle.fm_workers.specs.Counts.{how_many, number_of}
-use Rattle.fm_workers.specs.Tally.{IsCounted, LeavesWord}
-use Rattle.fm_workers.specs.Tallies.{TalliesShares, Tallying, all_numbers}
-use Rattle.fm_workers.proofs.Numbers.{how_many-append}
-use Rattle.fm_workers.proofs.Reading.{each_read}
-use Rattle.fm_workers.proofs.Talliers.{all_numbers-append}
+use Rattle.fm_workers.specs.{Adding.{AddsAt, AddsBelow, adds, count_word, none_yet, nothing, one_more}, Counts.{how_many, number_of}}
+use Rattle.fm_workers.{specs.{Tally.{IsCounted, LeavesWord}, Tallies.{TalliesShares, Tallying, all_numbers}}, proofs.Numbers.{how_many-append}}
+use Rattle.fm_workers.proofs.{Reading.{each_read}, Talliers.{all_numbers-append}}
 
 pub added-append : (id : ArenaId) (word : ℕ) (es fs : List Entry) → all_added id word (es ++ fs) ≡ all_added id word es + all_added id word fs
 added-append id word [] fs = omega arith

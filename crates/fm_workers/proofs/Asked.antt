@@ -1,21 +1,12 @@
 -- Shares of a segment, each asked by a pass of its own.
-use Rattle.std.proofs.Common.{◌≡◌, ℕ, ◌+◌, ◌%◌, ◌≤◌, List, [], ◌∷◌, ◌++◌, refl, subst, arith, inl, inr, Result, Ok, Err}
-use Rattle.std.specs.Prelude.{◌⊎◌}
+use Rattle.std.{proofs.Common.{◌≡◌, ℕ, ◌+◌, ◌%◌, ◌≤◌, List, [], ◌∷◌, ◌++◌, refl, subst, arith, inl, inr, Result, Ok, Err}, specs.Prelude.{◌⊎◌}}
 use Rattle.std.specs.List.{AllByRecursion, flat_map}
-use Rattle.fm_base.specs.declared.caller.Caller.{Caller}
-use Rattle.fm_base.specs.declared.refusal.Refusal.{Refusal}
-use Rattle.fm_base.specs.declared.refusal.Refusal.TheVariants.{Ragged, WrongThread, Closed, Memory}
-use Rattle.fm_base.specs.Arenas.{MayUse}
-use Rattle.fm_base.specs.Calls.{Entry}
-use Rattle.fm_base.specs.Histories.{made_by}
-use Rattle.fm_base.specs.Visits.{refused_visit}
+use Rattle.fm_base.specs.{declared.{caller.Caller.{Caller}, refusal.Refusal.{Refusal, TheVariants.{Ragged, WrongThread, Closed, Memory}}}, Arenas.{MayUse}}
+use Rattle.fm_base.specs.{Calls.{Entry}, Histories.{made_by}, Visits.{refused_visit}}
 use Rattle.fm_segment.specs.Region.{Region}
 use Rattle.fm_records_query.specs.Plan.{Plan}
-use Rattle.fm_records.specs.declared.found.Found.{Found}
-use Rattle.fm_records.specs.Query.{DoesQuery}
-use Rattle.fm_records.specs.Reads.{AreReads, StopsReading, IsWordOf, read_visit}
-use Rattle.fm_workers.specs.Query.{OnlyReads, reads, stops}
-use Rattle.fm_workers.specs.Tallies.{DoesCount}
+use Rattle.fm_records.specs.{declared.found.Found.{Found}, Query.{DoesQuery}, Reads.{AreReads, StopsReading, IsWordOf, read_visit}}
+use Rattle.fm_workers.specs.{Query.{OnlyReads, reads, stops}, Tallies.{DoesCount}}
 
 -- ---- what the passes did
 

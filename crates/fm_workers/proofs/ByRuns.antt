@@ -1,50 +1,25 @@
 -- The numbers that a query lists, read and counted some records at a time.
 use Rattle.std.proofs.Common.{◌≡◌, ℕ, suc, ◌+◌, ◌-◌, ◌*◌, ◌/◌, ◌%◌, ◌^◌, ◌≤◌, Result, None, List, [], ◌∷◌, ◌++◌, length, map, refl, sym, ap, ◌∙◌, subst, append_assoc, length-append, arith, Ok, Err}
-use Rattle.std.specs.Prelude.{ℤ}
-use Rattle.std.specs.List.{AllByRecursion}
-use Rattle.std.proofs.lemmas.List.{append-nil, length-map}
+use Rattle.std.{specs.{Prelude.{ℤ}, List.{AllByRecursion}}, proofs.lemmas.List.{append-nil, length-map}}
 use Rattle.std.proofs.Math.Nat.{mul-div_cancel, mul-mod_left, div-mul-le_self, mul-le-mul_right}
-use Rattle.fm_base.specs.declared.caller.Caller.{Caller}
-use Rattle.fm_base.specs.declared.arena_id.ArenaId.{ArenaId}
-use Rattle.fm_base.specs.declared.refusal.Refusal.{Refusal}
-use Rattle.fm_base.specs.declared.refusal.Refusal.TheVariants.{Ragged, WrongThread, Closed, Memory}
-use Rattle.fm_base.specs.Calls.{Entry}
-use Rattle.fm_base.specs.View.{Did, Makes, View}
-use Rattle.fm_base.proofs.Making.{Makes-none, Makes-then}
-use Rattle.fm_base.proofs.Outcomes.{Makes-lasts}
-use Rattle.fm_path.specs.Wide.{wide_dims}
-use Rattle.fm_path.specs.declared.value_spec.ValueSpec.{ValueSpec}
-use Rattle.fm_path_meaning.specs.declared.dim.Dim.{Dim}
-use Rattle.fm_path_meaning.specs.Walk.{offset_at}
-use Rattle.fm_segment.specs.Region.{Region}
-use Rattle.fm_segment.proofs.Access.{known_still}
-use Rattle.fm_records_query.specs.Plan.{IsPlan, Plan}
-use Rattle.fm_records_query.specs.declared.condition.Condition.{Condition}
+use Rattle.fm_base.specs.declared.{caller.Caller.{Caller}, arena_id.ArenaId.{ArenaId}, refusal.Refusal.{Refusal}}
+use Rattle.fm_base.specs.{declared.refusal.Refusal.TheVariants.{Ragged, WrongThread, Closed, Memory}, Calls.{Entry}, View.{Did, Makes, View}}
+use Rattle.fm_base.proofs.{Making.{Makes-none, Makes-then}, Outcomes.{Makes-lasts}}
+use Rattle.fm_path.specs.{Wide.{wide_dims}, declared.value_spec.ValueSpec.{ValueSpec}}
+use Rattle.fm_path_meaning.specs.{declared.dim.Dim.{Dim}, Walk.{offset_at}}
+use Rattle.fm_segment.{specs.Region.{Region}, proofs.Access.{known_still}}
+use Rattle.fm_records_query.specs.{Plan.{IsPlan, Plan}, declared.{condition.Condition.{Condition}, item.{Asked.{Asked}, Item.{Item}}}}
 use Rattle.fm_records_query.specs.declared.fold.Fold.TheVariants as fold
-use Rattle.fm_records_query.specs.declared.item.Asked.{Asked}
 use Rattle.fm_records_query.specs.declared.item.Asked.TheVariants as asked
-use Rattle.fm_records_query.specs.declared.item.Item.{Item}
-use Rattle.fm_records.specs.declared.found.Found.{Found}
-use Rattle.fm_records.specs.declared.found.Found.TheVariants.{Listed}
-use Rattle.fm_records.specs.Answers.{chosen as chosen_of, found_in, found_over, item_found}
-use Rattle.fm_records.specs.Adds.{AddsRecords, all_added}
-use Rattle.fm_records.specs.Few.{how_many}
-use Rattle.fm_records.specs.Joined.{joined}
-use Rattle.fm_records.specs.Learnt.{CanQuery, Queried}
-use Rattle.fm_records.specs.Query.{DoesQuery}
+use Rattle.fm_records.specs.{declared.found.Found.{Found, TheVariants.{Listed}}, Answers.{chosen as chosen_of, found_in, found_over, item_found}}
+use Rattle.fm_records.specs.{Adds.{AddsRecords, all_added}, Few.{how_many}, Joined.{joined}, Learnt.{CanQuery, Queried}, Query.{DoesQuery}}
 use Rattle.fm_records.specs.Reads.{all_done, AreReads, chosen, comes_short, FindsAsked, FindsItems, FindsRecord, InOrder, next_turn, no_turn, one_more, passed_over, ReadsRecord, record_places, short_turn, TakesNumbers, TakesPath, untested, value_places}
-use Rattle.fm_records.specs.Words.{Seen, kept_all, kept_last}
-use Rattle.fm_records.specs.Values.{index_lists}
-use Rattle.fm_records.proofs.Behind.{length-record_places, places_split}
-use Rattle.fm_records.proofs.Ordered.{adds_on, all_added-append}
-use Rattle.fm_records.proofs.Plans.{IsItemFew, plan_items_few}
+use Rattle.fm_records.{specs.{Words.{Seen, kept_all, kept_last}, Values.{index_lists}}, proofs.Behind.{length-record_places, places_split}}
+use Rattle.fm_records.proofs.{Ordered.{adds_on, all_added-append}, Plans.{IsItemFew, plan_items_few}}
 use Rattle.fm_records.proofs.Visiting.{AreReads-append, AreReads-none, StopsReading-after}
-use Rattle.fm_workers.specs.Counts.{AreCounts, AreTallied, CountsToo, HasRoomFor, IsTally, ListsBytes, listed}
-use Rattle.fm_workers.specs.Tallies.{CanCount, DoesCount}
-use Rattle.fm_workers_shares.specs.Shares.{piece}
-use Rattle.fm_workers_shares.proofs.Serving.{aligned_at}
+use Rattle.fm_workers.specs.{Counts.{AreCounts, AreTallied, CountsToo, HasRoomFor, IsTally, ListsBytes, listed}, Tallies.{CanCount, DoesCount}}
 use Rattle.fm_workers.proofs.Asked.{IsWithin, reads_wider, stops_wider}
-use Rattle.fm_workers_shares.proofs.Numbers.{run_ends, run_fits}
+use Rattle.fm_workers_shares.{specs.Shares.{piece}, proofs.{Serving.{aligned_at}, Numbers.{run_ends, run_fits}}}
 
 -- ---- one record
 

@@ -1,17 +1,10 @@
 -- The numbers that are listed over shares are those of the answer that they come to.
-use Rattle.std.proofs.Common.{◌≡◌, List, [], ◌∷◌, ◌++◌, sym, ap, ◌∙◌}
-use Rattle.std.specs.Prelude.{ℤ}
+use Rattle.std.{proofs.Common.{◌≡◌, List, [], ◌∷◌, ◌++◌, sym, ap, ◌∙◌}, specs.Prelude.{ℤ}}
 use Rattle.fm_base.specs.Calls.{Entry}
 use Rattle.fm_records_query.specs.Plan.{IsPlan, Plan}
-use Rattle.fm_records.specs.declared.found.Found.{Found}
-use Rattle.fm_records.specs.declared.found.Found.TheVariants.{Listed}
-use Rattle.fm_records.specs.Joined.{joined}
-use Rattle.fm_records.specs.Shares.{AreDone, Share, all_joined}
+use Rattle.fm_records.specs.{declared.found.Found.{Found, TheVariants.{Listed}}, Joined.{joined}, Shares.{AreDone, Share, all_joined}}
 use Rattle.fm_records.proofs.Recording.{answer-none}
-use Rattle.fm_workers.specs.Counts.{IsTally, listed}
-use Rattle.fm_workers.specs.Tally.{all_listed}
-use Rattle.fm_workers.proofs.ByRuns.{none_found}
-use Rattle.fm_workers.proofs.FewCounted.{share_lists}
+use Rattle.fm_workers.{specs.{Counts.{IsTally, listed}, Tally.{all_listed}}, proofs.{ByRuns.{none_found}, FewCounted.{share_lists}}}
 
 joined_lists : (p : Plan) (more : List Entry) (ws : List Share) → IsPlan p → IsTally p → AreDone p more ws
     → all_joined p ws ≡ Listed (all_listed ws) ∷ []

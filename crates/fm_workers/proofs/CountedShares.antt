@@ -1,37 +1,17 @@
 -- What a crew counted, share by share.
-use Rattle.std.proofs.Common.{◌≡◌, ℕ, ◌/◌, ◌%◌, ◌<◌, List, [], ◌∷◌, map, refl, sym, ap, ◌∙◌, subst, arith, inl, inr, Ok}
-use Rattle.std.specs.Prelude.{ℤ, sum_by}
-use Rattle.std.specs.List.{AllByRecursion, AllZip, range_with_len}
-use Rattle.std.proofs.lemmas.List.Sums.{sum_by-cons}
-use Rattle.fm_base_lists.specs.Among.{IsAmong}
-use Rattle.fm_base_lists.proofs.Each.{all_both}
-use Rattle.fm_base.specs.declared.caller.Caller.{Caller}
-use Rattle.fm_base.specs.Calls.{Entry}
-use Rattle.fm_base.specs.Histories.{made_by}
-use Rattle.fm_records.specs.declared.found.Found.{Found}
-use Rattle.fm_records.specs.Shares.{Share}
+use Rattle.std.{proofs.Common.{◌≡◌, ℕ, ◌/◌, ◌%◌, ◌<◌, List, [], ◌∷◌, map, refl, sym, ap, ◌∙◌, subst, arith, inl, inr, Ok}, specs.Prelude.{ℤ, sum_by}}
+use Rattle.std.{specs.List.{AllByRecursion, AllZip, range_with_len}, proofs.lemmas.List.Sums.{sum_by-cons}}
+use Rattle.fm_base_lists.{specs.Among.{IsAmong}, proofs.Each.{all_both}}
+use Rattle.fm_base.specs.{declared.caller.Caller.{Caller}, Calls.{Entry}, Histories.{made_by}}
+use Rattle.fm_records.specs.{declared.found.Found.{Found}, Shares.{Share}}
 use Rattle.fm_workers_jobs.specs.Turns.{times}
-use Rattle.fm_workers_shares.specs.declared.taker.Done.{Done}
-use Rattle.fm_workers_shares.specs.Answered.{all_of}
-use Rattle.fm_workers_shares.specs.Batches.{nones}
-use Rattle.fm_workers_shares.specs.Placing.{Slot, placed}
-use Rattle.fm_workers_shares.specs.Shares.{many_of}
-use Rattle.fm_workers_shares.specs.Taking.{jobs_of}
-use Rattle.fm_workers_shares.proofs.Each.{answered_each}
-use Rattle.fm_workers_shares.proofs.Ends.{both_ended}
-use Rattle.fm_workers_shares.proofs.Standing.{HasShares, all_shares, stands}
-use Rattle.fm_workers_shares.proofs.Once.{once_among}
-use Rattle.fm_workers_shares.proofs.Places.{all_placed, length-nones, length-placed}
-use Rattle.fm_workers_shares.proofs.Sharing.{IsAnsweredAt}
-use Rattle.fm_workers_shares.proofs.Weighing.{placed_weigh, slot_weight}
+use Rattle.fm_workers_shares.specs.{declared.taker.Done.{Done}, Answered.{all_of}, Batches.{nones}, Placing.{Slot, placed}, Shares.{many_of}, Taking.{jobs_of}}
+use Rattle.fm_workers_shares.proofs.{Each.{answered_each}, Ends.{both_ended}, Standing.{HasShares, all_shares, stands}, Once.{once_among}}
+use Rattle.fm_workers_shares.proofs.{Places.{all_placed, length-nones, length-placed}, Sharing.{IsAnsweredAt}, Weighing.{placed_weigh, slot_weight}}
 use Rattle.fm_workers_crew.proofs.Callers.{AreDoneBy}
-use Rattle.fm_workers.specs.declared.tallier.Tallier.{Tallier}
-use Rattle.fm_workers.specs.Counts.{AreCounts, how_many, listed, number_of}
-use Rattle.fm_workers.specs.Summing.{end_of}
-use Rattle.fm_workers.specs.Tallies.{EndsTallying, Tallies, Tallying, all_numbers}
-use Rattle.fm_workers.specs.Tally.{IsCounted, TalliedBy, all_listed}
-use Rattle.fm_workers.proofs.Numbers.{how_many-append}
-use Rattle.fm_workers.proofs.Totals.{TookAll}
+use Rattle.fm_workers.specs.{declared.tallier.Tallier.{Tallier}, Counts.{AreCounts, how_many, listed, number_of}, Summing.{end_of}}
+use Rattle.fm_workers.specs.{Tallies.{EndsTallying, Tallies, Tallying, all_numbers}, Tally.{IsCounted, TalliedBy, all_listed}}
+use Rattle.fm_workers.proofs.{Numbers.{how_many-append}, Totals.{TookAll}}
 
 module _ (w : Tallying) (more : List Entry) where
   -- what each of a crew took and counted

@@ -1,21 +1,11 @@
 -- No more numbers are listed than a segment has bytes, so the counts of all shares can be added.
-use Rattle.std.proofs.Common.{◌≡◌, ℕ, ◌*◌, ◌/◌, ◌≤◌, List, [], ◌∷◌, length, ap, ◌∙◌, subst, refl, arith, Ok}
-use Rattle.std.specs.Prelude.{ℤ}
-use Rattle.std.proofs.Math.Nat.{div-mul-le_self}
-use Rattle.fm_base.specs.declared.caller.Caller.{Caller}
-use Rattle.fm_base.specs.Calls.{Entry}
+use Rattle.std.{proofs.{Common.{◌≡◌, ℕ, ◌*◌, ◌/◌, ◌≤◌, List, [], ◌∷◌, length, ap, ◌∙◌, subst, refl, arith, Ok}, Math.Nat.{div-mul-le_self}}, specs.Prelude.{ℤ}}
+use Rattle.fm_base.specs.{declared.caller.Caller.{Caller}, Calls.{Entry}}
 use Rattle.fm_segment.specs.Region.{Region}
 use Rattle.fm_records_query.specs.Plan.{IsPlan, Plan}
-use Rattle.fm_records.specs.declared.found.Found.{Found}
-use Rattle.fm_records.specs.declared.found.Found.TheVariants.{Listed}
-use Rattle.fm_records.specs.Adds.{AddsRecords}
-use Rattle.fm_records.specs.Query.{DoesQuery}
-use Rattle.fm_records.specs.Reads.{record_places}
-use Rattle.fm_records.specs.Shares.{AreCut, AreDone, Share, behind}
-use Rattle.fm_records.proofs.Behind.{length-record_places}
-use Rattle.fm_workers.specs.Counts.{IsTally, how_many, listed}
-use Rattle.fm_workers.specs.Tally.{all_listed}
-use Rattle.fm_workers.proofs.ByRuns.{AddsListed, none_found, records_add}
+use Rattle.fm_records.specs.{declared.found.Found.{Found, TheVariants.{Listed}}, Adds.{AddsRecords}, Query.{DoesQuery}, Reads.{record_places}}
+use Rattle.fm_records.{specs.Shares.{AreCut, AreDone, Share, behind}, proofs.Behind.{length-record_places}}
+use Rattle.fm_workers.{specs.{Counts.{IsTally, how_many, listed}, Tally.{all_listed}}, proofs.ByRuns.{AddsListed, none_found, records_add}}
 use Rattle.fm_workers.proofs.Numbers.{how_many-append, how_many-most}
 
 -- what is listed over a region: numbers alone, no more than it has bytes

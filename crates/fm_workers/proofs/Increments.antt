@@ -1,19 +1,10 @@
 -- Counts that are added to, each in a visit of its own.
 use Rattle.std.proofs.Common.{◌≡◌, ◌≢◌, ℕ, ◌+◌, ◌*◌, ◌<◌, ◌≤◌, List, [], ◌∷◌, ◌++◌, slice_index, refl, sym, ap, ◌∙◌, subst, arith, None, Ok, Err}
-use Rattle.fm_base.specs.declared.caller.Caller.{Caller}
-use Rattle.fm_base.specs.declared.arena_id.ArenaId.{ArenaId}
-use Rattle.fm_base.specs.declared.refusal.Refusal.{Refusal}
-use Rattle.fm_base.specs.declared.refusal.Refusal.TheVariants.{Closed, WrongThread}
-use Rattle.fm_base.specs.Arenas.{MayUse}
-use Rattle.fm_base.specs.Calls.{Add, Entry, Fine, Found, Leave}
-use Rattle.fm_base.specs.Does.{CanReach, DoesAct, DoesEnter}
-use Rattle.fm_base.specs.Outcomes.{Lasts}
-use Rattle.fm_base.specs.View.{Did, Makes, View, given_in}
-use Rattle.fm_base.specs.Visits.{visit}
-use Rattle.fm_base.proofs.Making.{Makes-none, Makes-then}
+use Rattle.fm_base.specs.declared.{caller.Caller.{Caller}, arena_id.ArenaId.{ArenaId}, refusal.Refusal.{Refusal, TheVariants.{Closed, WrongThread}}}
+use Rattle.fm_base.specs.{Arenas.{MayUse}, Calls.{Add, Entry, Fine, Found, Leave}, Does.{CanReach, DoesAct, DoesEnter}, Outcomes.{Lasts}}
+use Rattle.fm_base.{specs.{View.{Did, Makes, View, given_in}, Visits.{visit}}, proofs.Making.{Makes-none, Makes-then}}
 use Rattle.fm_base.proofs.Visiting.{can_reach, entered_makes, visit_of_one}
-use Rattle.fm_segment.proofs.Access.{known_still}
-use Rattle.fm_segment.specs.Region.{Region}
+use Rattle.fm_segment.{proofs.Access.{known_still}, specs.Region.{Region}}
 use Rattle.fm_workers.specs.Adding.{AddsAt, AddsBelow, CanAdd, DoesAdd, DoesAddOne, add_visit, adds, count_word, nothing, one_more}
 
 -- ---- one count

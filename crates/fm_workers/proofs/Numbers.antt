@@ -1,8 +1,6 @@
 -- How often numbers come, counted one by one.
 use Rattle.std.proofs.Common.{◌≡◌, ◌≢◌, ℕ, zero, suc, take, ◌+◌, ◌-◌, ◌<◌, ◌≤◌, ◌==◌, Bool, true, false, if◌then◌else◌, List, [], ◌∷◌, ◌++◌, length, slice_index, slice_set, refl, sym, ap, ◌∙◌, subst, append_assoc, arith, nat_lt, replicate}
-use Rattle.std.specs.Prelude.{ℤ, pos, negsuc, slice_index_or}
-use Rattle.std.specs.Ordering.{int_eq}
-use Rattle.std.proofs.Math.Seq.{take-suc}
+use Rattle.std.{specs.{Prelude.{ℤ, pos, negsuc, slice_index_or}, Ordering.{int_eq}}, proofs.Math.Seq.{take-suc}}
 use Rattle.std.proofs.lemmas.Bool.Decides.{nat_tests, Decides-int_eq}
 use Rattle.std.proofs.lemmas.List.{get_or-set_same, get_or-set_other, length-set, get_or-replicate, length-replicate}
 use Rattle.fm_workers.specs.Counts.{how_many, number_of, AreCounts, AreSums}

@@ -1,52 +1,26 @@
 -- What a query by a crew comes to.
-use Rattle.fm_workers.specs.Asking.{known_later}
-use Rattle.fm_records.proofs.Few.{few_answer}
-use Rattle.fm_segment.specs.Access.{IsKnown}
-use Rattle.fm_rule_calls.specs.Kept.{Lasts}
-use Rattle.fm_rule_calls.specs.Told.{view_of_pass}
-use Rattle.std.proofs.Common.{◌≡◌, ℕ, ◌/◌, ◌%◌, ◌<◌, ◌≤◌, List, [], length, refl, sym, ap, ◌∙◌, subst, arith, inl, inr, Result, Ok, Err}
-use Rattle.std.specs.Prelude.{⊤}
-use Rattle.std.specs.List.{AllByRecursion}
-use Rattle.std.proofs.lemmas.List.{length-map}
-use Rattle.fm_base.specs.declared.arena_id.ArenaId.{ArenaId}
-use Rattle.fm_base.specs.declared.kind.Kind.TheVariants.{Confined}
-use Rattle.fm_base.specs.declared.refusal.Refusal.{Refusal}
-use Rattle.fm_base.specs.declared.refusal.Refusal.TheVariants.{Ragged, WrongThread, Closed, NoPass, Memory}
-use Rattle.fm_base.specs.Calls.{Entry}
-use Rattle.fm_base.specs.declared.caller.Caller.{Caller}
-use Rattle.fm_base.specs.Finds.{Find, Gathered}
-use Rattle.fm_base.specs.Histories.{made_by}
+use Rattle.fm_workers.specs.{Asking.{known_later}, Beside.{AskedBeside}, Query.{OnlyReads, HasAnswered, IsOpenToAll, EndsQuery, QueriedWith}}
+use Rattle.fm_workers.{specs.Taking.{Asking, CanTakeBatch, Takes}, proofs.Asked.{idle_reads}}
+use Rattle.fm_workers.proofs.Taking.{HaveStopped, crew_answered, each_took, none_refused, some_refused, takers_count, takers_read, takers_took}
+use Rattle.fm_workers.proofs.{Touching.{tasks_count}, Sparing.{is_answer}}
+use Rattle.fm_records.{proofs.{Few.{few_answer}, Sharing.{shares_join}}, specs.{declared.found.Found.{Found}, Few.{AreFew}}}
+use Rattle.fm_segment.specs.{Access.{IsKnown}, Region.{Region}}
+use Rattle.fm_rule_calls.specs.{Kept.{Lasts}, Told.{view_of_pass}}
+use Rattle.std.{proofs.Common.{◌≡◌, ℕ, ◌/◌, ◌%◌, ◌<◌, ◌≤◌, List, [], length, refl, sym, ap, ◌∙◌, subst, arith, inl, inr, Result, Ok, Err}, specs.Prelude.{⊤}}
+use Rattle.std.{specs.List.{AllByRecursion}, proofs.lemmas.List.{length-map}}
+use Rattle.fm_base.specs.declared.{arena_id.ArenaId.{ArenaId}, kind.Kind.TheVariants.{Confined}, refusal.Refusal.{Refusal}}
+use Rattle.fm_base.specs.{declared.{refusal.Refusal.TheVariants.{Ragged, WrongThread, Closed, NoPass, Memory}, caller.Caller.{Caller}}, Calls.{Entry}}
+use Rattle.fm_base.specs.{Finds.{Find, Gathered}, Histories.{made_by}}
 use Rattle.fm_rule.specs.declared.pool.Pool.{Pool}
 use Rattle.fm_rule_facts.specs.Views.{View, IsSound}
-use Rattle.fm_segment.specs.Region.{Region}
 use Rattle.fm_records_query.specs.Plan.{Plan}
-use Rattle.fm_records.specs.declared.found.Found.{Found}
-use Rattle.fm_records.specs.Few.{AreFew}
-use Rattle.fm_workers_crew.specs.Crew.{AreTooMany, CrewGathered, CrewWorked, IsWhole, by_caller, callers}
-use Rattle.fm_workers_shares.specs.declared.batch.Batch.{Batch}
-use Rattle.fm_workers_shares.specs.declared.taker.Taker.{Taker}
-use Rattle.fm_workers_shares.specs.Answered.{AnsweredBy}
-use Rattle.fm_workers_shares.specs.Batches.{begun, nones}
-use Rattle.fm_workers_shares.specs.Finishing.{CanFinish, Finishes, answers_of}
-use Rattle.fm_workers_shares.specs.Placing.{all_done}
-use Rattle.fm_workers_shares.specs.Shares.{each_of, many_of}
-use Rattle.fm_workers_shares.proofs.Places.{all_placed, length-nones, length-placed}
+use Rattle.fm_workers_crew.specs.{Crew.{AreTooMany, CrewGathered, CrewWorked, IsWhole, by_caller, callers}, Beside.{WorkedBeside}}
+use Rattle.fm_workers_crew.proofs.{Callers.{AreDoneBy, done_by_crew, worked_by_callers}, Working.{nobody, lasts_none}}
+use Rattle.fm_workers_shares.specs.{declared.{batch.Batch.{Batch}, taker.Taker.{Taker}}, Answered.{AnsweredBy}, Batches.{begun, nones}}
+use Rattle.fm_workers_shares.specs.{Finishing.{CanFinish, Finishes, answers_of}, Placing.{all_done}, Shares.{each_of, many_of}}
+use Rattle.fm_workers_shares.{proofs.{Places.{all_placed, length-nones, length-placed}, Settling.{all_among, all_of_dones, dones}}, specs.Taking.{jobs_of}}
+use Rattle.fm_workers_shares.proofs.{Sharing.{IsAnsweredAt}, Standing.{answered_by}}
 use Rattle.fm_workers_jobs.specs.Turns.{HasAccount, times}
-use Rattle.fm_workers_shares.specs.Taking.{jobs_of}
-use Rattle.fm_workers_shares.proofs.Settling.{all_among, all_of_dones, dones}
-use Rattle.fm_workers_shares.proofs.Sharing.{IsAnsweredAt}
-use Rattle.fm_workers_shares.proofs.Standing.{answered_by}
-use Rattle.fm_records.proofs.Sharing.{shares_join}
-use Rattle.fm_workers.specs.Beside.{AskedBeside}
-use Rattle.fm_workers.specs.Query.{OnlyReads, HasAnswered, IsOpenToAll, EndsQuery, QueriedWith}
-use Rattle.fm_workers.specs.Taking.{Asking, CanTakeBatch, Takes}
-use Rattle.fm_workers_crew.specs.Beside.{WorkedBeside}
-use Rattle.fm_workers_crew.proofs.Callers.{AreDoneBy, done_by_crew, worked_by_callers}
-use Rattle.fm_workers.proofs.Asked.{idle_reads}
-use Rattle.fm_workers.proofs.Taking.{HaveStopped, crew_answered, each_took, none_refused, some_refused, takers_count, takers_read, takers_took}
-use Rattle.fm_workers.proofs.Touching.{tasks_count}
-use Rattle.fm_workers_crew.proofs.Working.{nobody, lasts_none}
-use Rattle.fm_workers.proofs.Sparing.{is_answer}
 
 pub many : (gs : List Gathered) → length (callers gs) ≡ length gs
 many gs = length-map gs (λ (g : Gathered). g.caller)

@@ -1,17 +1,12 @@
 -- What a caller reads of shares.
 use Rattle.std.proofs.Common.{ℕ, ◌+◌, ◌/◌, List, [], ◌∷◌, ◌++◌, refl, sym, subst, arith}
-use Rattle.fm_base.specs.declared.caller.Caller.{Caller}
-use Rattle.fm_base.specs.Calls.{Entry}
+use Rattle.fm_base.specs.{declared.caller.Caller.{Caller}, Calls.{Entry}}
 use Rattle.fm_segment.specs.Region.{Region}
 use Rattle.fm_records_query.specs.Plan.{Plan}
-use Rattle.fm_records.specs.Reads.{AreReads}
-use Rattle.fm_records.proofs.Visiting.{AreReads-append, AreReads-none, StopsReading-after}
-use Rattle.fm_workers_shares.specs.declared.taker.Done.{Done}
-use Rattle.fm_workers_shares.specs.Shares.{share_of, start_of}
-use Rattle.fm_workers_shares.specs.Taking.{DoesEach}
+use Rattle.fm_records.{specs.Reads.{AreReads}, proofs.Visiting.{AreReads-append, AreReads-none, StopsReading-after}}
+use Rattle.fm_workers_shares.specs.{declared.taker.Done.{Done}, Shares.{share_of, start_of}, Taking.{DoesEach}}
 use Rattle.fm_workers_shares.proofs.Numbers.{run_fits, start_order, start_within}
-use Rattle.fm_workers.specs.Query.{OnlyReads, reads, stops}
-use Rattle.fm_workers.proofs.Asked.{IsWithin, reads_wider}
+use Rattle.fm_workers.{specs.Query.{OnlyReads, reads, stops}, proofs.Asked.{IsWithin, reads_wider}}
 
 -- Each share lies in the segment.
 pub share_lies : (p : Plan) (s : Region) (each k : ℕ) → IsWithin (share_of p s each k) s

@@ -1,27 +1,17 @@
 -- What is answered where nobody else writes.
-use Rattle.std.proofs.Common.{◌≡◌, ◌≢◌, ℕ, Bool, true, false, List, [], ◌∷◌, ◌++◌, sym, ◌∙◌, subst, inl, inr, ⊎_elim}
-use Rattle.std.specs.Prelude.{◌⊎◌, cond}
+use Rattle.std.{proofs.Common.{◌≡◌, ◌≢◌, ℕ, Bool, true, false, List, [], ◌∷◌, ◌++◌, sym, ◌∙◌, subst, inl, inr, ⊎_elim}, specs.Prelude.{◌⊎◌, cond}}
 use Rattle.std.specs.List.{AllByRecursion, flat_map}
-use Rattle.fm_base_lists.specs.Among.{IsAmong}
-use Rattle.fm_base_lists.proofs.Each.{all_both}
-use Rattle.fm_base.specs.declared.caller.Caller.{Caller}
-use Rattle.fm_base.specs.declared.arena_id.ArenaId.{ArenaId}
-use Rattle.fm_base.specs.Arenas.{are_one}
-use Rattle.fm_base.specs.Calls.{Entry}
-use Rattle.fm_base.specs.Histories.{made_by}
-use Rattle.fm_base.specs.Untouched.{Spares}
-use Rattle.fm_base.specs.Visits.{refused_visit}
+use Rattle.fm_base_lists.{specs.Among.{IsAmong}, proofs.Each.{all_both}}
+use Rattle.fm_base.specs.{declared.{caller.Caller.{Caller}, arena_id.ArenaId.{ArenaId}}, Arenas.{are_one}, Calls.{Entry}, Histories.{made_by}}
+use Rattle.fm_base.specs.{Untouched.{Spares}, Visits.{refused_visit}}
 use Rattle.fm_rule_facts.specs.Views.{View, IsSound, limit_of, state_in}
 use Rattle.fm_rule_calls.proofs.Going.{reached_by}
 use Rattle.fm_segment.specs.Region.{Region}
 use Rattle.fm_records_query.specs.Plan.{Plan, IsPlan}
-use Rattle.fm_records.specs.declared.found.Found.{Found}
-use Rattle.fm_records.specs.Reads.{read_visit}
-use Rattle.fm_records.specs.Shares.{Share, AreSpared, IsSpared}
+use Rattle.fm_records.specs.{declared.found.Found.{Found}, Reads.{read_visit}, Shares.{Share, AreSpared, IsSpared}}
 use Rattle.fm_records.proofs.Sharing.{shares_answer, shares_read}
 use Rattle.fm_workers_shares.specs.Answered.{AnsweredBy}
-use Rattle.fm_workers.specs.Query.{OnlyReads, reads, stops, NobodyElseWrites, IsAnswer}
-use Rattle.fm_workers.specs.Tally.{OnlyAddsTo, OnlyTallies, closed, no_more, one_add}
+use Rattle.fm_workers.specs.{Query.{OnlyReads, reads, stops, NobodyElseWrites, IsAnswer}, Tally.{OnlyAddsTo, OnlyTallies, closed, no_more, one_add}}
 use Rattle.fm_workers_crew.proofs.Working.{nobody}
 use Rattle.fm_base_machine.proofs.Putting.{are_one-equal}
 

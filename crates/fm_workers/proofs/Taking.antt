@@ -1,39 +1,19 @@
 -- What takers did, each as a pass of its own.
 use Rattle.std.proofs.Common.{◌≡◌, ◌≢◌, ℕ, ◌+◌, ◌-◌, ◌/◌, ◌%◌, List, [], ◌∷◌, ◌++◌, length, refl, sym, ap, ◌∙◌, subst, arith, inl, inr, ⊎_elim, Result, Ok, Err}
-use Rattle.std.specs.Prelude.{◌⊎◌}
-use Rattle.std.specs.List.{AllByRecursion, AllZip}
-use Rattle.std.proofs.Math.Nat.{mul-mod_left}
-use Rattle.std.proofs.lemmas.List.{append-nil}
-use Rattle.fm_base_lists.specs.Among.{IsAmong}
-use Rattle.fm_base_lists.proofs.Each.{all_both}
-use Rattle.fm_base.specs.declared.caller.Caller.{Caller}
-use Rattle.fm_base.specs.declared.kind.Kind.TheVariants.{Confined}
-use Rattle.fm_base.specs.declared.refusal.Refusal.{Refusal}
-use Rattle.fm_base.specs.declared.refusal.Refusal.TheVariants.{Closed, Memory}
-use Rattle.fm_base.specs.Arenas.{MayUse}
-use Rattle.fm_base.specs.Calls.{Entry}
-use Rattle.fm_base.specs.Histories.{made_by}
+use Rattle.std.{specs.{Prelude.{◌⊎◌}, List.{AllByRecursion, AllZip}}, proofs.{Math.Nat.{mul-mod_left}, lemmas.List.{append-nil}}}
+use Rattle.fm_base_lists.{specs.Among.{IsAmong}, proofs.Each.{all_both}}
+use Rattle.fm_base.specs.declared.{caller.Caller.{Caller}, kind.Kind.TheVariants.{Confined}, refusal.Refusal.{Refusal, TheVariants.{Closed, Memory}}}
+use Rattle.fm_base.specs.{Arenas.{MayUse}, Calls.{Entry}, Histories.{made_by}}
 use Rattle.fm_rule_calls.specs.Told.{view_of_pass}
 use Rattle.fm_rule_facts.specs.Views.{View}
-use Rattle.fm_segment.specs.Access.{IsKnown}
-use Rattle.fm_segment.specs.Region.{Region}
+use Rattle.fm_segment.specs.{Access.{IsKnown}, Region.{Region}}
 use Rattle.fm_records_query.specs.Plan.{Plan}
-use Rattle.fm_records.specs.Reads.{AreReads, StopsReading}
-use Rattle.fm_records.proofs.Visiting.{StopsReading-after}
-use Rattle.fm_workers_shares.specs.declared.taker.Done.{Done}
-use Rattle.fm_workers_shares.specs.declared.taker.Taker.{Taker}
-use Rattle.fm_workers_shares.specs.Finishing.{HasTaken}
-use Rattle.fm_workers_shares.specs.Placing.{all_done, end_of}
-use Rattle.fm_workers_shares.specs.Shares.{share_of, start_of}
-use Rattle.fm_workers_shares.specs.Taking.{DoesEach, EndsTaking, IsReady, TakesShares}
-use Rattle.fm_workers_shares.proofs.Each.{answered_each}
-use Rattle.fm_workers_shares.proofs.Ends.{both_ended, either_refused}
-use Rattle.fm_workers_shares.proofs.Settling.{dones}
-use Rattle.fm_workers_shares.proofs.Sharing.{IsAnsweredAt}
-use Rattle.fm_workers.specs.Query.{FoundClosed, HasAnswered, IsFirstRefused, OnlyReads, WantedMemory, reads}
-use Rattle.fm_workers.specs.Taking.{Asking, CanTakeShares, Takes}
-use Rattle.fm_workers.proofs.Asked.{query_reads, stopped_by, stops_wider}
-use Rattle.fm_workers.proofs.Reading.{each_read, reads_after, share_lies}
+use Rattle.fm_records.{specs.Reads.{AreReads, StopsReading}, proofs.Visiting.{StopsReading-after}}
+use Rattle.fm_workers_shares.specs.{declared.taker.{Done.{Done}, Taker.{Taker}}, Finishing.{HasTaken}, Placing.{all_done, end_of}, Shares.{share_of, start_of}}
+use Rattle.fm_workers_shares.{specs.Taking.{DoesEach, EndsTaking, IsReady, TakesShares}, proofs.{Each.{answered_each}, Ends.{both_ended, either_refused}}}
+use Rattle.fm_workers_shares.proofs.{Settling.{dones}, Sharing.{IsAnsweredAt}}
+use Rattle.fm_workers.specs.{Query.{FoundClosed, HasAnswered, IsFirstRefused, OnlyReads, WantedMemory, reads}, Taking.{Asking, CanTakeShares, Takes}}
+use Rattle.fm_workers.proofs.{Asked.{query_reads, stopped_by, stops_wider}, Reading.{each_read, reads_after, share_lies}}
 use Rattle.fm_workers_crew.proofs.Callers.{AreDoneBy}
 
 -- memory was wanting, or the first that was refused found the arena closed

@@ -1,57 +1,28 @@
 -- What a tally by a crew comes to.
 use Rattle.std.proofs.Common.{◌≡◌, ℕ, ◌/◌, ◌%◌, ◌^◌, ◌<◌, ◌≤◌, List, [], length, refl, sym, ap, ◌∙◌, subst, arith, inl, inr, ⊎_elim, Result, Ok, Err}
-use Rattle.std.specs.Prelude.{◌⊎◌, ⊤, ℤ}
-use Rattle.std.specs.List.{AllByRecursion, range_with_len}
-use Rattle.fm_base_lists.specs.Among.{IsAmong}
-use Rattle.fm_base_lists.proofs.Each.{all_among, all_weaker}
-use Rattle.fm_base.specs.declared.arena_id.ArenaId.{ArenaId}
-use Rattle.fm_base.specs.declared.kind.Kind.TheVariants.{Confined}
-use Rattle.fm_base.specs.declared.refusal.Refusal.{Refusal}
-use Rattle.fm_base.specs.declared.refusal.Refusal.TheVariants.{Unsupported, Ragged, WrongThread, Closed, NoPass, Memory}
-use Rattle.fm_base.specs.Arenas.{word_in}
-use Rattle.fm_base.specs.Calls.{Entry}
-use Rattle.fm_base.specs.Counting.{OnlyAdds}
-use Rattle.fm_base.specs.Finds.{Gathered}
-use Rattle.fm_base.specs.Histories.{made_by}
-use Rattle.fm_base.specs.Untouched.{Spares}
-use Rattle.fm_base.proofs.Counting.{counted as word_counted}
+use Rattle.std.specs.{Prelude.{◌⊎◌, ⊤, ℤ}, List.{AllByRecursion, range_with_len}}
+use Rattle.fm_base_lists.{specs.Among.{IsAmong}, proofs.Each.{all_among, all_weaker}}
+use Rattle.fm_base.specs.declared.{arena_id.ArenaId.{ArenaId}, kind.Kind.TheVariants.{Confined}, refusal.Refusal.{Refusal}}
+use Rattle.fm_base.specs.{declared.refusal.Refusal.TheVariants.{Unsupported, Ragged, WrongThread, Closed, NoPass, Memory}, Arenas.{word_in}, Calls.{Entry}}
+use Rattle.fm_base.{specs.{Counting.{OnlyAdds}, Finds.{Gathered}, Histories.{made_by}, Untouched.{Spares}}, proofs.Counting.{counted as word_counted}}
 use Rattle.fm_rule.specs.declared.pool.Pool.{Pool}
 use Rattle.fm_rule_facts.specs.Views.{IsSound, View, limit_of, state_in}
-use Rattle.fm_rule_calls.proofs.Going.{reached_by}
-use Rattle.fm_rule_calls.specs.Kept.{Lasts}
-use Rattle.fm_rule_calls.specs.Told.{view_of_pass}
-use Rattle.fm_segment.specs.Access.{IsKnown}
-use Rattle.fm_segment.specs.Region.{Region}
+use Rattle.fm_rule_calls.{proofs.Going.{reached_by}, specs.{Kept.{Lasts}, Told.{view_of_pass}}}
+use Rattle.fm_segment.specs.{Access.{IsKnown}, Region.{Region}}
 use Rattle.fm_records_query.specs.Plan.{Plan}
-use Rattle.fm_records.specs.Shares.{IsSpared, Share}
-use Rattle.fm_records.proofs.Sharing.{shares_answer, shares_read}
-use Rattle.fm_workers_jobs.specs.declared.account.Account.{Account}
-use Rattle.fm_workers_jobs.specs.Turns.{IsOf, account_of, times}
-use Rattle.fm_workers_shares.specs.Answered.{all_of}
-use Rattle.fm_workers_shares.specs.Batches.{begun, nones}
-use Rattle.fm_workers_shares.specs.Placing.{placed}
-use Rattle.fm_workers_shares.specs.Shares.{each_of, many_of}
-use Rattle.fm_workers_shares.specs.Taking.{jobs_of}
+use Rattle.fm_records.{specs.Shares.{IsSpared, Share}, proofs.Sharing.{shares_answer, shares_read}}
+use Rattle.fm_workers_jobs.specs.{declared.account.Account.{Account}, Turns.{IsOf, account_of, times}}
+use Rattle.fm_workers_shares.specs.{Answered.{all_of}, Batches.{begun, nones}, Placing.{placed}, Shares.{each_of, many_of}, Taking.{jobs_of}}
 use Rattle.fm_workers_shares.proofs.Standing.{HasShares}
-use Rattle.fm_workers_crew.specs.Crew.{AreTooMany, CrewGathered, CrewWorked, IsWhole, by_caller, callers}
-use Rattle.fm_workers_crew.proofs.Callers.{AreDoneBy, worked_by_callers}
+use Rattle.fm_workers_crew.{specs.Crew.{AreTooMany, CrewGathered, CrewWorked, IsWhole, by_caller, callers}, proofs.Callers.{AreDoneBy, worked_by_callers}}
 use Rattle.fm_workers_crew.proofs.Working.{lasts_none, nobody}
-use Rattle.fm_workers.specs.declared.tallier.Tallier.{Tallier}
-use Rattle.fm_workers.specs.declared.tally_batch.TallyBatch.{TallyBatch}
-use Rattle.fm_workers.specs.Adding.{count_word}
-use Rattle.fm_workers.specs.Asking.{known_later}
-use Rattle.fm_workers.specs.Counts.{AreCounts, IsTally, how_many, listed, number_of}
-use Rattle.fm_workers.specs.Query.{NobodyElseWrites}
-use Rattle.fm_workers.specs.Summing.{AreTotals, CanTallyBatch, CanTotal, HaveEnded, PassTotals, Totals}
-use Rattle.fm_workers.specs.Tallies.{Tallies, Tallying, all_numbers}
+use Rattle.fm_workers.specs.{declared.{tallier.Tallier.{Tallier}, tally_batch.TallyBatch.{TallyBatch}}, Adding.{count_word}, Asking.{known_later}}
+use Rattle.fm_workers.specs.{Counts.{AreCounts, IsTally, how_many, listed, number_of}, Query.{NobodyElseWrites}}
+use Rattle.fm_workers.specs.{Summing.{AreTotals, CanTallyBatch, CanTotal, HaveEnded, PassTotals, Totals}, Tallies.{Tallies, Tallying, all_numbers}}
 use Rattle.fm_workers.specs.Tally.{AreAllRead, AreHeld, AreTheCounts, CanBeTallied, EndsTally, LeavesWord, OnlyTallies, TalliedBy, TalliedWith}
-use Rattle.fm_workers.proofs.Added.{by_crew, crew_adds}
-use Rattle.fm_workers.proofs.Counted.{listed_joined}
-use Rattle.fm_workers.proofs.CountedShares.{HaveCounted, counted_shares, have_counted, same_numbers, tallied_by}
-use Rattle.fm_workers.proofs.FewCounted.{shares_list}
-use Rattle.fm_workers.proofs.Queried.{even_of, many}
-use Rattle.fm_workers.proofs.Sparing.{by_either, tallies_spare}
-use Rattle.fm_workers.proofs.Totals.{passes_counted, taken_once, totals_counted}
+use Rattle.fm_workers.proofs.{Added.{by_crew, crew_adds}, Counted.{listed_joined}}
+use Rattle.fm_workers.proofs.{CountedShares.{HaveCounted, counted_shares, have_counted, same_numbers, tallied_by}, FewCounted.{shares_list}}
+use Rattle.fm_workers.proofs.{Queried.{even_of, many}, Sparing.{by_either, tallies_spare}, Totals.{passes_counted, taken_once, totals_counted}}
 use Rattle.fm_workers.proofs.Touching.{HaveStopped, are_takers, crew_stops, crew_tallies, idle_tallies, talliers_count, tasks_count}
 
 -- the refusals before the first draw

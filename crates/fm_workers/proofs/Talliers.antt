@@ -1,34 +1,17 @@
 -- A tallier counts a share, and then the next, and adds what it counted.
 use Rattle.std.proofs.Common.{◌≡◌, ◌≢◌, ℕ, ◌+◌, ◌-◌, ◌/◌, ◌%◌, List, [], ◌∷◌, ◌++◌, None, Some, refl, sym, ap, ◌∙◌, subst, append_assoc, Result, Ok, Err}
-use Rattle.std.specs.Prelude.{ℤ}
-use Rattle.std.specs.List.{AllByRecursion}
-use Rattle.std.proofs.Math.Nat.{mul-mod_left}
-use Rattle.std.proofs.lemmas.List.{append-nil, map-append}
-use Rattle.fm_base.specs.declared.caller.Caller.{Caller}
-use Rattle.fm_base.specs.declared.kind.Kind.TheVariants.{Confined}
-use Rattle.fm_base.specs.declared.refusal.Refusal.{Refusal}
-use Rattle.fm_base.specs.Calls.{Entry}
-use Rattle.fm_base.specs.View.{Did, Makes, View}
-use Rattle.fm_base.proofs.Making.{Makes-none, Makes-then}
-use Rattle.fm_base.proofs.Outcomes.{Makes-lasts}
+use Rattle.std.{specs.{Prelude.{ℤ}, List.{AllByRecursion}}, proofs.{Math.Nat.{mul-mod_left}, lemmas.List.{append-nil, map-append}}}
+use Rattle.fm_base.specs.{declared.{caller.Caller.{Caller}, kind.Kind.TheVariants.{Confined}, refusal.Refusal.{Refusal}}, Calls.{Entry}}
+use Rattle.fm_base.{specs.View.{Did, Makes, View}, proofs.{Making.{Makes-none, Makes-then}, Outcomes.{Makes-lasts}}}
 use Rattle.fm_rule_facts.specs.Views.{View as Passes}
 use Rattle.fm_rule_calls.specs.Told.{view_of_pass}
-use Rattle.fm_segment.specs.Access.{IsKnown}
-use Rattle.fm_segment.specs.Region.{Region}
-use Rattle.fm_segment.proofs.Access.{known_still}
+use Rattle.fm_segment.{specs.{Access.{IsKnown}, Region.{Region}}, proofs.Access.{known_still}}
 use Rattle.fm_records_query.specs.Plan.{IsPlan, Plan}
-use Rattle.fm_workers_jobs.specs.declared.account.Account.{Account}
-use Rattle.fm_workers_jobs.specs.declared.jobs.Jobs.{Jobs}
-use Rattle.fm_workers_jobs.specs.Accounts.{after_take}
+use Rattle.fm_workers_jobs.specs.{declared.{account.Account.{Account}, jobs.Jobs.{Jobs}}, Accounts.{after_take}}
 use Rattle.fm_workers_jobs.specs.Turns.{CanTake, HasAccount, IsTaker, Turn, account_of}
-use Rattle.fm_workers_shares.specs.declared.taker.Done.{Done}
-use Rattle.fm_workers_shares.specs.Shares.{share_of, start_of}
-use Rattle.fm_workers_shares.specs.Taking.{DoesEach, DoesShare, jobs_of, took}
-use Rattle.fm_workers_shares.proofs.Each.{DoesEach-more}
-use Rattle.fm_workers_shares.proofs.Serving.{can_query_share}
-use Rattle.fm_workers.specs.declared.tallier.Tallier.{Tallier}
-use Rattle.fm_workers.specs.Adding.{DoesAdd, HasCounts}
-use Rattle.fm_workers.specs.Counts.{AreCounts, AreSums, IsTally, listed}
+use Rattle.fm_workers_shares.specs.{declared.taker.Done.{Done}, Shares.{share_of, start_of}, Taking.{DoesEach, DoesShare, jobs_of, took}}
+use Rattle.fm_workers_shares.proofs.{Each.{DoesEach-more}, Serving.{can_query_share}}
+use Rattle.fm_workers.specs.{declared.tallier.Tallier.{Tallier}, Adding.{DoesAdd, HasCounts}, Counts.{AreCounts, AreSums, IsTally, listed}}
 use Rattle.fm_workers.specs.Tallies.{CanCount, CanCountShares, CanTally, CountsShare, CountsTaken, DoesCount, EndsTallying, IsReady, StopsCounting, Tallying, all_numbers, unadded, uncounted}
 use Rattle.fm_workers.proofs.Numbers.{both_counted}
 

@@ -1,24 +1,13 @@
 -- What talliers counted together, and their turns taken back.
-use Rattle.std.proofs.Common.{◌≡◌, ℕ, ◌^◌, ◌<◌, ◌≤◌, List, [], ◌∷◌, length, sym, ap, ◌∙◌, subst, arith, inl, inr, Result, Ok, Err}
-use Rattle.std.specs.Prelude.{ℤ}
-use Rattle.std.specs.List.{AllZip, range_with_len}
-use Rattle.std.proofs.lemmas.List.{length-map}
+use Rattle.std.{proofs.Common.{◌≡◌, ℕ, ◌^◌, ◌<◌, ◌≤◌, List, [], ◌∷◌, length, sym, ap, ◌∙◌, subst, arith, inl, inr, Result, Ok, Err}, specs.Prelude.{ℤ}}
+use Rattle.std.{specs.List.{AllZip, range_with_len}, proofs.lemmas.List.{length-map}}
 use Rattle.fm_base.specs.declared.refusal.Refusal.{Refusal}
-use Rattle.fm_workers_jobs.specs.declared.account.Account.{Account}
-use Rattle.fm_workers_jobs.specs.declared.jobs.Jobs.{Jobs}
-use Rattle.fm_workers_jobs.specs.Turns.{CanSettle, HasAccount, IsSettled, Turn, account_of, times}
-use Rattle.fm_workers_shares.specs.declared.taker.Done.{Done}
-use Rattle.fm_workers_shares.specs.Answered.{all_of}
-use Rattle.fm_workers_shares.specs.Batches.{begun}
-use Rattle.fm_workers_shares.specs.Taking.{jobs_of, took}
-use Rattle.fm_workers_shares.specs.Placing.{absorbed}
+use Rattle.fm_workers_jobs.specs.{declared.{account.Account.{Account}, jobs.Jobs.{Jobs}}, Turns.{CanSettle, HasAccount, IsSettled, Turn, account_of, times}}
+use Rattle.fm_workers_shares.specs.{declared.taker.Done.{Done}, Answered.{all_of}, Batches.{begun}, Taking.{jobs_of, took}, Placing.{absorbed}}
 use Rattle.fm_workers_shares.proofs.Absorbing.{TookShares, each_once, settles}
-use Rattle.fm_workers.specs.declared.tallier.Tallier.{Tallier}
-use Rattle.fm_workers.specs.Counts.{AreCounts, how_many, number_of}
-use Rattle.fm_workers.specs.Summing.{AreTotals, CanTotal, PassTotals, SumsTo, SumsWith, Totals, end_of, turns_of}
-use Rattle.fm_workers.specs.Tallies.{all_numbers}
-use Rattle.fm_workers.proofs.Numbers.{both_counted, how_many-append}
-use Rattle.fm_workers.proofs.Talliers.{all_numbers-append}
+use Rattle.fm_workers.specs.{declared.tallier.Tallier.{Tallier}, Counts.{AreCounts, how_many, number_of}}
+use Rattle.fm_workers.specs.{Summing.{AreTotals, CanTotal, PassTotals, SumsTo, SumsWith, Totals, end_of, turns_of}, Tallies.{all_numbers}}
+use Rattle.fm_workers.proofs.{Numbers.{both_counted, how_many-append}, Talliers.{all_numbers-append}}
 
 -- ---- turns taken back
 

@@ -1,32 +1,19 @@
 -- What the passes of a tally did.
 use Rattle.std.proofs.Common.{◌≡◌, ℕ, ◌<◌, ◌≤◌, List, [], ◌∷◌, ◌++◌, length, refl, sym, ap, ◌∙◌, subst, arith, append_assoc, inl, inr, ⊎_elim, Result, Ok, Err}
-use Rattle.std.specs.Prelude.{◌⊎◌}
-use Rattle.std.specs.List.{AllByRecursion}
-use Rattle.std.proofs.lemmas.List.{append-nil}
-use Rattle.fm_base.specs.declared.arena_id.ArenaId.{ArenaId}
-use Rattle.fm_base.specs.declared.caller.Caller.{Caller}
-use Rattle.fm_base.specs.declared.refusal.Refusal.{Refusal}
-use Rattle.fm_base.specs.declared.refusal.Refusal.TheVariants.{Closed, Memory}
-use Rattle.fm_base.specs.Calls.{Entry}
-use Rattle.fm_base.specs.Histories.{made_by}
-use Rattle.fm_base.specs.Visits.{refused_visit}
+use Rattle.std.{specs.{Prelude.{◌⊎◌}, List.{AllByRecursion}}, proofs.lemmas.List.{append-nil}}
+use Rattle.fm_base.specs.{declared.{arena_id.ArenaId.{ArenaId}, caller.Caller.{Caller}, refusal.Refusal.{Refusal, TheVariants.{Closed, Memory}}}, Calls.{Entry}}
+use Rattle.fm_base.specs.{Histories.{made_by}, Visits.{refused_visit}}
 use Rattle.fm_segment.specs.Region.{Region}
 use Rattle.fm_records_query.specs.Plan.{Plan}
 use Rattle.fm_records.specs.Reads.{IsWordOf}
 use Rattle.fm_workers_jobs.specs.Turns.{HasAccount, IsTaker, Turn}
-use Rattle.fm_workers_shares.specs.declared.taker.Done.{Done}
-use Rattle.fm_workers_shares.specs.Shares.{share_of}
-use Rattle.fm_workers.specs.declared.tallier.Tallier.{Tallier}
-use Rattle.fm_workers.specs.Adding.{AddsAt, AddsBelow, DoesAdd, HasCounts, adds, count_word, none_yet, nothing, one_more}
-use Rattle.fm_workers.specs.Query.{OnlyReads, reads}
-use Rattle.fm_workers.specs.Summing.{end_of}
+use Rattle.fm_workers_shares.{specs.{declared.taker.Done.{Done}, Shares.{share_of}}, proofs.Ends.{either_refused}}
+use Rattle.fm_workers.specs.{declared.tallier.Tallier.{Tallier}, Adding.{AddsAt, AddsBelow, DoesAdd, HasCounts, adds, count_word, none_yet, nothing, one_more}}
+use Rattle.fm_workers.specs.{Query.{OnlyReads, reads}, Summing.{end_of}}
 use Rattle.fm_workers.specs.Tallies.{DoesCount, EndsTallying, StopsTally, Tallies, TalliesShares, Tallying, took_before, unadded, uncounted}
 use Rattle.fm_workers.specs.Tally.{FoundEitherClosed, HasCounted, IsFirstUncounted, OnlyAddsTo, OnlyTallies, closed, no_more, one_add}
-use Rattle.fm_workers_shares.proofs.Ends.{either_refused}
+use Rattle.fm_workers.proofs.{Asked.{no_reads, stops_count}, Reading.{each_read, reads_after, share_lies}, Talliers.{is_taker}}
 use Rattle.fm_workers_crew.proofs.Callers.{AreDoneBy}
-use Rattle.fm_workers.proofs.Asked.{no_reads, stops_count}
-use Rattle.fm_workers.proofs.Reading.{each_read, reads_after, share_lies}
-use Rattle.fm_workers.proofs.Talliers.{is_taker}
 
 pub tasks_count : {T : Type 0} (Does : Caller → T → T → List Entry → Type 0) (more : List Entry) (cs : List Caller) (ts us : List T)
     → AreDoneBy Does more cs ts us → length cs ≡ length ts

@@ -1,14 +1,8 @@
 -- How a pass adds its counts to those that all passes share.
 use Rattle.std.specs.Prelude.{◌≡◌, ◌≢◌, ℕ, ◌+◌, ◌/◌, ◌%◌, ◌≤◌, List, [], ◌∷◌, ◌++◌, slice_index, None, Result, Ok, Err}
-use Rattle.fm_base.specs.declared.caller.Caller.{Caller}
-use Rattle.fm_base.specs.declared.refusal.Refusal.{Refusal}
-use Rattle.fm_base.specs.declared.refusal.Refusal.TheVariants.{Closed}
-use Rattle.fm_base.specs.Arenas.{MayUse}
-use Rattle.fm_base.specs.Calls.{Add, Found, Entry}
-use Rattle.fm_base.specs.View.{View}
-use Rattle.fm_base.specs.Visits.{visit, refused_visit}
-use Rattle.fm_segment.specs.Access.{IsKnown}
-use Rattle.fm_segment.specs.Region.{Region}
+use Rattle.fm_base.specs.{declared.{caller.Caller.{Caller}, refusal.Refusal.{Refusal, TheVariants.{Closed}}}, Arenas.{MayUse}, Calls.{Add, Found, Entry}}
+use Rattle.fm_base.specs.{View.{View}, Visits.{visit, refused_visit}}
+use Rattle.fm_segment.specs.{Access.{IsKnown}, Region.{Region}}
 
 -- 256 longs that stand aligned
 pub record HasCounts (counts : Region) : Type 0 where

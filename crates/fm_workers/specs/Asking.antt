@@ -1,12 +1,9 @@
 -- What is known is known later, so shares can be counted later too.
-use Rattle.fm_segment.specs.Region.{Region}
-use Rattle.fm_segment.specs.Access.{IsKnown}
-use Rattle.fm_rule_calls.specs.Told.{view_of_pass}
+use Rattle.fm_segment.specs.{Region.{Region}, Access.{IsKnown}}
+use Rattle.fm_rule_calls.specs.{Told.{view_of_pass}, Kept.{Lasts}}
 use Rattle.std.proofs.Common.{le_trans}
 use Rattle.fm_rule_facts.specs.Views.{View}
-use Rattle.fm_rule_calls.specs.Kept.{Lasts}
-use Rattle.fm_workers.specs.declared.tallier.Tallier.{Tallier}
-use Rattle.fm_workers.specs.Tallies.{CanTally, Tallying}
+use Rattle.fm_workers.specs.{declared.tallier.Tallier.{Tallier}, Tallies.{CanTally, Tallying}}
 
 pub known_later : {v w : View} {s : Region} → Lasts v w → IsKnown (view_of_pass v) s → IsKnown (view_of_pass w) s
 known_later {s = s} l k = record { arena = l.known s.arena k.arena; given = le_trans k.given (l.given s.arena) }

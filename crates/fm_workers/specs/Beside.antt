@@ -1,22 +1,15 @@
 -- What a query by a crew comes to while its drawer does something of its own.
-use Rattle.std.specs.Prelude.{◌/◌, ℕ, List, [], Result, Ok, Err, IfOk}
-use Rattle.std.specs.List.{AllByRecursion}
-use Rattle.fm_base.specs.declared.refusal.Refusal.{Refusal}
-use Rattle.fm_base.specs.Calls.{Entry}
-use Rattle.fm_base.specs.Histories.{made_by}
+use Rattle.std.specs.{Prelude.{◌/◌, ℕ, List, [], Result, Ok, Err, IfOk}, List.{AllByRecursion}}
+use Rattle.fm_base.specs.{declared.refusal.Refusal.{Refusal}, Calls.{Entry}, Histories.{made_by}}
 use Rattle.fm_arena.specs.Shares.{CanShare}
-use Rattle.fm_records.specs.declared.found.Found.{Found}
-use Rattle.fm_records.specs.Few.{AreFew}
-use Rattle.fm_records.specs.Texts.{IsAnswerOf}
+use Rattle.fm_records.specs.{declared.found.Found.{Found}, Few.{AreFew}, Texts.{IsAnswerOf}}
 use Rattle.fm_records_query.specs.Plan.{Plan}
 use Rattle.fm_rule.specs.declared.pool.Pool.{Pool}
 use Rattle.fm_rule_calls.specs.Told.{view_of_pass}
 use Rattle.fm_rule_facts.specs.Views.{View}
-use Rattle.fm_segment.specs.Access.{IsKnown}
-use Rattle.fm_segment.specs.Region.{Region}
+use Rattle.fm_segment.specs.{Access.{IsKnown}, Region.{Region}}
 use Rattle.fm_workers.specs.Query.{CanQueryWith, EndsQuery, IsAnswer, IsOpenToAll, NobodyElseWrites, OnlyReads, QueriedWith}
-use Rattle.fm_workers_crew.specs.Beside.{GatheredBeside}
-use Rattle.fm_workers_crew.specs.Crew.{callers}
+use Rattle.fm_workers_crew.specs.{Beside.{GatheredBeside}, Crew.{callers}}
 use Rattle.fm_workers_shares.specs.Shares.{each_of}
 
 -- whole records that anyone may ask, and a pass with no page in its hand

@@ -3,13 +3,10 @@ use Rattle.std.specs.Prelude.{◌≡◌, ℕ, ◌+◌, ◌-◌, ◌^◌, ◌<◌
 use Rattle.std.specs.Ordering.{int_eq}
 use Rattle.fm_lanes.specs.declared.value_kind.ValueKind.{ValueKind}
 use Rattle.fm_lanes.specs.declared.value_kind.ValueKind.TheVariants as kind
-use Rattle.fm_records_query.specs.Plan.{Plan}
+use Rattle.fm_records_query.specs.{Plan.{Plan}, declared.item.{Asked.{Asked}, Item.{Item}}}
 use Rattle.fm_records_query.specs.declared.fold.Fold.TheVariants as fold
-use Rattle.fm_records_query.specs.declared.item.Asked.{Asked}
 use Rattle.fm_records_query.specs.declared.item.Asked.TheVariants as asked
-use Rattle.fm_records_query.specs.declared.item.Item.{Item}
-use Rattle.fm_records.specs.declared.found.Found.{Found}
-use Rattle.fm_records.specs.declared.found.Found.TheVariants.{Listed}
+use Rattle.fm_records.specs.declared.found.Found.{Found, TheVariants.{Listed}}
 
 -- how many of these numbers are n
 abbrev pub how_many : ℤ → List ℤ → ℕ

@@ -1,6 +1,5 @@
 -- The text of counts.
-use Rattle.std.specs.Prelude.{ℕ, ◌+◌, ◌%◌, ◌==◌, if◌then◌else◌, List, [], ◌∷◌, ◌++◌, codes, slice_index, sum, ℤ}
-use Rattle.std.specs.Fmt.{decimal, signed_decimal}
+use Rattle.std.specs.{Prelude.{ℕ, ◌+◌, ◌%◌, ◌==◌, if◌then◌else◌, List, [], ◌∷◌, ◌++◌, codes, slice_index, sum, ℤ}, Fmt.{decimal, signed_decimal}}
 use Rattle.std.specs.List.{flat_map, range_with_len}
 use Rattle.fm_workers.specs.Counts.{number_of}
 

@@ -1,37 +1,19 @@
 -- What a query by a crew asks for, and what its caller learns.
-use Rattle.fm_records.specs.Texts.{IsAnswerOf}
-use Rattle.fm_rule_calls.specs.Kept.{Lasts}
-use Rattle.std.specs.Prelude.{◌≡◌, ◌≢◌, ◌⊎◌, ◌+◌, ◌/◌, ◌<◌, ◌≤◌, ◌%◌, ℕ, List, ◌∷◌, ◌++◌, length, Result, Ok, Err, IfOk}
-use Rattle.std.specs.List.{AllByRecursion}
-use Rattle.fm_base.specs.declared.caller.Caller.{Caller}
-use Rattle.fm_base.specs.declared.kind.Kind.TheVariants.{Confined}
-use Rattle.fm_base.specs.declared.refusal.Refusal.{Refusal}
-use Rattle.fm_base.specs.declared.refusal.Refusal.TheVariants.{Ragged, WrongThread, Closed, NoPass, Memory}
-use Rattle.fm_base.specs.Calls.{Entry}
-use Rattle.fm_base.specs.Finds.{Find, Gathered}
-use Rattle.fm_base.specs.Histories.{made_by}
-use Rattle.fm_base.specs.Untouched.{Spares}
+use Rattle.fm_records.specs.{Texts.{IsAnswerOf}, declared.found.Found.{Found}, Alone.{bytes_at_places}, Answers.{answer}, Bytes.{HasRead}, Few.{AreFew}}
+use Rattle.fm_records.specs.{Laws.{IsAsked, value_in}, Query.{DoesQuery}, Reads.{AreReads, StopsReading, IsWordOf}}
+use Rattle.fm_rule_calls.specs.{Kept.{Lasts}, Told.{view_of_pass}}
+use Rattle.std.specs.{Prelude.{◌≡◌, ◌≢◌, ◌⊎◌, ◌+◌, ◌/◌, ◌<◌, ◌≤◌, ◌%◌, ℕ, List, ◌∷◌, ◌++◌, length, Result, Ok, Err, IfOk}, List.{AllByRecursion}}
+use Rattle.fm_base.specs.declared.{caller.Caller.{Caller}, kind.Kind.TheVariants.{Confined}, refusal.Refusal.{Refusal}}
+use Rattle.fm_base.specs.{declared.refusal.Refusal.TheVariants.{Ragged, WrongThread, Closed, NoPass, Memory}, Calls.{Entry}, Finds.{Find, Gathered}}
+use Rattle.fm_base.specs.{Histories.{made_by}, Untouched.{Spares}}
 use Rattle.fm_base_lists.specs.Among.{IsAmong}
 use Rattle.fm_path.specs.Resolution.{Resolution}
 use Rattle.fm_rule_facts.specs.Views.{View, IsSound, state_in}
-use Rattle.fm_rule_calls.specs.Told.{view_of_pass}
 use Rattle.fm_rule.specs.declared.pool.Pool.{Pool}
 use Rattle.fm_gate.specs.Needs.{IsOutside}
-use Rattle.fm_segment.specs.Access.{IsKnown}
-use Rattle.fm_segment.specs.Region.{Region}
+use Rattle.fm_segment.specs.{Access.{IsKnown}, Region.{Region}}
 use Rattle.fm_records_query.specs.Plan.{Plan}
-use Rattle.fm_records.specs.declared.found.Found.{Found}
-use Rattle.fm_records.specs.Alone.{bytes_at_places}
-use Rattle.fm_records.specs.Answers.{answer}
-use Rattle.fm_records.specs.Bytes.{HasRead}
-use Rattle.fm_records.specs.Few.{AreFew}
-use Rattle.fm_records.specs.Laws.{IsAsked, value_in}
-use Rattle.fm_records.specs.Query.{DoesQuery}
-use Rattle.fm_records.specs.Reads.{AreReads, StopsReading, IsWordOf}
-use Rattle.fm_workers_shares.specs.declared.taker.Done.{Done}
-use Rattle.fm_workers_shares.specs.Answered.{AnsweredBy}
-use Rattle.fm_workers_shares.specs.Shares.{each_of, share_of}
-use Rattle.fm_workers_shares.specs.Taking.{DoesEach}
+use Rattle.fm_workers_shares.specs.{declared.taker.Done.{Done}, Answered.{AnsweredBy}, Shares.{each_of, share_of}, Taking.{DoesEach}}
 use Rattle.fm_workers_crew.specs.Crew.{AreTooMany, CrewGathered, FoundNoNumber, IsWhole, callers}
 
 -- outside; the segment is known and its first record aligned; and there are 1 to 16 workers

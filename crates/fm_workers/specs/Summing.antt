@@ -1,23 +1,14 @@
 -- What comes of a batch of shares that are counted.
-use Rattle.std.specs.Prelude.{◌≡◌, ◌⊎◌, ℕ, ◌/◌, ◌<◌, ◌≤◌, ◌^◌, List, [], ◌∷◌, length, map, Result, Ok, Err}
-use Rattle.std.specs.List.{AllByRecursion, range_with_len}
-use Rattle.fm_base.specs.declared.refusal.Refusal.{Refusal}
-use Rattle.fm_base.specs.declared.refusal.Refusal.TheVariants.{Memory}
-use Rattle.fm_workers_jobs.specs.declared.account.Account.{Account}
-use Rattle.fm_workers_jobs.specs.declared.jobs.Jobs.{Jobs}
-use Rattle.fm_workers_jobs.specs.Turns.{HasAccount, IsGiver, IsSettled, IsTaker, Turn, account_of}
+use Rattle.std.specs.{Prelude.{◌≡◌, ◌⊎◌, ℕ, ◌/◌, ◌<◌, ◌≤◌, ◌^◌, List, [], ◌∷◌, length, map, Result, Ok, Err}, List.{AllByRecursion, range_with_len}}
+use Rattle.fm_base.specs.declared.refusal.Refusal.{Refusal, TheVariants.{Memory}}
+use Rattle.fm_workers_jobs.specs.{declared.{account.Account.{Account}, jobs.Jobs.{Jobs}}, Turns.{HasAccount, IsGiver, IsSettled, IsTaker, Turn, account_of}}
 use Rattle.fm_rule.specs.declared.pool.Pool.{Pool}
 use Rattle.fm_rule_facts.specs.Views.{View}
 use Rattle.fm_segment.specs.Region.{Region}
 use Rattle.fm_records_query.specs.Plan.{IsPlan, Plan}
-use Rattle.fm_workers_shares.specs.Batches.{begun}
-use Rattle.fm_workers_shares.specs.Placing.{absorbed, or_later}
-use Rattle.fm_workers_shares.specs.Shares.{each_of, many_of}
-use Rattle.fm_workers.specs.declared.tallier.Tallier.{Tallier}
-use Rattle.fm_workers.specs.declared.tally_batch.TallyBatch.{TallyBatch}
-use Rattle.fm_workers.specs.Counts.{AreCounts, AreSums, PassSums}
-use Rattle.fm_workers.specs.Tallies.{IsReady}
-use Rattle.fm_workers.specs.Tally.{CanBeTallied, CanTallyWith}
+use Rattle.fm_workers_shares.specs.{Batches.{begun}, Placing.{absorbed, or_later}, Shares.{each_of, many_of}}
+use Rattle.fm_workers.specs.{declared.{tallier.Tallier.{Tallier}, tally_batch.TallyBatch.{TallyBatch}}, Counts.{AreCounts, AreSums, PassSums}}
+use Rattle.fm_workers.specs.{Tallies.{IsReady}, Tally.{CanBeTallied, CanTallyWith}}
 
 -- no share was taken yet
 pub record IsBegun (many threads : ℕ) (b : TallyBatch) : Type 0 where

@@ -1,23 +1,15 @@
 -- What a crew takes from a queue of shares.
 use Rattle.std.specs.Prelude.{◌≡◌, ◌≢◌, ◌/◌, ◌<◌, ◌≤◌, ◌^◌, ℕ, ◌%◌, List, length}
-use Rattle.fm_base.specs.declared.caller.Caller.{Caller}
-use Rattle.fm_base.specs.declared.kind.Kind.TheVariants.{Confined}
-use Rattle.fm_base.specs.Calls.{Entry}
+use Rattle.fm_base.specs.{declared.{caller.Caller.{Caller}, kind.Kind.TheVariants.{Confined}}, Calls.{Entry}}
 use Rattle.fm_rule_facts.specs.Views.{View}
-use Rattle.fm_rule_calls.specs.Kept.{Lasts}
-use Rattle.fm_rule_calls.specs.Told.{view_of_pass}
+use Rattle.fm_rule_calls.specs.{Kept.{Lasts}, Told.{view_of_pass}}
 use Rattle.fm_rule.specs.declared.pool.Pool.{Pool}
 use Rattle.fm_workers_jobs.specs.declared.jobs.Jobs.{Jobs}
-use Rattle.fm_segment.specs.Access.{IsKnown}
-use Rattle.fm_segment.specs.Region.{Region}
+use Rattle.fm_segment.specs.{Access.{IsKnown}, Region.{Region}}
 use Rattle.fm_records_query.specs.Plan.{IsPlan, Plan}
-use Rattle.fm_workers_shares.specs.declared.batch.Batch.{Batch}
-use Rattle.fm_workers_shares.specs.declared.taker.Taker.{Taker}
-use Rattle.fm_workers_shares.specs.Batches.{IsBegun}
-use Rattle.fm_workers_shares.specs.Shares.{each_of, many_of}
+use Rattle.fm_workers_shares.specs.{declared.{batch.Batch.{Batch}, taker.Taker.{Taker}}, Batches.{IsBegun}, Shares.{each_of, many_of}}
 use Rattle.fm_workers_shares.specs.Taking.{IsReady, TakesShares}
-use Rattle.fm_workers.specs.Asking.{known_later}
-use Rattle.fm_workers.specs.Query.{CanQueryWith, IsOpenToAll}
+use Rattle.fm_workers.specs.{Asking.{known_later}, Query.{CanQueryWith, IsOpenToAll}}
 
 -- the queue, what is asked, and of which segment's shares
 pub record Asking : Type 0 where

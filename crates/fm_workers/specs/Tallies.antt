@@ -1,31 +1,16 @@
 -- What a pass does that takes shares and counts their numbers.
 use Rattle.std.specs.Prelude.{◌≡◌, ◌≢◌, ◌%◌, ℕ, List, [], ◌∷◌, ◌++◌, ℤ, Result, Ok, Err}
-use Rattle.fm_base.specs.declared.caller.Caller.{Caller}
-use Rattle.fm_base.specs.declared.refusal.Refusal.{Refusal}
-use Rattle.fm_base.specs.declared.kind.Kind.TheVariants.{Confined}
-use Rattle.fm_base.specs.declared.refusal.Refusal.TheVariants.{Closed, Memory}
-use Rattle.fm_base.specs.Arenas.{MayUse}
-use Rattle.fm_base.specs.Calls.{Entry}
+use Rattle.fm_base.specs.declared.{caller.Caller.{Caller}, refusal.Refusal.{Refusal, TheVariants.{Closed, Memory}}, kind.Kind.TheVariants.{Confined}}
+use Rattle.fm_base.specs.{Arenas.{MayUse}, Calls.{Entry}}
 use Rattle.fm_base.specs.View as memory
 use Rattle.fm_rule_facts.specs.Views.{View}
 use Rattle.fm_rule_calls.specs.Told.{view_of_pass}
-use Rattle.fm_segment.specs.Access.{IsKnown}
-use Rattle.fm_segment.specs.Region.{Region}
+use Rattle.fm_segment.specs.{Access.{IsKnown}, Region.{Region}}
 use Rattle.fm_records_query.specs.Plan.{Plan}
-use Rattle.fm_records.specs.declared.found.Found.{Found}
-use Rattle.fm_records.specs.Learnt.{CanQuery}
-use Rattle.fm_records.specs.Query.{DoesQuery}
-use Rattle.fm_records.specs.Reads.{AreReads, StopsReading}
-use Rattle.fm_workers_jobs.specs.declared.account.Account.{Account}
-use Rattle.fm_workers_jobs.specs.declared.jobs.Jobs.{Jobs}
-use Rattle.fm_workers_jobs.specs.Accounts.{taker}
-use Rattle.fm_workers_jobs.specs.Turns.{HasAccount}
-use Rattle.fm_workers_shares.specs.declared.taker.Done.{Done}
-use Rattle.fm_workers_shares.specs.Shares.{share_of}
-use Rattle.fm_workers_shares.specs.Taking.{CanServe, DoesEach, DoesShare, jobs_of, took}
-use Rattle.fm_workers.specs.declared.tallier.Tallier.{Tallier}
-use Rattle.fm_workers.specs.Adding.{CanAdd, DoesAdd, HasCounts}
-use Rattle.fm_workers.specs.Counts.{AreCounts, CountsToo, IsTally, listed}
+use Rattle.fm_records.specs.{declared.found.Found.{Found}, Learnt.{CanQuery}, Query.{DoesQuery}, Reads.{AreReads, StopsReading}}
+use Rattle.fm_workers_jobs.specs.{declared.{account.Account.{Account}, jobs.Jobs.{Jobs}}, Accounts.{taker}, Turns.{HasAccount}}
+use Rattle.fm_workers_shares.specs.{declared.taker.Done.{Done}, Shares.{share_of}, Taking.{CanServe, DoesEach, DoesShare, jobs_of, took}}
+use Rattle.fm_workers.specs.{declared.tallier.Tallier.{Tallier}, Adding.{CanAdd, DoesAdd, HasCounts}, Counts.{AreCounts, CountsToo, IsTally, listed}}
 
 -- ---- the numbers of some records
 

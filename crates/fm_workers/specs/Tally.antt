@@ -1,41 +1,23 @@
 -- What a tally by a crew asks for, and what its caller learns.
 use Rattle.std.specs.Prelude.{◌≡◌, ◌≢◌, ◌⊎◌, ℕ, ◌/◌, ◌<◌, ◌≤◌, ◌%◌, List, [], ◌∷◌, ◌++◌, length, slice_index, ℤ, false, Result, Ok, Err, IfOk}
 use Rattle.std.specs.List.{AllByRecursion, AllZip, range_with_len}
-use Rattle.fm_base.specs.declared.arena_id.ArenaId.{ArenaId}
-use Rattle.fm_base.specs.declared.caller.Caller.{Caller}
-use Rattle.fm_base.specs.declared.kind.Kind.TheVariants.{Confined}
-use Rattle.fm_base.specs.declared.refusal.Refusal.{Refusal}
-use Rattle.fm_base.specs.declared.refusal.Refusal.TheVariants.{Unsupported, Ragged, WrongThread, Closed, NoPass, Memory}
-use Rattle.fm_base.specs.Arenas.{word_in}
-use Rattle.fm_base.specs.Calls.{Add, Call, Entry, Found}
-use Rattle.fm_base.specs.Counting.{OnlyAdds, adds_to}
-use Rattle.fm_base.specs.Finds.{Find, Gathered}
-use Rattle.fm_base.specs.Histories.{made_by}
+use Rattle.fm_base.specs.declared.{arena_id.ArenaId.{ArenaId}, caller.Caller.{Caller}, kind.Kind.TheVariants.{Confined}, refusal.Refusal.{Refusal}}
+use Rattle.fm_base.specs.{declared.refusal.Refusal.TheVariants.{Unsupported, Ragged, WrongThread, Closed, NoPass, Memory}, Arenas.{word_in}}
+use Rattle.fm_base.specs.{Calls.{Add, Call, Entry, Found}, Counting.{OnlyAdds, adds_to}, Finds.{Find, Gathered}, Histories.{made_by}}
 use Rattle.fm_base.specs.Visits.{refused_visit, visit}
 use Rattle.fm_base_lists.specs.Among.{IsAmong}
 use Rattle.fm_rule_facts.specs.Views.{View, IsSound, state_in}
-use Rattle.fm_rule_calls.specs.Kept.{Lasts}
-use Rattle.fm_rule_calls.specs.Told.{view_of_pass}
+use Rattle.fm_rule_calls.specs.{Kept.{Lasts}, Told.{view_of_pass}}
 use Rattle.fm_rule.specs.declared.pool.Pool.{Pool}
 use Rattle.fm_path.specs.Resolution.{Resolution}
-use Rattle.fm_segment.specs.Access.{IsKnown}
-use Rattle.fm_segment.specs.Region.{Region}
+use Rattle.fm_segment.specs.{Access.{IsKnown}, Region.{Region}}
 use Rattle.fm_records_query.specs.Plan.{Plan}
-use Rattle.fm_records.specs.Alone.{bytes_at_places}
-use Rattle.fm_records.specs.Answers.{answer}
-use Rattle.fm_records.specs.Laws.{IsAsked, value_in}
-use Rattle.fm_records.specs.Reads.{IsWordOf}
-use Rattle.fm_records.specs.Shares.{Share}
+use Rattle.fm_records.specs.{Alone.{bytes_at_places}, Answers.{answer}, Laws.{IsAsked, value_in}, Reads.{IsWordOf}, Shares.{Share}}
 use Rattle.fm_workers_jobs.specs.Turns.{times}
-use Rattle.fm_workers_shares.specs.declared.taker.Done.{Done}
-use Rattle.fm_workers_shares.specs.Answered.{AnsweredShares, all_of}
-use Rattle.fm_workers_shares.specs.Shares.{each_of, many_of}
-use Rattle.fm_workers_shares.specs.Taking.{jobs_of}
-use Rattle.fm_workers.specs.Adding.{HasCounts, count_word}
-use Rattle.fm_workers.specs.Counts.{AreCounts, IsTally, listed}
-use Rattle.fm_workers_crew.specs.Crew.{AreTooMany, CrewGathered, FoundNoNumber, IsWhole, callers}
-use Rattle.fm_workers.specs.Tallies.{StopsTally, TalliesShares}
+use Rattle.fm_workers_shares.specs.{declared.taker.Done.{Done}, Answered.{AnsweredShares, all_of}, Shares.{each_of, many_of}, Taking.{jobs_of}}
+use Rattle.fm_workers.specs.{Adding.{HasCounts, count_word}, Counts.{AreCounts, IsTally, listed}, Tallies.{StopsTally, TalliesShares}}
 use Rattle.fm_workers.specs.Query.{CanQueryWith, IsReadByCrew, NobodyElseWrites, OnlyReads}
+use Rattle.fm_workers_crew.specs.Crew.{AreTooMany, CrewGathered, FoundNoNumber, IsWhole, callers}
 
 -- as for a query; the counts are 256 longs that the pass knows, to be written, in another arena
 pub record CanTallyWith (pool : Pool) (v : View) (p : Plan) (s counts : Region) (threads : ℕ) : Type 0 where

@@ -1,34 +1,18 @@
 -- What a crew has done, and its drawer beside it, from the first draw to the last look.
 use Rattle.std.proofs.Common.{inl, inr, ◌≡◌, List, [], ◌∷◌, ◌++◌, ap, sym, ◌∙◌, subst, append_assoc, ⊎_elim, All, get_or, Bool, true, false}
-use Rattle.std.specs.List.{AllByRecursion, AllZip}
-use Rattle.std.proofs.lemmas.List.{append-nil}
-use Rattle.std.proofs.lemmas.List.Elements.{filter-append, recursion_from_All}
-use Rattle.fm_base.specs.declared.caller.Caller.{Caller}
-use Rattle.fm_base.specs.Calls.{Entry}
-use Rattle.fm_base.specs.Finds.{Find, Gathered, Rest, is_draw}
-use Rattle.fm_base.specs.Histories.{made_by}
-use Rattle.fm_base.specs.View.{Did}
-use Rattle.fm_rule_facts.specs.Hands.{no_number}
-use Rattle.fm_rule_facts.specs.Views.{View, In}
-use Rattle.fm_rule_facts.proofs.Keeping.{in_append}
-use Rattle.fm_rule.specs.declared.pool.Pool.{Pool}
-use Rattle.fm_rule.specs.Draws.{Looked}
-use Rattle.fm_rule.specs.Passes.{IsOf}
+use Rattle.std.{specs.List.{AllByRecursion, AllZip}, proofs.lemmas.List.{append-nil, Elements.{filter-append, recursion_from_All}}}
+use Rattle.fm_base.specs.{declared.caller.Caller.{Caller}, Calls.{Entry}, Finds.{Find, Gathered, Rest, is_draw}, Histories.{made_by}, View.{Did}}
+use Rattle.fm_rule_facts.{specs.{Hands.{no_number}, Views.{View, In}}, proofs.Keeping.{in_append}}
+use Rattle.fm_rule.specs.{declared.pool.Pool.{Pool}, Draws.{Looked}, Passes.{IsOf}}
 use Rattle.fm_gate.specs.Needs.{IsOutside}
-use Rattle.fm_arena.specs.Learnt.{AfterIntoPass}
-use Rattle.fm_rule_calls.specs.Told.{view_of_pass}
-use Rattle.fm_rule_calls.proofs.Going.{reached_by, lasts_by}
-use Rattle.fm_rule_calls.proofs.Sweeps.{no_sweeps}
-use Rattle.fm_arena.proofs.Lasting.{keeps}
-use Rattle.fm_workers_crew.specs.declared.worker.Worker.{Worker}
-use Rattle.fm_workers_crew.specs.Beside.{GatheredBeside, WorkedBeside}
+use Rattle.fm_arena.{specs.Learnt.{AfterIntoPass}, proofs.Lasting.{keeps}}
+use Rattle.fm_rule_calls.{specs.Told.{view_of_pass}, proofs.{Going.{reached_by, lasts_by}, Sweeps.{no_sweeps}}}
+use Rattle.fm_workers_crew.specs.{declared.worker.Worker.{Worker}, Beside.{GatheredBeside, WorkedBeside}}
 use Rattle.fm_workers_crew.specs.Crew.{AreDone, DrewEach, IsFresh, IsIn, IsWhole, callers}
 use Rattle.fm_workers_crew.specs.Rounds.{CalledAll, GatheredCrew, IsWorked, Went, crew_of, passes_of, tasks_of}
 use Rattle.fm_workers_crew.proofs.Drawing.{caller_still, gathered_still, made_behind}
-use Rattle.fm_workers_crew.proofs.Gathering.{Made, all_in_still, apart_before, apart_since, gathered_is, gatherer_still}
-use Rattle.fm_workers_crew.proofs.Orders.{drew_among}
-use Rattle.fm_workers_crew.proofs.Turning.{tasks_called}
-use Rattle.fm_workers_crew.proofs.Wholes.{NoDraws, crew_apart, has_all_drawn, only_own_or_crew}
+use Rattle.fm_workers_crew.proofs.{Gathering.{Made, all_in_still, apart_before, apart_since, gathered_is, gatherer_still}, Orders.{drew_among}}
+use Rattle.fm_workers_crew.proofs.{Turning.{tasks_called}, Wholes.{NoDraws, crew_apart, has_all_drawn, only_own_or_crew}}
 use Rattle.fm_workers_crew.proofs.Workers.{callers_after, crew_are, done_all, each_caller, each_pass, fresh_after, undrawn_after}
 
 module _ {T : Type 0} {P : List Entry → Type 0} {old drew acted got new : View} {vs : List (Worker T)} {b : Bool} (none : old.number ≡ no_number)

@@ -1,12 +1,7 @@
 -- What a crew did, where all that counts of its passes are their callers.
-use Rattle.std.proofs.Common.{◌≡◌, List, [], ◌∷◌, map, sym, subst, Ok}
-use Rattle.std.specs.Prelude.{⊤}
-use Rattle.fm_base.specs.declared.caller.Caller.{Caller}
-use Rattle.fm_base.specs.Calls.{Entry}
-use Rattle.fm_base.specs.Histories.{made_by}
-use Rattle.fm_base.specs.Finds.{Gathered}
-use Rattle.fm_rule_facts.specs.Splits.{as_gathered}
-use Rattle.fm_rule_facts.specs.Views.{View}
+use Rattle.std.{proofs.Common.{◌≡◌, List, [], ◌∷◌, map, sym, subst, Ok}, specs.Prelude.{⊤}}
+use Rattle.fm_base.specs.{declared.caller.Caller.{Caller}, Calls.{Entry}, Histories.{made_by}, Finds.{Gathered}}
+use Rattle.fm_rule_facts.specs.{Splits.{as_gathered}, Views.{View}}
 use Rattle.fm_workers_crew.specs.Crew.{AreDone, CrewWorked, by_caller, callers}
 
 module _ {T : Type 0} (Does : Caller → T → T → List Entry → Type 0) (more : List Entry) where

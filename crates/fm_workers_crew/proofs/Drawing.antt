@@ -1,29 +1,16 @@
 -- Passes that are drawn one by one.
 use Rattle.std.proofs.Common.{◌≡◌, ◌+◌, ◌<◌, true, List, [], ◌∷◌, ◌++◌, length, refl, ap, sym, ◌∙◌, subst, arith, append_assoc, ⊎_elim, inl, inr, All, get_or, Err, length-append}
-use Rattle.std.specs.List.{AllByRecursion}
-use Rattle.std.proofs.lemmas.List.{append-nil, map-append}
-use Rattle.std.proofs.lemmas.List.Elements.{filter-append}
+use Rattle.std.{specs.List.{AllByRecursion}, proofs.lemmas.List.{append-nil, map-append, Elements.{filter-append}}}
 use Rattle.fm_base_lists.proofs.Each.{all_both}
-use Rattle.fm_words.specs.declared.shape.Shape.{Shape}
-use Rattle.fm_base.specs.declared.caller.Caller.{Caller}
-use Rattle.fm_base.specs.declared.refusal.Refusal.{Refusal}
-use Rattle.fm_base.specs.declared.refusal.Refusal.TheVariants.{NoPass}
-use Rattle.fm_base.specs.Calls.{Entry}
-use Rattle.fm_base.specs.Histories.{made_by}
+use Rattle.fm_words.specs.{declared.shape.Shape.{Shape}, Places.{groups}}
+use Rattle.fm_base.specs.{declared.{caller.Caller.{Caller}, refusal.Refusal.{Refusal, TheVariants.{NoPass}}}, Calls.{Entry}, Histories.{made_by}}
 use Rattle.fm_base.specs.Finds.{Find, Gathered}
-use Rattle.fm_words.specs.Places.{groups}
-use Rattle.fm_rule_facts.specs.Hands.{no_number}
-use Rattle.fm_rule_facts.specs.Views.{View, In, HasCaller}
-use Rattle.fm_rule_facts.specs.Splits.{view_of}
-use Rattle.fm_rule_facts.proofs.Keeping.{in_append}
-use Rattle.fm_rule.specs.declared.pool.Pool.{Pool}
-use Rattle.fm_rule.specs.Draws.{Asked, Drawn, Drew, NoneDrawn, FoundNone}
+use Rattle.fm_rule_facts.{specs.{Hands.{no_number}, Views.{View, In, HasCaller}, Splits.{view_of}}, proofs.Keeping.{in_append}}
+use Rattle.fm_rule.specs.{declared.pool.Pool.{Pool}, Draws.{Asked, Drawn, Drew, NoneDrawn, FoundNone}}
 use Rattle.fm_gate.specs.Needs.{IsOutside}
 use Rattle.fm_arena.specs.Shares.{CanShare}
-use Rattle.fm_workers_crew.specs.declared.worker.Worker.{Worker}
-use Rattle.fm_workers_crew.specs.Crew.{DrewEach, FoundNoNumber}
-use Rattle.fm_workers_crew.specs.Rounds.{Went, IsDrawn, DrewCrew, AfterDraws, EndsDraws, order_of, tasks_of}
-use Rattle.fm_workers_crew.proofs.Orders.{drew_each_more, drew_each_push}
+use Rattle.fm_workers_crew.specs.{declared.worker.Worker.{Worker}, Crew.{DrewEach, FoundNoNumber}}
+use Rattle.fm_workers_crew.{specs.Rounds.{Went, IsDrawn, DrewCrew, AfterDraws, EndsDraws, order_of, tasks_of}, proofs.Orders.{drew_each_more, drew_each_push}}
 
 -- Where two lists together are nothing, both are.
 pub nil_left : {X : Type 0} (xs ys : List X) → xs ++ ys ≡ [] → xs ≡ []

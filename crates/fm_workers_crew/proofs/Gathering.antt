@@ -1,23 +1,12 @@
 -- Passes that are gathered one by one.
-use Rattle.std.proofs.Common.{◌≡◌, List, [], ◌∷◌, ◌++◌, length, refl, ap, sym, ◌∙◌, subst, append_assoc, All, get_or, take}
-use Rattle.std.specs.List.{AllByRecursion}
-use Rattle.std.proofs.lemmas.List.{append-nil, take_at}
-use Rattle.std.proofs.lemmas.List.Elements.{recursion_from_All, All-take, All-same}
+use Rattle.std.{proofs.Common.{◌≡◌, List, [], ◌∷◌, ◌++◌, length, refl, ap, sym, ◌∙◌, subst, append_assoc, All, get_or, take}, specs.List.{AllByRecursion}}
+use Rattle.std.proofs.lemmas.List.{append-nil, take_at, Elements.{recursion_from_All, All-take, All-same}}
 use Rattle.fm_base_lists.proofs.Each.{all_split}
-use Rattle.fm_base.specs.declared.caller.Caller.{Caller}
-use Rattle.fm_base.specs.Calls.{Entry}
-use Rattle.fm_base.specs.Histories.{made_by}
-use Rattle.fm_base.specs.Finds.{Gathered}
-use Rattle.fm_rule_facts.specs.Hands.{no_number}
-use Rattle.fm_rule_facts.specs.Views.{View}
-use Rattle.fm_rule_facts.specs.Splits.{as_gathered}
-use Rattle.fm_rule.specs.declared.pool.Pool.{Pool}
-use Rattle.fm_rule.specs.Draws.{CanGather, Gathers}
+use Rattle.fm_base.specs.{declared.caller.Caller.{Caller}, Calls.{Entry}, Histories.{made_by}, Finds.{Gathered}}
+use Rattle.fm_rule_facts.specs.{Hands.{no_number}, Views.{View}, Splits.{as_gathered}}
+use Rattle.fm_rule.specs.{declared.pool.Pool.{Pool}, Draws.{CanGather, Gathers}}
 use Rattle.fm_gate.specs.Needs.{IsOutside}
-use Rattle.fm_workers_crew.specs.declared.worker.Worker.{Worker}
-use Rattle.fm_workers_crew.specs.Crew.{IsIn}
-use Rattle.fm_workers_crew.specs.Rounds.{IsSpare, GatheredCrew, crew_of}
-use Rattle.fm_workers_crew.proofs.Drawing.{made_behind}
+use Rattle.fm_workers_crew.{specs.{declared.worker.Worker.{Worker}, Crew.{IsIn}, Rounds.{IsSpare, GatheredCrew, crew_of}}, proofs.Drawing.{made_behind}}
 
 abbrev pub Made : List Entry → Gathered → Type 0
 Made es g = made_by g.caller es ≡ []

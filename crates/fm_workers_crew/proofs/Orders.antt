@@ -1,11 +1,8 @@
 -- Callers that were drawn one after the other.
-use Rattle.std.proofs.Common.{◌≡◌, List, [], ◌∷◌, ◌++◌, Option, Some, None, ap, sym, ◌∙◌, subst, append_assoc, ⊎_elim, inl, inr}
-use Rattle.std.proofs.lemmas.List.{append-nil}
+use Rattle.std.proofs.{Common.{◌≡◌, List, [], ◌∷◌, ◌++◌, Option, Some, None, ap, sym, ◌∙◌, subst, append_assoc, ⊎_elim, inl, inr}, lemmas.List.{append-nil}}
 use Rattle.fm_base_lists.specs.Among.{IsAmong}
-use Rattle.fm_base.specs.declared.caller.Caller.{Caller}
-use Rattle.fm_base.specs.Finds.{Find}
-use Rattle.fm_rule_facts.specs.Views.{In}
-use Rattle.fm_rule_facts.proofs.Keeping.{in_append, in_right}
+use Rattle.fm_base.specs.{declared.caller.Caller.{Caller}, Finds.{Find}}
+use Rattle.fm_rule_facts.{specs.Views.{In}, proofs.Keeping.{in_append, in_right}}
 use Rattle.fm_rule.specs.Draws.{Drew}
 use Rattle.fm_workers_crew.specs.Crew.{DrewEach}
 

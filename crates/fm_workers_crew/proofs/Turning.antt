@@ -1,17 +1,11 @@
 -- A crew that was drawn one by one, the last drawn first.
-use Rattle.std.proofs.Common.{◌≡◌, List, [], ◌∷◌, ◌++◌, Result, Ok, refl, reverse, ap, sym, ◌∙◌, subst}
-use Rattle.std.specs.List.{AllByRecursion}
+use Rattle.std.{proofs.Common.{◌≡◌, List, [], ◌∷◌, ◌++◌, Result, Ok, refl, reverse, ap, sym, ◌∙◌, subst}, specs.List.{AllByRecursion}}
 use Rattle.std.proofs.lemmas.List.{append-nil, reverse-append, reverse-reverse}
 use Rattle.fm_base_lists.proofs.Each.{all_both}
-use Rattle.fm_base.specs.declared.caller.Caller.{Caller}
-use Rattle.fm_base.specs.declared.refusal.Refusal.{Refusal}
-use Rattle.fm_base.specs.Finds.{Gathered}
-use Rattle.fm_rule_facts.specs.Views.{View}
-use Rattle.fm_rule_facts.specs.Splits.{as_gathered}
-use Rattle.fm_workers_crew.specs.declared.worker.Worker.{Worker}
-use Rattle.fm_workers_crew.specs.Crew.{DrewEach, callers}
-use Rattle.fm_workers_crew.specs.Rounds.{AfterDraws, CalledAll, CalledUp, IsDrawn, crew_of, order_of, tasks_of}
-use Rattle.fm_workers_crew.proofs.Drawing.{tasks_push}
+use Rattle.fm_base.specs.{declared.{caller.Caller.{Caller}, refusal.Refusal.{Refusal}}, Finds.{Gathered}}
+use Rattle.fm_rule_facts.specs.{Views.{View}, Splits.{as_gathered}}
+use Rattle.fm_workers_crew.specs.{declared.worker.Worker.{Worker}, Crew.{DrewEach, callers}}
+use Rattle.fm_workers_crew.{specs.Rounds.{AfterDraws, CalledAll, CalledUp, IsDrawn, crew_of, order_of, tasks_of}, proofs.Drawing.{tasks_push}}
 
 -- The first stands last then.
 turn_cons : {X : Type 0} (x : X) (xs : List X) → reverse (x ∷ xs) ≡ reverse xs ++ x ∷ []

@@ -1,11 +1,8 @@
 -- Where a draw of a crew found no number, its tasks are too many for a pass that was known to be whole.
 use Rattle.std.proofs.Common.{◌≡◌, ℕ, ◌+◌, ◌<◌, ◌≤◌, ◌==◌, Bool, true, false, if◌then◌else◌, List, [], ◌∷◌, ◌++◌, length, length-append, refl, sym, ap, ◌∙◌, subst, arith, ⊎_elim, inl, inr}
-use Rattle.fm_words.specs.declared.shape.Shape.{Shape}
-use Rattle.fm_words.specs.Places.{groups}
+use Rattle.fm_words.specs.{declared.shape.Shape.{Shape}, Places.{groups}}
 use Rattle.fm_base.specs.Finds.{Find, Gathered, is_draw}
-use Rattle.fm_rule_facts.specs.Hands.{no_number, last_term, most_draws}
-use Rattle.fm_rule_facts.specs.Views.{View, In, IsSound}
-use Rattle.fm_rule_facts.proofs.Keeping.{in_left, in_right}
+use Rattle.fm_rule_facts.{specs.{Hands.{no_number, last_term, most_draws}, Views.{View, In, IsSound}}, proofs.Keeping.{in_left, in_right}}
 use Rattle.fm_rule_facts.proofs.Wanting.{of_last_term, too_few}
 use Rattle.fm_rule.specs.Draws.{FoundZero}
 use Rattle.fm_workers_crew.specs.Crew.{AreTooMany, FoundNoNumber, how_many_last}

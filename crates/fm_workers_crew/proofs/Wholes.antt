@@ -1,22 +1,12 @@
 -- A pass that was known to be whole is so again once its crew is gathered.
-use Rattle.std.proofs.Common.{◌≡◌, ◌⊎◌, true, false, List, [], ◌∷◌, ◌++◌, refl, ap, sym, ◌∙◌, subst, ⊎_elim, inl, inr, All, Some}
-use Rattle.std.specs.List.{AllByRecursion}
+use Rattle.std.{proofs.Common.{◌≡◌, ◌⊎◌, true, false, List, [], ◌∷◌, ◌++◌, refl, ap, sym, ◌∙◌, subst, ⊎_elim, inl, inr, All, Some}, specs.List.{AllByRecursion}}
 use Rattle.std.proofs.lemmas.List.Elements.{recursion_from_All}
 use Rattle.fm_base_lists.specs.Among.{IsAmong, AreApart}
-use Rattle.fm_base.specs.declared.caller.Caller.{Caller}
-use Rattle.fm_base.specs.Arenas.{only_caller}
-use Rattle.fm_base.specs.Calls.{Entry}
-use Rattle.fm_base.specs.Histories.{made_by}
-use Rattle.fm_base.specs.Finds.{Find, Gathered, is_draw}
-use Rattle.fm_rule_facts.specs.Views.{View, In, IsOnce, IsSound, HasCaller, HasAllDrawn}
-use Rattle.fm_rule_facts.specs.Splits.{as_gathered}
-use Rattle.fm_rule_facts.proofs.Callers.{made_in}
+use Rattle.fm_base.specs.{declared.caller.Caller.{Caller}, Arenas.{only_caller}, Calls.{Entry}, Histories.{made_by}, Finds.{Find, Gathered, is_draw}}
+use Rattle.fm_rule_facts.{specs.{Views.{View, In, IsOnce, IsSound, HasCaller, HasAllDrawn}, Splits.{as_gathered}}, proofs.Callers.{made_in}}
 use Rattle.fm_rule_facts.proofs.Keeping.{in_append, in_left, in_right}
-use Rattle.fm_workers_crew.specs.declared.worker.Worker.{Worker}
-use Rattle.fm_workers_crew.specs.Crew.{callers}
-use Rattle.fm_workers_crew.specs.Rounds.{Went, GatheredCrew, crew_of}
-use Rattle.fm_workers_crew.proofs.Drawing.{caller_still, gathered_still}
-use Rattle.fm_workers_crew.proofs.Gathering.{Made, gatherer_still, gathered_is}
+use Rattle.fm_workers_crew.specs.{declared.worker.Worker.{Worker}, Crew.{callers}, Rounds.{Went, GatheredCrew, crew_of}}
+use Rattle.fm_workers_crew.proofs.{Drawing.{caller_still, gathered_still}, Gathering.{Made, gatherer_still, gathered_is}}
 
 -- ---- callers
 

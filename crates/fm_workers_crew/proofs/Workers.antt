@@ -1,29 +1,15 @@
 -- What each worker did, and what its pass has found.
 use Rattle.std.proofs.Common.{inl, inr, ◌≡◌, ℕ, suc, ◌<◌, List, [], ◌∷◌, ◌++◌, length, map, refl, ap, sym, ◌∙◌, subst, arith, append_assoc, None, false}
-use Rattle.std.specs.Prelude.{slice_index_or}
-use Rattle.std.specs.List.{AllByRecursion, AllZip}
-use Rattle.std.proofs.lemmas.List.{append-nil, map-append}
+use Rattle.std.{specs.{Prelude.{slice_index_or}, List.{AllByRecursion, AllZip}}, proofs.lemmas.List.{append-nil, map-append}}
 use Rattle.std.proofs.lemmas.List.Elements.{filter-append, recursion_from_All}
 use Rattle.fm_base_lists.proofs.Each.{all_both, all_split}
-use Rattle.fm_base.specs.declared.caller.Caller.{Caller}
-use Rattle.fm_base.specs.Calls.{Entry}
-use Rattle.fm_base.specs.Histories.{made_by}
-use Rattle.fm_base.specs.Finds.{Find, Gathered, Rest, is_draw}
-use Rattle.fm_base.specs.View.{Did}
-use Rattle.fm_rule_facts.specs.Views.{View, In}
-use Rattle.fm_rule_facts.specs.Splits.{as_gathered}
-use Rattle.fm_rule.specs.declared.pool.Pool.{Pool}
-use Rattle.fm_rule.specs.Passes.{IsOf}
-use Rattle.fm_rule_calls.specs.Kept.{Lasts}
-use Rattle.fm_rule_calls.specs.Told.{view_of_pass}
-use Rattle.fm_rule_calls.proofs.Going.{reached_by, lasts_by}
-use Rattle.fm_rule_calls.proofs.Sweeps.{no_sweeps}
+use Rattle.fm_base.specs.{declared.caller.Caller.{Caller}, Calls.{Entry}, Histories.{made_by}, Finds.{Find, Gathered, Rest, is_draw}, View.{Did}}
+use Rattle.fm_rule_facts.specs.{Views.{View, In}, Splits.{as_gathered}}
+use Rattle.fm_rule.specs.{declared.pool.Pool.{Pool}, Passes.{IsOf}}
+use Rattle.fm_rule_calls.{specs.{Kept.{Lasts}, Told.{view_of_pass}}, proofs.{Going.{reached_by, lasts_by}, Sweeps.{no_sweeps}}}
 use Rattle.fm_arena.proofs.Lasting.{keeps}
-use Rattle.fm_workers_crew.specs.declared.worker.Worker.{Worker}
-use Rattle.fm_workers_crew.specs.Crew.{IsFresh, IsIn, AreDone, callers}
-use Rattle.fm_workers_crew.specs.Rounds.{IsDrawn, IsSpare, IsWorked, tasks_of, crew_of, passes_of}
-use Rattle.fm_workers_crew.proofs.Drawing.{made_behind}
-use Rattle.fm_workers_crew.proofs.Wholes.{NoDraws}
+use Rattle.fm_workers_crew.specs.{declared.worker.Worker.{Worker}, Crew.{IsFresh, IsIn, AreDone, callers}}
+use Rattle.fm_workers_crew.{specs.Rounds.{IsDrawn, IsSpare, IsWorked, tasks_of, crew_of, passes_of}, proofs.{Drawing.{made_behind}, Wholes.{NoDraws}}}
 
 -- What stands behind the same list is the same.
 same_behind : {X : Type 0} (xs ys zs : List X) → xs ++ ys ≡ xs ++ zs → ys ≡ zs

@@ -1,32 +1,20 @@
 -- What a crew has done, from the first draw to the last look.
 use Rattle.std.proofs.Common.{inl, inr, reverse, ◌≡◌, ℕ, ◌+◌, ◌<◌, List, [], ◌∷◌, ◌++◌, length, refl, ap, sym, ◌∙◌, subst, arith, append_assoc, ⊎_elim, All, get_or, None, Ok, Err, Bool, length-append, true, ◌==◌, ◌≤◌}
-use Rattle.std.specs.Prelude.{slice_index_or}
-use Rattle.std.specs.List.{AllByRecursion, AllZip}
-use Rattle.std.proofs.lemmas.List.{append-nil, length-reverse}
-use Rattle.fm_base.specs.declared.caller.Caller.{Caller}
-use Rattle.fm_base.specs.declared.refusal.Refusal.{Refusal}
-use Rattle.fm_base.specs.declared.refusal.Refusal.TheVariants.{Memory, NoPass}
-use Rattle.fm_base.specs.Calls.{Entry}
-use Rattle.fm_base.specs.Histories.{made_by}
+use Rattle.std.{specs.{Prelude.{slice_index_or}, List.{AllByRecursion, AllZip}}, proofs.lemmas.List.{append-nil, length-reverse}}
+use Rattle.fm_base.specs.{declared.{caller.Caller.{Caller}, refusal.Refusal.{Refusal, TheVariants.{Memory, NoPass}}}, Calls.{Entry}, Histories.{made_by}}
 use Rattle.fm_base.specs.Finds.{Find, Gathered, is_draw}
 use Rattle.fm_words.specs.declared.shape.Shape.{Shape}
-use Rattle.fm_rule_facts.specs.Hands.{no_number}
-use Rattle.fm_rule_facts.specs.Views.{View, In}
-use Rattle.fm_rule_facts.specs.Splits.{as_gathered}
-use Rattle.fm_rule_facts.proofs.Keeping.{in_append, in_left, in_right}
+use Rattle.fm_rule_facts.{specs.{Hands.{no_number}, Views.{View, In}, Splits.{as_gathered}}, proofs.Keeping.{in_append, in_left, in_right}}
 use Rattle.fm_rule.specs.Draws.{Looked}
 use Rattle.fm_rule_steps.proofs.Reading.{eqb_true}
-use Rattle.fm_rule_calls.specs.Kept.{Lasts}
-use Rattle.fm_rule_calls.proofs.Going.{reached_by, lasts_by}
+use Rattle.fm_rule_calls.{specs.Kept.{Lasts}, proofs.Going.{reached_by, lasts_by}}
 use Rattle.fm_workers_crew.specs.declared.worker.Worker.{Worker}
 use Rattle.fm_workers_crew.specs.Crew.{DrewEach, IsFresh, IsIn, IsWhole, FoundNoNumber, CrewGathered, CrewWorked, AreDone, EndsCrew, callers}
 use Rattle.fm_workers_crew.specs.Rounds.{Went, CalledAll, CalledUp, IsWorked, GatheredCrew, tasks_of, crew_of, passes_of}
 use Rattle.fm_workers_crew.proofs.Drawing.{made_behind, caller_still, gathered_still}
 use Rattle.fm_workers_crew.proofs.Wholes.{NoDraws, all_drawn_again, crew_apart, finds_again, gathered_again, only_crew}
-use Rattle.fm_workers_crew.proofs.Gathering.{Made, gatherer_still, apart_before, apart_since, all_in_still}
-use Rattle.fm_workers_crew.proofs.Orders.{drew_among, drew_each_more}
-use Rattle.fm_workers_crew.proofs.Turning.{moved_back, tasks_called}
-use Rattle.fm_workers_crew.proofs.Wanting.{IsAgain, too_many}
+use Rattle.fm_workers_crew.proofs.{Gathering.{Made, gatherer_still, apart_before, apart_since, all_in_still}, Orders.{drew_among, drew_each_more}}
+use Rattle.fm_workers_crew.proofs.{Turning.{moved_back, tasks_called}, Wanting.{IsAgain, too_many}}
 use Rattle.fm_workers_crew.proofs.Workers.{zip_all, fresh_all, idle_all, crew_are, each_caller, each_pass, fresh_after, done_all, undrawn_all, undrawn_after, callers_after}
 
 more_found : {z : Shape} {draws : List Find} (fs : List Find) → FoundNoNumber z draws → FoundNoNumber z (draws ++ fs)

@@ -1,14 +1,9 @@
 -- What a crew did, and beside it the pass that drew it.
-use Rattle.std.specs.Prelude.{◌≡◌, ◌⊎◌, true, List, [], ◌++◌, map, All, Result, Ok, Err}
-use Rattle.std.specs.List.{AllByRecursion}
-use Rattle.fm_base.specs.declared.refusal.Refusal.{Refusal}
-use Rattle.fm_base.specs.Calls.{Entry}
-use Rattle.fm_base.specs.Finds.{Gathered}
-use Rattle.fm_base.specs.Histories.{made_by}
+use Rattle.std.specs.{Prelude.{◌≡◌, ◌⊎◌, true, List, [], ◌++◌, map, All, Result, Ok, Err}, List.{AllByRecursion}}
+use Rattle.fm_base.specs.{declared.refusal.Refusal.{Refusal}, Calls.{Entry}, Finds.{Gathered}, Histories.{made_by}}
 use Rattle.fm_base_lists.specs.Among.{IsAmong, AreApart}
 use Rattle.fm_rule_calls.specs.Kept.{Lasts}
-use Rattle.fm_rule_facts.specs.Splits.{as_gathered}
-use Rattle.fm_rule_facts.specs.Views.{View, IsSound}
+use Rattle.fm_rule_facts.specs.{Splits.{as_gathered}, Views.{View, IsSound}}
 use Rattle.fm_workers_crew.specs.Crew.{AreDone, CrewWorked, IsFresh, IsIn, IsWhole, callers}
 
 -- Passes were drawn, made entries while the pass made its own, and were gathered again: these, in their order

@@ -2,19 +2,11 @@
 use Rattle.fm_rule_calls.specs.Kept.{Lasts}
 use Rattle.std.specs.Prelude.{◌≡◌, ◌≢◌, ◌⊎◌, ◌+◌, ◌<◌, ◌==◌, true, if◌then◌else◌, ℕ, List, [], ◌∷◌, ◌++◌, length, map, All, Result, Ok, Err, None, ⊤}
 use Rattle.std.specs.List.{AllByRecursion}
-use Rattle.fm_words.specs.declared.shape.Shape.{Shape}
-use Rattle.fm_words.specs.Places.{groups}
-use Rattle.fm_base.specs.declared.caller.Caller.{Caller}
-use Rattle.fm_base.specs.declared.refusal.Refusal.{Refusal}
-use Rattle.fm_base.specs.declared.refusal.Refusal.TheVariants.{Memory, NoPass}
-use Rattle.fm_base.specs.Calls.{Entry}
+use Rattle.fm_words.specs.{declared.shape.Shape.{Shape}, Places.{groups}}
+use Rattle.fm_base.specs.{declared.{caller.Caller.{Caller}, refusal.Refusal.{Refusal, TheVariants.{Memory, NoPass}}}, Calls.{Entry}, Histories.{made_by}}
+use Rattle.fm_base.specs.{Arenas.{only_caller}, Finds.{Find, Gathered, is_draw, is_number}}
 use Rattle.fm_base_lists.specs.Among.{IsAmong, AreApart}
-use Rattle.fm_base.specs.Histories.{made_by}
-use Rattle.fm_base.specs.Arenas.{only_caller}
-use Rattle.fm_base.specs.Finds.{Find, Gathered, is_draw, is_number}
-use Rattle.fm_rule_facts.specs.Hands.{last_term, most_draws}
-use Rattle.fm_rule_facts.specs.Splits.{as_gathered}
-use Rattle.fm_rule_facts.specs.Views.{View, In, IsSound, HasCaller}
+use Rattle.fm_rule_facts.specs.{Hands.{last_term, most_draws}, Splits.{as_gathered}, Views.{View, In, IsSound, HasCaller}}
 use Rattle.fm_rule.specs.Draws.{Drew, FoundNone}
 
 -- the callers, in their order

@@ -1,21 +1,12 @@
 -- How a crew is drawn, works, and is gathered.
-use Rattle.std.specs.Prelude.{◌≡◌, ◌⊎◌, ◌<◌, true, List, [], ◌∷◌, ◌++◌, length, map, reverse, All, None, Result, Ok, Err}
-use Rattle.std.specs.List.{AllByRecursion}
+use Rattle.std.specs.{Prelude.{◌≡◌, ◌⊎◌, ◌<◌, true, List, [], ◌∷◌, ◌++◌, length, map, reverse, All, None, Result, Ok, Err}, List.{AllByRecursion}}
 use Rattle.fm_words.specs.declared.shape.Shape.{Shape}
-use Rattle.fm_base.specs.declared.caller.Caller.{Caller}
-use Rattle.fm_base.specs.declared.refusal.Refusal.{Refusal}
-use Rattle.fm_base.specs.declared.refusal.Refusal.TheVariants.{NoPass}
-use Rattle.fm_base.specs.Calls.{Entry}
-use Rattle.fm_base.specs.Histories.{made_by}
-use Rattle.fm_base.specs.Finds.{Find, Gathered, is_draw, is_number}
-use Rattle.fm_base.specs.View.{Did}
-use Rattle.fm_rule_facts.specs.Views.{View, In, IsSound}
-use Rattle.fm_rule_facts.specs.Splits.{view_of, as_gathered}
+use Rattle.fm_base.specs.{declared.{caller.Caller.{Caller}, refusal.Refusal.{Refusal, TheVariants.{NoPass}}}, Calls.{Entry}, Histories.{made_by}}
+use Rattle.fm_base.specs.{Finds.{Find, Gathered, is_draw, is_number}, View.{Did}}
+use Rattle.fm_rule_facts.specs.{Views.{View, In, IsSound}, Splits.{view_of, as_gathered}}
 use Rattle.fm_rule_calls.specs.Told.{view_of_pass}
-use Rattle.fm_rule.specs.declared.pool.Pool.{Pool}
-use Rattle.fm_rule.specs.Passes.{IsOf}
-use Rattle.fm_workers_crew.specs.declared.worker.Worker.{Worker}
-use Rattle.fm_workers_crew.specs.Crew.{DrewEach, IsFresh, IsIn, FoundNoNumber, callers}
+use Rattle.fm_rule.specs.{declared.pool.Pool.{Pool}, Passes.{IsOf}}
+use Rattle.fm_workers_crew.specs.{declared.worker.Worker.{Worker}, Crew.{DrewEach, IsFresh, IsIn, FoundNoNumber, callers}}
 
 -- the pass looked for numbers and at the count of draws, and made no entry
 pub record Went (old now : View) : Type 0 where

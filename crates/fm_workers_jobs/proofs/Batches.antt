@@ -1,11 +1,7 @@
 -- Several jobs pushed in a row.
-use Rattle.std.proofs.Common.{◌≡◌, ◌+◌, ◌-◌, ◌≤◌, ℕ, zero, suc, [], ◌∷◌, ◌++◌, length, ap, sym, ◌∙◌, append_assoc, arith}
-use Rattle.std.specs.List.{range_with_len}
-use Rattle.std.proofs.lemmas.List.{length-append}
-use Rattle.std.proofs.lemmas.List.FromFn.{length-range_with_len}
-use Rattle.fm_workers_jobs.specs.declared.account.Account.{Account}
-use Rattle.fm_workers_jobs.specs.declared.item.Item.TheVariants.{Job}
-use Rattle.fm_workers_jobs.specs.Accounts.{after_push, after_jobs}
+use Rattle.std.{proofs.Common.{◌≡◌, ◌+◌, ◌-◌, ◌≤◌, ℕ, zero, suc, [], ◌∷◌, ◌++◌, length, ap, sym, ◌∙◌, append_assoc, arith}, specs.List.{range_with_len}}
+use Rattle.std.proofs.lemmas.List.{length-append, FromFn.{length-range_with_len}}
+use Rattle.fm_workers_jobs.specs.{declared.{account.Account.{Account}, item.Item.TheVariants.{Job}}, Accounts.{after_push, after_jobs}}
 
 -- A row of numbers with one more.
 pub range_with_len-more : (from count last : ℕ) → from + count ≡ last → range_with_len from (suc count) ≡ range_with_len from count ++ last ∷ []

@@ -1,10 +1,6 @@
 -- Items at the end of the queue, and how many there are.
-use Rattle.std.proofs.Common.{◌≡◌, ◌+◌, ℕ, List, [], ◌∷◌, ◌++◌, length, refl, ap, ◌∙◌, arith}
-use Rattle.std.specs.Prelude.{sum_by}
-use Rattle.std.proofs.lemmas.List.Sums.{sum_by-cons}
-use Rattle.fm_workers_jobs.specs.declared.item.Item.{Item}
-use Rattle.fm_workers_jobs.specs.declared.item.Item.TheVariants.{Job, Stop}
-use Rattle.fm_workers_jobs.specs.Items.{jobs_in, stops_in, AreLined}
+use Rattle.std.{proofs.{Common.{◌≡◌, ◌+◌, ℕ, List, [], ◌∷◌, ◌++◌, length, refl, ap, ◌∙◌, arith}, lemmas.List.Sums.{sum_by-cons}}, specs.Prelude.{sum_by}}
+use Rattle.fm_workers_jobs.specs.{declared.item.Item.{Item, TheVariants.{Job, Stop}}, Items.{jobs_in, stops_in, AreLined}}
 
 pub jobs_in-job : (items : List Item) (job : ℕ) → jobs_in (items ++ Job job ∷ []) ≡ jobs_in items ++ job ∷ []
 jobs_in-job [] job = refl

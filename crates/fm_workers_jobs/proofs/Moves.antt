@@ -1,22 +1,15 @@
 -- Each move keeps the rule of the queue.
-use Rattle.std.proofs.Common.{◌≡◌, ◌+◌, ◌<◌, ℕ, zero, suc, List, [], ◌∷◌, ◌++◌, length, set, sym, refl, ap, ◌∙◌, subst, arith}
-use Rattle.std.specs.Prelude.{sum_by}
+use Rattle.std.{proofs.Common.{◌≡◌, ◌+◌, ◌<◌, ℕ, zero, suc, List, [], ◌∷◌, ◌++◌, length, set, sym, refl, ap, ◌∙◌, subst, arith}, specs.Prelude.{sum_by}}
 use Rattle.std.proofs.lemmas.List.Sums.{sum_by-append, sum_by-cons, sum_by_push}
 use mathlib.Core.Option.{some}
 use lib.ListN.{get_elem?}
 use Rattle.crossbeam_queue.specs.Fifo.{Pushes, Pops, Forks, Merges, Learns}
-use Rattle.fm_workers_jobs.specs.declared.account.Account.{Account}
-use Rattle.fm_workers_jobs.specs.declared.account.Role.{Role}
-use Rattle.fm_workers_jobs.specs.declared.account.Role.TheVariants.{Giver, Taker, Spent}
-use Rattle.fm_workers_jobs.specs.declared.item.Item.{Item}
-use Rattle.fm_workers_jobs.specs.declared.item.Item.TheVariants.{Job, Stop}
-use Rattle.fm_workers_jobs.specs.Accounts.{giver, taker, spent, after_push, after_pop, after_turn, after_absorb}
+use Rattle.fm_workers_jobs.specs.declared.{account.{Account.{Account}, Role.{Role, TheVariants.{Giver, Taker, Spent}}}, item.Item.{Item}}
+use Rattle.fm_workers_jobs.specs.{declared.item.Item.TheVariants.{Job, Stop}, Accounts.{giver, taker, spent, after_push, after_pop, after_turn, after_absorb}}
 use Rattle.fm_workers_jobs.specs.Items.{jobs_in, stops_in, AreLined}
-use Rattle.fm_workers_jobs.specs.Rule.{gives, takes, PushedNothing, TookNothing, Fits, Each, Knows, IsFair, AtMostPushed, AddsUp}
-use Rattle.fm_workers_jobs.specs.Turns.{MayFollow}
+use Rattle.fm_workers_jobs.specs.{Rule.{gives, takes, PushedNothing, TookNothing, Fits, Each, Knows, IsFair, AtMostPushed, AddsUp}, Turns.{MayFollow}}
 use Rattle.fm_workers_jobs.proofs.Items.{jobs_in-job, jobs_in-stop, stops_in-job, stops_in-stop, lined_job, lined_stop, length-items, length-jobs}
-use Rattle.fm_workers_jobs.proofs.Places.{each_set, each_snoc, each_one, at_other}
-use Rattle.fm_workers_jobs.proofs.Sums.{sum_by-set, own-le-sum_by, sum_by-own, sum_by-both}
+use Rattle.fm_workers_jobs.proofs.{Places.{each_set, each_snoc, each_one, at_other}, Sums.{sum_by-set, own-le-sum_by, sum_by-own, sum_by-both}}
 
 -- ---- roles
 

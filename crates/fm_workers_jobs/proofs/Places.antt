@@ -3,8 +3,7 @@ use Rattle.std.proofs.Common.{◌≡◌, ◌≢◌, ℕ, zero, suc, List, [], �
 use mathlib.Core.Option.{some, some-injective, some-ne-none}
 use lib.ListN.{get_elem?}
 use Rattle.crossbeam_queue.proofs.Lists.{at_set, at_snoc}
-use Rattle.fm_workers_jobs.specs.declared.account.Account.{Account}
-use Rattle.fm_workers_jobs.specs.Rule.{Each}
+use Rattle.fm_workers_jobs.specs.{declared.account.Account.{Account}, Rule.{Each}}
 
 pub each_set : (P : Account → Type 0) (turns : List Account) (place : ℕ) (w : Account) → P w → Each P turns → Each P (set turns place w)
 each_set P turns place w mine all j u e = ⊎_elim (λ (x : (j ≡ place) × (w ≡ u)). subst P x.1 mine)

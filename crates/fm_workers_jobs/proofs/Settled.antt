@@ -1,10 +1,6 @@
 -- What the giver knows in the end says what became of the jobs.
-use Rattle.std.proofs.Common.{◌≡◌, ◌<◌, ◌≤◌, ◌==◌, ℕ, List, ap, arith, cond}
-use Rattle.std.specs.Prelude.{sum_by}
-use Rattle.fm_workers_jobs.specs.declared.account.Account.{Account}
-use Rattle.fm_workers_jobs.specs.declared.item.Item.{Item}
-use Rattle.fm_workers_jobs.specs.Rule.{AddsUp}
-use Rattle.fm_workers_jobs.specs.Turns.{IsSettled}
+use Rattle.std.{proofs.Common.{◌≡◌, ◌<◌, ◌≤◌, ◌==◌, ℕ, List, ap, arith, cond}, specs.Prelude.{sum_by}}
+use Rattle.fm_workers_jobs.specs.{declared.{account.Account.{Account}, item.Item.{Item}}, Rule.{AddsUp}, Turns.{IsSettled}}
 
 pub settles : (v : Account) (items : List Item) → AddsUp v items → IsSettled v
 settles v items sums = record {

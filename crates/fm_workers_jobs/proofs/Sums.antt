@@ -1,11 +1,8 @@
 -- Sums over turns: after one of them changed, and where all but one have nothing.
-use Rattle.std.proofs.Common.{◌≡◌, ◌+◌, ◌≤◌, ℕ, zero, suc, List, [], ◌∷◌, set, sym, refl, ap, arith}
-use Rattle.std.specs.Prelude.{sum_by}
-use Rattle.std.proofs.lemmas.List.Sums.{sum_by-cons}
+use Rattle.std.{proofs.{Common.{◌≡◌, ◌+◌, ◌≤◌, ℕ, zero, suc, List, [], ◌∷◌, set, sym, refl, ap, arith}, lemmas.List.Sums.{sum_by-cons}}, specs.Prelude.{sum_by}}
 use mathlib.Core.Option.{some, some-injective, some-ne-none}
 use lib.ListN.{get_elem?}
-use Rattle.fm_workers_jobs.specs.declared.account.Account.{Account}
-use Rattle.fm_workers_jobs.specs.Rule.{Each}
+use Rattle.fm_workers_jobs.specs.{declared.account.Account.{Account}, Rule.{Each}}
 
 -- The sum after one turn changed.
 pub sum_by-set : (f : Account → ℕ) (turns : List Account) (place : ℕ) (v w : Account) → get_elem? turns place ≡ some v

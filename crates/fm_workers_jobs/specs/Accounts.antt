@@ -1,10 +1,6 @@
 -- What a turn pushed and took, and how its account goes on.
-use Rattle.std.specs.Prelude.{◌+◌, ◌-◌, ℕ, Option, Some, None, [], ◌∷◌, ◌++◌}
-use Rattle.std.specs.List.{range_with_len}
-use Rattle.fm_workers_jobs.specs.declared.account.Account.{Account}
-use Rattle.fm_workers_jobs.specs.declared.account.Role.{Role}
-use Rattle.fm_workers_jobs.specs.declared.account.Role.TheVariants.{Giver, Taker, Spent}
-use Rattle.fm_workers_jobs.specs.declared.item.Item.{Item}
+use Rattle.std.specs.{Prelude.{◌+◌, ◌-◌, ℕ, Option, Some, None, [], ◌∷◌, ◌++◌}, List.{range_with_len}}
+use Rattle.fm_workers_jobs.specs.declared.{account.{Account.{Account}, Role.{Role, TheVariants.{Giver, Taker, Spent}}}, item.Item.{Item}}
 use Rattle.fm_workers_jobs.specs.declared.item.Item.TheVariants.{Job, Stop}
 
 -- nothing pushed, nothing taken

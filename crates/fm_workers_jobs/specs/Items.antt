@@ -1,7 +1,6 @@
 -- What stands in the queue: jobs, and stops behind them.
 use Rattle.std.specs.Prelude.{◌≡◌, ◌+◌, ℕ, List, [], ◌∷◌, ⊤}
-use Rattle.fm_workers_jobs.specs.declared.item.Item.{Item}
-use Rattle.fm_workers_jobs.specs.declared.item.Item.TheVariants.{Job, Stop}
+use Rattle.fm_workers_jobs.specs.declared.item.Item.{Item, TheVariants.{Job, Stop}}
 
 abbrev pub jobs_in : List Item → List ℕ
 jobs_in [] = []

@@ -2,10 +2,7 @@
 use Rattle.std.specs.Prelude.{◌≡◌, ◌+◌, ◌<◌, ◌≤◌, ℕ, List, [], length, sum_by, ⊤}
 use mathlib.Core.Option.{some}
 use lib.ListN.{get_elem?}
-use Rattle.fm_workers_jobs.specs.declared.account.Account.{Account}
-use Rattle.fm_workers_jobs.specs.declared.account.Role.{Role}
-use Rattle.fm_workers_jobs.specs.declared.account.Role.TheVariants.{Giver, Taker, Spent}
-use Rattle.fm_workers_jobs.specs.declared.item.Item.{Item}
+use Rattle.fm_workers_jobs.specs.declared.{account.{Account.{Account}, Role.{Role, TheVariants.{Giver, Taker, Spent}}}, item.Item.{Item}}
 use Rattle.fm_workers_jobs.specs.Items.{jobs_in, stops_in, AreLined}
 
 -- ---- roles

@@ -1,10 +1,7 @@
 -- What a call asks of a turn, and what is known of the turn behind it.
 use Rattle.std.specs.Prelude.{◌≡◌, ◌+◌, ◌-◌, ◌<◌, ◌≤◌, ◌==◌, ℕ, List, length, sum_by, count_by, ⊤}
 use Rattle.crossbeam_queue.specs.Passes.{Pass, IsPassOf, ruled_capacity, view}
-use Rattle.fm_workers_jobs.specs.declared.account.Account.{Account}
-use Rattle.fm_workers_jobs.specs.declared.account.Role.TheVariants.{Giver, Taker}
-use Rattle.fm_workers_jobs.specs.declared.item.Item.{Item}
-use Rattle.fm_workers_jobs.specs.declared.item.Item.TheVariants.{Job, Stop}
+use Rattle.fm_workers_jobs.specs.declared.{account.{Account.{Account}, Role.TheVariants.{Giver, Taker}}, item.Item.{Item, TheVariants.{Job, Stop}}}
 use Rattle.fm_workers_jobs.specs.declared.jobs.Jobs.{Jobs}
 
 abbrev pub Turn : Type 0

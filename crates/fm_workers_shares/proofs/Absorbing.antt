@@ -1,16 +1,9 @@
 -- Once all turns were taken back, all shares were taken.
-use Rattle.std.proofs.Common.{◌≡◌, ℕ, ◌+◌, ◌-◌, ◌<◌, List, [], ◌∷◌, ◌++◌, length, refl, ap, ◌∙◌, arith}
-use Rattle.std.specs.List.{AllZip, range_with_len}
+use Rattle.std.{proofs.Common.{◌≡◌, ℕ, ◌+◌, ◌-◌, ◌<◌, List, [], ◌∷◌, ◌++◌, length, refl, ap, ◌∙◌, arith}, specs.List.{AllZip, range_with_len}}
 use Rattle.std.proofs.lemmas.List.{map-append}
-use Rattle.fm_workers_jobs.specs.declared.account.Account.{Account}
-use Rattle.fm_workers_jobs.specs.declared.jobs.Jobs.{Jobs}
-use Rattle.fm_workers_jobs.specs.Accounts.{after_absorb}
+use Rattle.fm_workers_jobs.specs.{declared.{account.Account.{Account}, jobs.Jobs.{Jobs}}, Accounts.{after_absorb}}
 use Rattle.fm_workers_jobs.specs.Turns.{CanSettle, HasAccount, IsGiver, IsSettled, Turn, account_of, times}
-use Rattle.fm_workers_shares.specs.declared.taker.Done.{Done}
-use Rattle.fm_workers_shares.specs.Answered.{all_of}
-use Rattle.fm_workers_shares.specs.Batches.{begun}
-use Rattle.fm_workers_shares.specs.Placing.{absorbed}
-use Rattle.fm_workers_shares.specs.Taking.{jobs_of, took}
+use Rattle.fm_workers_shares.specs.{declared.taker.Done.{Done}, Answered.{all_of}, Batches.{begun}, Placing.{absorbed}, Taking.{jobs_of, took}}
 use Rattle.fm_workers_shares.proofs.Once.{times-append}
 
 role_absorbed : (v : Account) (us : List Turn) → (absorbed v us).role ≡ v.role

@@ -1,16 +1,10 @@
 -- Shares that a caller answers, one after the other.
-use Rattle.std.proofs.Common.{◌≡◌, ℕ, List, [], ◌∷◌, ◌++◌, refl, sym, ap, ◌∙◌, append_assoc}
-use Rattle.std.specs.List.{AllByRecursion}
-use Rattle.std.proofs.lemmas.List.{append-nil}
-use Rattle.fm_base.specs.declared.caller.Caller.{Caller}
-use Rattle.fm_base.specs.Calls.{Entry}
-use Rattle.fm_base.specs.Histories.{made_by}
+use Rattle.std.{proofs.{Common.{◌≡◌, ℕ, List, [], ◌∷◌, ◌++◌, refl, sym, ap, ◌∙◌, append_assoc}, lemmas.List.{append-nil}}, specs.List.{AllByRecursion}}
+use Rattle.fm_base.specs.{declared.caller.Caller.{Caller}, Calls.{Entry}, Histories.{made_by}}
 use Rattle.fm_base_lists.specs.Among.{IsAmong}
 use Rattle.fm_segment.specs.Region.{Region}
 use Rattle.fm_records_query.specs.Plan.{Plan}
-use Rattle.fm_workers_shares.specs.declared.taker.Done.{Done}
-use Rattle.fm_workers_shares.specs.Taking.{DoesEach, DoesShare}
-use Rattle.fm_workers_shares.proofs.Sharing.{IsAnsweredAt}
+use Rattle.fm_workers_shares.{specs.{declared.taker.Done.{Done}, Taking.{DoesEach, DoesShare}}, proofs.Sharing.{IsAnsweredAt}}
 
 -- It answers one more.
 pub DoesEach-more : (p : Plan) (s : Region) (each : ℕ) (c : Caller) (ds : List Done) (d : Done) (own one : List Entry) → DoesEach p s each c ds own

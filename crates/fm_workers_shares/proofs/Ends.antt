@@ -1,30 +1,17 @@
 -- What the takers' ends say of a batch.
 use Rattle.std.proofs.Common.{◌≡◌, ℕ, ◌/◌, List, [], ◌∷◌, ◌++◌, length, take, drop, refl, ap, ◌∙◌, subst, arith, inl, inr, Result, Ok, Err, IfOk}
-use Rattle.std.specs.Prelude.{◌⊎◌, IfErr}
-use Rattle.std.specs.List.{AllByRecursion}
-use Rattle.std.proofs.lemmas.List.{length-map, take_at}
+use Rattle.std.{specs.{Prelude.{◌⊎◌, IfErr}, List.{AllByRecursion}}, proofs.lemmas.List.{length-map, take_at}}
 use Rattle.fm_base_lists.proofs.Each.{all_both}
-use Rattle.fm_base.specs.declared.caller.Caller.{Caller}
-use Rattle.fm_base.specs.declared.refusal.Refusal.{Refusal}
-use Rattle.fm_base.specs.declared.refusal.Refusal.TheVariants.{Memory}
-use Rattle.fm_base.specs.Calls.{Entry}
-use Rattle.fm_workers_jobs.specs.declared.account.Account.{Account}
-use Rattle.fm_workers_jobs.specs.declared.jobs.Jobs.{Jobs}
+use Rattle.fm_base.specs.{declared.{caller.Caller.{Caller}, refusal.Refusal.{Refusal, TheVariants.{Memory}}}, Calls.{Entry}}
+use Rattle.fm_workers_jobs.specs.declared.{account.Account.{Account}, jobs.Jobs.{Jobs}}
 use Rattle.fm_workers_jobs.specs.Turns.{CanSettle, HasAccount, IsGiver, IsSettled, IsTaker, Turn, account_of}
 use Rattle.fm_segment.specs.Region.{Region}
 use Rattle.fm_records_query.specs.Plan.{Plan}
 use Rattle.fm_records.specs.declared.found.Found.{Found}
-use Rattle.fm_workers_shares.specs.declared.taker.Done.{Done}
-use Rattle.fm_workers_shares.specs.declared.taker.Taker.{Taker}
-use Rattle.fm_workers_shares.specs.Finishing.{AreAllTaken, CanFinish, Finishes, HasTaken, answers_of}
-use Rattle.fm_workers_shares.specs.Joining.{CanJoinAll, joined_all}
-use Rattle.fm_workers_shares.specs.Placing.{Slot, absorbed, all_done, end_of, or_later, placed, turns_of}
-use Rattle.fm_workers_shares.specs.Shares.{many_of}
-use Rattle.fm_workers_shares.specs.Taking.{DoesEach, EndsTaking}
-use Rattle.fm_workers_shares.proofs.Absorbing.{settles}
-use Rattle.fm_workers_shares.proofs.Joins.{IsFoundAt, all_join}
-use Rattle.fm_workers_shares.proofs.Places.{all_placed, length-placed}
-use Rattle.fm_workers_shares.proofs.Settling.{HasEnded, all_among, all_taken}
+use Rattle.fm_workers_shares.specs.{declared.taker.{Done.{Done}, Taker.{Taker}}, Finishing.{AreAllTaken, CanFinish, Finishes, HasTaken, answers_of}}
+use Rattle.fm_workers_shares.specs.{Joining.{CanJoinAll, joined_all}, Placing.{Slot, absorbed, all_done, end_of, or_later, placed, turns_of}, Shares.{many_of}}
+use Rattle.fm_workers_shares.{specs.Taking.{DoesEach, EndsTaking}, proofs.{Absorbing.{settles}, Joins.{IsFoundAt, all_join}}}
+use Rattle.fm_workers_shares.proofs.{Places.{all_placed, length-placed}, Settling.{HasEnded, all_among, all_taken}}
 
 pub both_ended : (r later : Result (Unit {0}) Refusal) → or_later r later ≡ Ok tt → (r ≡ Ok tt) × (later ≡ Ok tt)
 both_ended (Ok u) later e = (refl, e)

@@ -1,22 +1,13 @@
 -- Answers joined from the last share to the first.
 use Rattle.std.proofs.Common.{◌≡◌, ℕ, ◌+◌, ◌-◌, ◌*◌, ◌/◌, ◌≤◌, ◌^◌, List, [], ◌∷◌, ◌++◌, length, Some, None, sym, ap, ◌∙◌, subst, arith, Result, Ok, Err, IfOk}
 use Rattle.std.proofs.Math.Nat.{mul-le-mul_right}
-use Rattle.fm_base.specs.declared.caller.Caller.{Caller}
-use Rattle.fm_base.specs.declared.refusal.Refusal.{Refusal}
-use Rattle.fm_base.specs.Calls.{Entry}
+use Rattle.fm_base.specs.{declared.{caller.Caller.{Caller}, refusal.Refusal.{Refusal}}, Calls.{Entry}}
 use Rattle.fm_segment.specs.Region.{Region}
 use Rattle.fm_records_query.specs.Plan.{IsPlan, Plan}
-use Rattle.fm_records.specs.declared.found.Found.{Found}
-use Rattle.fm_records.specs.Few.{AreFew}
-use Rattle.fm_records.specs.Joined.{joined}
-use Rattle.fm_records.specs.Query.{DoesQuery}
-use Rattle.fm_records.proofs.Few.{answers_few, few_join, nothing_few}
+use Rattle.fm_records.{specs.{declared.found.Found.{Found}, Few.{AreFew}, Joined.{joined}, Query.{DoesQuery}}, proofs.Few.{answers_few, few_join, nothing_few}}
 use Rattle.fm_records.proofs.Recording.{answer-none}
-use Rattle.fm_workers_shares.specs.Joining.{CanJoinAll, CanJoinOne, CanJoinSlot, IsAnswered, JoinsSlot, joined_all, joined_slot}
-use Rattle.fm_workers_shares.specs.Placing.{Slot}
-use Rattle.fm_workers_shares.specs.Shares.{share_of, start_of}
-use Rattle.fm_workers_shares.proofs.Numbers.{run_ends, run_fits, start_order, start_within}
-use Rattle.fm_workers_shares.proofs.Places.{AreAll}
+use Rattle.fm_workers_shares.specs.{Joining.{CanJoinAll, CanJoinOne, CanJoinSlot, IsAnswered, JoinsSlot, joined_all, joined_slot}, Placing.{Slot}}
+use Rattle.fm_workers_shares.{specs.Shares.{share_of, start_of}, proofs.{Numbers.{run_ends, run_fits, start_order, start_within}, Places.{AreAll}}}
 
 -- ---- one after the other
 

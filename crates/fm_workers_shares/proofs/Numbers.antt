@@ -1,9 +1,6 @@
 -- Where shares begin and end, and how many there are.
-use Rattle.std.proofs.Common.{◌≡◌, ℕ, suc, ◌+◌, ◌-◌, ◌*◌, ◌/◌, ◌<◌, ◌≤◌, List, [], ◌∷◌, ◌++◌, map, sym, ap, ◌∙◌, subst, arith}
-use Rattle.std.specs.List.{range_with_len}
-use Rattle.std.proofs.Math.Nat.{add-mul, mul-le-mul_right, div-mul-le_self}
-use Rattle.std.proofs.lemmas.Grind.{div_ceil_times}
-use Rattle.std.proofs.lemmas.List.{map-append}
+use Rattle.std.{proofs.Common.{◌≡◌, ℕ, suc, ◌+◌, ◌-◌, ◌*◌, ◌/◌, ◌<◌, ◌≤◌, List, [], ◌∷◌, ◌++◌, map, sym, ap, ◌∙◌, subst, arith}, specs.List.{range_with_len}}
+use Rattle.std.proofs.{Math.Nat.{add-mul, mul-le-mul_right, div-mul-le_self}, lemmas.{Grind.{div_ceil_times}, List.{map-append}}}
 use Rattle.fm_workers_jobs.proofs.Batches.{range_with_len-more}
 use Rattle.fm_workers_shares.specs.Shares.{many_of, start_of}
 

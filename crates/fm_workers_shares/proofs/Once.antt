@@ -1,8 +1,6 @@
 -- Numbers of which each comes once.
 use Rattle.std.proofs.Common.{◌≡◌, ◌≢◌, ℕ, zero, suc, ◌+◌, ◌<◌, ◌≤◌, ◌==◌, Bool, true, false, List, [], ◌∷◌, ◌++◌, refl, ap, arith, inl, inr, cond}
-use Rattle.std.specs.List.{range_with_len}
-use Rattle.std.proofs.lemmas.Bool.Decides.{nat_tests}
-use Rattle.std.proofs.lemmas.List.Sums.{sum_by-append, sum_by-cons}
+use Rattle.std.{specs.List.{range_with_len}, proofs.lemmas.{Bool.Decides.{nat_tests}, List.Sums.{sum_by-append, sum_by-cons}}}
 use Rattle.fm_base_lists.specs.Among.{IsAmong}
 use Rattle.fm_workers_jobs.specs.Turns.{times}
 

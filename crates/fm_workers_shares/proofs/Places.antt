@@ -1,15 +1,9 @@
 -- Answers put at their places, and which of them stand there.
 use Rattle.std.proofs.Common.{◌≡◌, ℕ, zero, suc, ◌+◌, ◌<◌, ◌≤◌, List, [], ◌∷◌, ◌++◌, length, set, Some, None, refl, ap, ◌∙◌, subst, arith, inl, inr}
-use Rattle.std.specs.Prelude.{⊤}
-use Rattle.std.specs.List.{AllByRecursion}
-use Rattle.std.proofs.lemmas.List.{length-set}
+use Rattle.std.{specs.{Prelude.{⊤}, List.{AllByRecursion}}, proofs.lemmas.List.{length-set}}
 use Rattle.fm_base_lists.specs.Among.{IsAmong}
 use Rattle.fm_records.specs.declared.found.Found.{Found}
-use Rattle.fm_workers_shares.specs.declared.taker.Done.{Done}
-use Rattle.fm_workers_shares.specs.Batches.{nones}
-use Rattle.fm_workers_shares.specs.Joining.{IsAnswered}
-use Rattle.fm_workers_shares.specs.Placing.{Slot, placed}
-use Rattle.fm_workers_shares.specs.Taking.{jobs_of}
+use Rattle.fm_workers_shares.specs.{declared.taker.Done.{Done}, Batches.{nones}, Joining.{IsAnswered}, Placing.{Slot, placed}, Taking.{jobs_of}}
 
 pub placed-append : (slots : List Slot) (ds es : List Done) → placed slots (ds ++ es) ≡ placed (placed slots es) ds
 placed-append slots [] es = refl

@@ -1,7 +1,5 @@
 -- A list that is taken apart from its end.
-use Rattle.std.proofs.Common.{◌≡◌, List, [], ◌∷◌, ◌++◌, ap, ◌∙◌, subst, sym, append_assoc}
-use Rattle.std.specs.List.{AllByRecursion}
-use Rattle.std.proofs.lemmas.List.{append-nil}
+use Rattle.std.{proofs.{Common.{◌≡◌, List, [], ◌∷◌, ◌++◌, ap, ◌∙◌, subst, sym, append_assoc}, lemmas.List.{append-nil}}, specs.List.{AllByRecursion}}
 use Rattle.fm_base_lists.proofs.Each.{all_split}
 
 -- What holds of all holds of the one that was popped.

@@ -1,31 +1,15 @@
 -- A taker answers a share, and then the next.
 use Rattle.std.proofs.Common.{◌≡◌, ℕ, ◌+◌, ◌-◌, ◌*◌, ◌/◌, ◌%◌, List, [], ◌∷◌, ◌++◌, None, Some, refl, sym, ap, ◌∙◌, subst, arith, inl, le_trans, Ok, Err}
-use Rattle.std.proofs.Math.Nat.{mul-mod_left, dvd-add}
-use Rattle.std.proofs.lemmas.List.{append-nil, map-append}
-use Rattle.std.proofs.lemmas.Nat.Gcd.{dvd_of_mod-eq-zero, mod-eq-zero_of_dvd, dvd_trans}
-use Rattle.fm_base.specs.declared.caller.Caller.{Caller}
-use Rattle.fm_base.specs.declared.refusal.Refusal.{Refusal}
-use Rattle.fm_base.specs.declared.refusal.Refusal.TheVariants.{Memory}
-use Rattle.fm_base.specs.Calls.{Entry}
-use Rattle.fm_base.specs.View.{Did, Makes, View}
-use Rattle.fm_base.proofs.Making.{Makes-none, Makes-then}
-use Rattle.fm_base.proofs.Outcomes.{Makes-lasts}
-use Rattle.fm_workers_jobs.specs.declared.account.Account.{Account}
-use Rattle.fm_workers_jobs.specs.declared.jobs.Jobs.{Jobs}
-use Rattle.fm_workers_jobs.specs.Accounts.{after_take}
-use Rattle.fm_workers_jobs.specs.Turns.{CanTake, HasAccount, account_of}
-use Rattle.fm_segment.specs.Region.{Region}
-use Rattle.fm_segment.proofs.Access.{known_still}
+use Rattle.std.proofs.{Math.Nat.{mul-mod_left, dvd-add}, lemmas.{List.{append-nil, map-append}, Nat.Gcd.{dvd_of_mod-eq-zero, mod-eq-zero_of_dvd, dvd_trans}}}
+use Rattle.fm_base.specs.{declared.{caller.Caller.{Caller}, refusal.Refusal.{Refusal, TheVariants.{Memory}}}, Calls.{Entry}, View.{Did, Makes, View}}
+use Rattle.fm_base.proofs.{Making.{Makes-none, Makes-then}, Outcomes.{Makes-lasts}}
+use Rattle.fm_workers_jobs.specs.{declared.{account.Account.{Account}, jobs.Jobs.{Jobs}}, Accounts.{after_take}, Turns.{CanTake, HasAccount, account_of}}
+use Rattle.fm_segment.{specs.Region.{Region}, proofs.Access.{known_still}}
 use Rattle.fm_records_query.specs.Plan.{IsPlan, Plan}
-use Rattle.fm_records.specs.Learnt.{CanQuery}
-use Rattle.fm_records.specs.Query.{DoesQuery}
-use Rattle.fm_records.proofs.Visiting.{AreReads-none}
-use Rattle.fm_workers_shares.specs.declared.taker.Done.{Done}
-use Rattle.fm_workers_shares.specs.declared.taker.Taker.{Taker}
-use Rattle.fm_workers_shares.specs.Shares.{share_of, start_of}
+use Rattle.fm_records.{specs.{Learnt.{CanQuery}, Query.{DoesQuery}}, proofs.Visiting.{AreReads-none}}
+use Rattle.fm_workers_shares.specs.{declared.taker.{Done.{Done}, Taker.{Taker}}, Shares.{share_of, start_of}}
 use Rattle.fm_workers_shares.specs.Taking.{CanServe, DoesEach, DoesShare, EndsTaking, IsReady, Serves, TakesShares, jobs_of, took}
-use Rattle.fm_workers_shares.proofs.Each.{DoesEach-more}
-use Rattle.fm_workers_shares.proofs.Numbers.{run_fits, start_order, start_within}
+use Rattle.fm_workers_shares.proofs.{Each.{DoesEach-more}, Numbers.{run_fits, start_order, start_within}}
 
 -- ---- one share
 

@@ -1,19 +1,10 @@
 -- Takers that ended took all shares.
-use Rattle.std.proofs.Common.{◌≡◌, ℕ, ◌<◌, List, [], ◌∷◌, ◌++◌, length, map, refl, sym, ap, ◌∙◌, arith}
-use Rattle.std.specs.List.{AllByRecursion, AllZip}
+use Rattle.std.{proofs.Common.{◌≡◌, ℕ, ◌<◌, List, [], ◌∷◌, ◌++◌, length, map, refl, sym, ap, ◌∙◌, arith}, specs.List.{AllByRecursion, AllZip}}
 use Rattle.std.proofs.lemmas.List.{length-map}
 use Rattle.fm_base_lists.specs.Among.{IsAmong}
-use Rattle.fm_workers_jobs.specs.declared.account.Account.{Account}
-use Rattle.fm_workers_jobs.specs.declared.jobs.Jobs.{Jobs}
-use Rattle.fm_workers_jobs.specs.Turns.{HasAccount, IsSettled, times}
-use Rattle.fm_workers_shares.specs.declared.taker.Done.{Done}
-use Rattle.fm_workers_shares.specs.declared.taker.Taker.{Taker}
-use Rattle.fm_workers_shares.specs.Answered.{all_of}
-use Rattle.fm_workers_shares.specs.Batches.{begun}
-use Rattle.fm_workers_shares.specs.Finishing.{AreAllTaken}
-use Rattle.fm_workers_shares.specs.Placing.{absorbed, all_done, turns_of}
-use Rattle.fm_workers_shares.specs.Taking.{jobs_of, took}
-use Rattle.fm_workers_shares.proofs.Absorbing.{TookShares, each_once}
+use Rattle.fm_workers_jobs.specs.{declared.{account.Account.{Account}, jobs.Jobs.{Jobs}}, Turns.{HasAccount, IsSettled, times}}
+use Rattle.fm_workers_shares.specs.{declared.taker.{Done.{Done}, Taker.{Taker}}, Answered.{all_of}, Batches.{begun}, Finishing.{AreAllTaken}}
+use Rattle.fm_workers_shares.{specs.{Placing.{absorbed, all_done, turns_of}, Taking.{jobs_of, took}}, proofs.Absorbing.{TookShares, each_once}}
 use Rattle.fm_workers_shares.proofs.Once.{once_among}
 
 -- a taker that took its stop

@@ -1,17 +1,12 @@
 -- Shares are runs of records, one behind the other, that callers answer.
-use Rattle.std.proofs.Common.{◌≡◌, ℕ, ◌+◌, ◌-◌, ◌*◌, ◌/◌, ◌%◌, ◌≤◌, List, sym, ap, ◌∙◌, arith, Ok}
-use Rattle.std.proofs.Math.Nat.{mul-le-mul_right, mul-mod_left}
+use Rattle.std.proofs.{Common.{◌≡◌, ℕ, ◌+◌, ◌-◌, ◌*◌, ◌/◌, ◌%◌, ◌≤◌, List, sym, ap, ◌∙◌, arith, Ok}, Math.Nat.{mul-le-mul_right, mul-mod_left}}
 use Rattle.std.proofs.lemmas.Nat.{div-add-mod'}
 use Rattle.fm_base_lists.specs.Among.{IsAmong}
-use Rattle.fm_base.specs.declared.caller.Caller.{Caller}
-use Rattle.fm_base.specs.Calls.{Entry}
+use Rattle.fm_base.specs.{declared.caller.Caller.{Caller}, Calls.{Entry}}
 use Rattle.fm_segment.specs.Region.{Region}
 use Rattle.fm_records_query.specs.Plan.{Plan}
-use Rattle.fm_records.specs.declared.found.Found.{Found}
-use Rattle.fm_records.specs.Query.{DoesQuery}
-use Rattle.fm_records.specs.Shares.{IsFirst, IsRunOf, Share, behind}
-use Rattle.fm_workers_shares.specs.Shares.{piece, share_of}
-use Rattle.fm_workers_shares.proofs.Numbers.{run_ends}
+use Rattle.fm_records.specs.{declared.found.Found.{Found}, Query.{DoesQuery}, Shares.{IsFirst, IsRunOf, Share, behind}}
+use Rattle.fm_workers_shares.{specs.Shares.{piece, share_of}, proofs.Numbers.{run_ends}}
 
 -- A run is the first share of what begins with it.
 pub first_of_piece : (p : Plan) (s : Region) (from next to : ℕ) (w : Share) → from ≤ next → next ≤ to

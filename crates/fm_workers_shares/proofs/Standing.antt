@@ -1,22 +1,14 @@
 -- Shares by number, whose answers stand at their places.
 use Rattle.std.proofs.Common.{◌≡◌, ℕ, ◌+◌, ◌-◌, ◌*◌, ◌/◌, ◌%◌, ◌<◌, List, [], ◌∷◌, length, map, Some, refl, ap, ◌∙◌, subst, arith}
 use Rattle.std.specs.List.{AllZip, range_with_len}
-use Rattle.fm_base.specs.declared.caller.Caller.{Caller}
-use Rattle.fm_base.specs.Calls.{Entry}
-use Rattle.fm_base.specs.Histories.{made_by}
+use Rattle.fm_base.specs.{declared.caller.Caller.{Caller}, Calls.{Entry}, Histories.{made_by}}
 use Rattle.fm_workers_jobs.specs.Turns.{times}
 use Rattle.fm_segment.specs.Region.{Region}
 use Rattle.fm_records_query.specs.Plan.{Plan}
-use Rattle.fm_records.specs.Joined.{joined}
-use Rattle.fm_records.specs.Shares.{AreCut, Share, all_joined}
-use Rattle.fm_workers_shares.specs.declared.taker.Done.{Done}
-use Rattle.fm_workers_shares.specs.Answered.{AnsweredBy, AnsweredShares, all_of}
-use Rattle.fm_workers_shares.specs.Joining.{joined_all}
-use Rattle.fm_workers_shares.specs.Placing.{Slot}
-use Rattle.fm_workers_shares.specs.Shares.{many_of, piece, share_of, start_of}
-use Rattle.fm_workers_shares.specs.Taking.{DoesEach, jobs_of}
-use Rattle.fm_workers_shares.proofs.Numbers.{start_first, start_last, start_order, start_within}
-use Rattle.fm_workers_shares.proofs.Places.{AreAll}
+use Rattle.fm_records.specs.{Joined.{joined}, Shares.{AreCut, Share, all_joined}}
+use Rattle.fm_workers_shares.specs.{declared.taker.Done.{Done}, Answered.{AnsweredBy, AnsweredShares, all_of}, Joining.{joined_all}, Placing.{Slot}}
+use Rattle.fm_workers_shares.specs.{Shares.{many_of, piece, share_of, start_of}, Taking.{DoesEach, jobs_of}}
+use Rattle.fm_workers_shares.proofs.{Numbers.{start_first, start_last, start_order, start_within}, Places.{AreAll}}
 use Rattle.fm_workers_shares.proofs.Sharing.{IsAnsweredAt, behind_piece, first_of_piece, whole_piece}
 
 -- the answer stands at its place

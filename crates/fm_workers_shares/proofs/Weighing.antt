@@ -1,18 +1,11 @@
 -- What answers weigh together, at their shares' places as in the order in which they came.
 use Rattle.std.proofs.Common.{◌≡◌, ◌≢◌, ℕ, zero, suc, ◌+◌, ◌<◌, ◌≤◌, Bool, true, false, List, [], ◌∷◌, get_or, Some, None, refl, sym, ap, ◌∙◌, arith, nat_lt}
-use Rattle.std.specs.Prelude.{sum_by}
-use Rattle.std.specs.List.{range_with_len}
-use Rattle.std.proofs.lemmas.Bool.Decides.{nat_tests}
-use Rattle.std.proofs.lemmas.List.{get_or-set_other}
+use Rattle.std.{specs.{Prelude.{sum_by}, List.{range_with_len}}, proofs.lemmas.{Bool.Decides.{nat_tests}, List.{get_or-set_other}}}
 use Rattle.std.proofs.lemmas.List.Sums.{sum_by-cons, sum_by-set}
 use Rattle.fm_records.specs.declared.found.Found.{Found}
 use Rattle.fm_workers_jobs.specs.Turns.{times}
-use Rattle.fm_workers_shares.specs.declared.taker.Done.{Done}
-use Rattle.fm_workers_shares.specs.Batches.{nones}
-use Rattle.fm_workers_shares.specs.Placing.{Slot, placed}
-use Rattle.fm_workers_shares.specs.Taking.{jobs_of}
-use Rattle.fm_workers_shares.proofs.Once.{range_above, range_once, times-cons, times-other, times-same}
-use Rattle.fm_workers_shares.proofs.Places.{length-nones, length-placed}
+use Rattle.fm_workers_shares.specs.{declared.taker.Done.{Done}, Batches.{nones}, Placing.{Slot, placed}, Taking.{jobs_of}}
+use Rattle.fm_workers_shares.proofs.{Once.{range_above, range_once, times-cons, times-other, times-same}, Places.{length-nones, length-placed}}
 
 -- ---- places with no answer
 

@@ -1,18 +1,12 @@
 -- Shares that a crew answered.
-use Rattle.std.specs.Prelude.{◌≡◌, ℕ, ◌+◌, ◌/◌, List, [], ◌∷◌, ◌++◌}
-use Rattle.std.specs.List.{AllByRecursion, AllZip, range_with_len}
-use Rattle.fm_base.specs.declared.caller.Caller.{Caller}
-use Rattle.fm_base.specs.Calls.{Entry}
-use Rattle.fm_base.specs.Histories.{made_by}
+use Rattle.std.specs.{Prelude.{◌≡◌, ℕ, ◌+◌, ◌/◌, List, [], ◌∷◌, ◌++◌}, List.{AllByRecursion, AllZip, range_with_len}}
+use Rattle.fm_base.specs.{declared.caller.Caller.{Caller}, Calls.{Entry}, Histories.{made_by}}
 use Rattle.fm_workers_jobs.specs.Turns.{times}
 use Rattle.fm_base_lists.specs.Among.{IsAmong}
 use Rattle.fm_segment.specs.Region.{Region}
 use Rattle.fm_records_query.specs.Plan.{Plan}
-use Rattle.fm_records.specs.declared.found.Found.{Found}
-use Rattle.fm_records.specs.Shares.{AreCut, AreDone, Share, all_joined}
-use Rattle.fm_workers_shares.specs.declared.taker.Done.{Done}
-use Rattle.fm_workers_shares.specs.Shares.{many_of, share_of}
-use Rattle.fm_workers_shares.specs.Taking.{DoesEach, jobs_of}
+use Rattle.fm_records.specs.{declared.found.Found.{Found}, Shares.{AreCut, AreDone, Share, all_joined}}
+use Rattle.fm_workers_shares.specs.{declared.taker.Done.{Done}, Shares.{many_of, share_of}, Taking.{DoesEach, jobs_of}}
 
 -- they are the shares from this number on, up to the last
 abbrev pub AreNumbered : Plan → Region → (each number : ℕ) → List Share → Type 0

@@ -1,12 +1,7 @@
 -- A batch before its shares are taken.
-use Rattle.std.specs.Prelude.{◌≡◌, ℕ, zero, suc, ◌+◌, List, [], ◌∷◌, None, length, map}
-use Rattle.std.specs.List.{AllByRecursion, range_with_len}
-use Rattle.fm_workers_jobs.specs.declared.account.Account.{Account}
-use Rattle.fm_workers_jobs.specs.Accounts.{after_batch, giver}
-use Rattle.fm_workers_jobs.specs.Turns.{HasAccount}
-use Rattle.fm_workers_shares.specs.declared.batch.Batch.{Batch}
-use Rattle.fm_workers_shares.specs.Placing.{Slot}
-use Rattle.fm_workers_shares.specs.Taking.{IsReady}
+use Rattle.std.specs.{Prelude.{◌≡◌, ℕ, zero, suc, ◌+◌, List, [], ◌∷◌, None, length, map}, List.{AllByRecursion, range_with_len}}
+use Rattle.fm_workers_jobs.specs.{declared.account.Account.{Account}, Accounts.{after_batch, giver}, Turns.{HasAccount}}
+use Rattle.fm_workers_shares.specs.{declared.batch.Batch.{Batch}, Placing.{Slot}, Taking.{IsReady}}
 
 -- so many turns more are out
 abbrev pub after_turns : Account → ℕ → Account

@@ -1,21 +1,12 @@
 -- What comes of a batch.
-use Rattle.std.specs.Prelude.{◌≡◌, ◌⊎◌, ℕ, ◌<◌, ◌≤◌, ◌/◌, ◌%◌, ◌^◌, List, length, Result, Ok, Err}
-use Rattle.std.specs.List.{AllByRecursion, range_with_len}
-use Rattle.fm_base.specs.declared.caller.Caller.{Caller}
-use Rattle.fm_base.specs.declared.refusal.Refusal.{Refusal}
-use Rattle.fm_base.specs.declared.refusal.Refusal.TheVariants.{Memory}
-use Rattle.fm_base.specs.Calls.{Entry}
-use Rattle.fm_workers_jobs.specs.declared.jobs.Jobs.{Jobs}
-use Rattle.fm_workers_jobs.specs.Turns.{HasAccount, Turn, times}
+use Rattle.std.specs.{Prelude.{◌≡◌, ◌⊎◌, ℕ, ◌<◌, ◌≤◌, ◌/◌, ◌%◌, ◌^◌, List, length, Result, Ok, Err}, List.{AllByRecursion, range_with_len}}
+use Rattle.fm_base.specs.{declared.{caller.Caller.{Caller}, refusal.Refusal.{Refusal, TheVariants.{Memory}}}, Calls.{Entry}}
+use Rattle.fm_workers_jobs.specs.{declared.jobs.Jobs.{Jobs}, Turns.{HasAccount, Turn, times}}
 use Rattle.fm_segment.specs.Region.{Region}
 use Rattle.fm_records_query.specs.Plan.{IsPlan, Plan}
 use Rattle.fm_records.specs.declared.found.Found.{Found}
-use Rattle.fm_workers_shares.specs.declared.taker.Taker.{Taker}
-use Rattle.fm_workers_shares.specs.Batches.{begun, nones}
-use Rattle.fm_workers_shares.specs.Joining.{joined_all}
-use Rattle.fm_workers_shares.specs.Placing.{Slot, all_done, end_of, placed}
-use Rattle.fm_workers_shares.specs.Shares.{many_of}
-use Rattle.fm_workers_shares.specs.Taking.{TakesShares, jobs_of}
+use Rattle.fm_workers_shares.specs.{declared.taker.Taker.{Taker}, Batches.{begun, nones}, Joining.{joined_all}, Placing.{Slot, all_done, end_of, placed}}
+use Rattle.fm_workers_shares.specs.{Shares.{many_of}, Taking.{TakesShares, jobs_of}}
 
 -- some caller's entries are what the taker did
 abbrev pub HasTaken : Jobs → Plan → Region → ℕ → Taker → Type 0

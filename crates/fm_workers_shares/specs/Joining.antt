@@ -2,9 +2,7 @@
 use Rattle.std.specs.Prelude.{◌≡◌, List, [], ◌∷◌, Some, None, Result, Ok, Err, IfOk, ⊤}
 use Rattle.fm_base.specs.declared.refusal.Refusal.{Refusal}
 use Rattle.fm_records_query.specs.Plan.{Plan}
-use Rattle.fm_records.specs.declared.found.Found.{Found}
-use Rattle.fm_records.specs.Answers.{answer}
-use Rattle.fm_records.specs.Joined.{CanJoin, joined}
+use Rattle.fm_records.specs.{declared.found.Found.{Found}, Answers.{answer}, Joined.{CanJoin, joined}}
 use Rattle.fm_workers_shares.specs.Placing.{Slot}
 
 -- an answer joined with what those behind it come to

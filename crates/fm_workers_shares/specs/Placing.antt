@@ -1,12 +1,9 @@
 -- Answers put at their shares' places.
 use Rattle.std.specs.Prelude.{List, [], ◌∷◌, ◌++◌, map, set, Option, Some, Result, Ok, Err}
 use Rattle.fm_base.specs.declared.refusal.Refusal.{Refusal}
-use Rattle.fm_workers_jobs.specs.declared.account.Account.{Account}
-use Rattle.fm_workers_jobs.specs.Accounts.{after_absorb}
-use Rattle.fm_workers_jobs.specs.Turns.{Turn, account_of}
+use Rattle.fm_workers_jobs.specs.{declared.account.Account.{Account}, Accounts.{after_absorb}, Turns.{Turn, account_of}}
 use Rattle.fm_records.specs.declared.found.Found.{Found}
-use Rattle.fm_workers_shares.specs.declared.taker.Done.{Done}
-use Rattle.fm_workers_shares.specs.declared.taker.Taker.{Taker}
+use Rattle.fm_workers_shares.specs.declared.taker.{Done.{Done}, Taker.{Taker}}
 
 abbrev pub Slot : Type 0
 Slot = Option (List Found)

@@ -1,6 +1,5 @@
 -- Shares of records, by number.
-use Rattle.std.specs.Prelude.{ℕ, ◌+◌, ◌-◌, ◌*◌, ◌/◌, min, max}
-use Rattle.std.specs.Int.{div_ceil}
+use Rattle.std.specs.{Prelude.{ℕ, ◌+◌, ◌-◌, ◌*◌, ◌/◌, min, max}, Int.{div_ceil}}
 use Rattle.fm_segment.specs.Region.{Region, part_of}
 use Rattle.fm_records_query.specs.Plan.{Plan}
 

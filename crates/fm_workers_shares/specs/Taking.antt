@@ -1,22 +1,12 @@
 -- What a taker does.
 use Rattle.std.specs.Prelude.{◌≡◌, ◌≢◌, ℕ, List, [], ◌∷◌, ◌++◌, map, Result, Ok, Err}
-use Rattle.fm_base.specs.declared.caller.Caller.{Caller}
-use Rattle.fm_base.specs.declared.kind.Kind.TheVariants.{Confined}
-use Rattle.fm_base.specs.declared.refusal.Refusal.{Refusal}
-use Rattle.fm_base.specs.Calls.{Entry}
-use Rattle.fm_base.specs.View.{View}
-use Rattle.fm_workers_jobs.specs.declared.account.Account.{Account}
+use Rattle.fm_base.specs.{declared.{caller.Caller.{Caller}, kind.Kind.TheVariants.{Confined}, refusal.Refusal.{Refusal}}, Calls.{Entry}, View.{View}}
+use Rattle.fm_workers_jobs.specs.{declared.{account.Account.{Account}, jobs.Jobs.{Jobs}}, Accounts.{taker}, Turns.{HasAccount}}
 use Rattle.fm_workers_jobs.specs.declared.account.Role.TheVariants as roles
-use Rattle.fm_workers_jobs.specs.declared.jobs.Jobs.{Jobs}
-use Rattle.fm_workers_jobs.specs.Accounts.{taker}
-use Rattle.fm_workers_jobs.specs.Turns.{HasAccount}
 use Rattle.fm_segment.specs.Region.{Region}
 use Rattle.fm_records_query.specs.Plan.{Plan}
-use Rattle.fm_records.specs.Learnt.{CanQuery}
-use Rattle.fm_records.specs.Query.{DoesQuery}
-use Rattle.fm_workers_shares.specs.declared.taker.Done.{Done}
-use Rattle.fm_workers_shares.specs.declared.taker.Taker.{Taker}
-use Rattle.fm_workers_shares.specs.Shares.{share_of}
+use Rattle.fm_records.specs.{Learnt.{CanQuery}, Query.{DoesQuery}}
+use Rattle.fm_workers_shares.specs.{declared.taker.{Done.{Done}, Taker.{Taker}}, Shares.{share_of}}
 
 -- the segment can be asked, and anyone may use it
 pub record CanServe (v : View) (p : Plan) (s : Region) : Type 0 where

@@ -1,13 +1,9 @@
 -- What stays known where a pass is drawn, and gathered.
 use Rattle.std.proofs.Common.{◌≡◌, ap, ◌∙◌, subst, le_trans, Result, Ok, IfOk}
-use Rattle.fm_rule_calls.proofs.Going.{lasts_by, reached_by}
-use Rattle.fm_rule_calls.specs.Kept.{Lasts}
-use Rattle.fm_rule_calls.specs.Told.{view_of_pass}
-use Rattle.fm_rule_facts.specs.Hands.{no_number}
-use Rattle.fm_rule_facts.specs.Views.{View}
+use Rattle.fm_rule_calls.{proofs.Going.{lasts_by, reached_by}, specs.{Kept.{Lasts}, Told.{view_of_pass}}}
+use Rattle.fm_rule_facts.specs.{Hands.{no_number}, Views.{View}}
 use Rattle.fm_rule.specs.Draws.{Drawn, Gathers}
-use Rattle.fm_segment.specs.Access.{IsKnown}
-use Rattle.fm_segment.specs.Region.{Region}
+use Rattle.fm_segment.specs.{Access.{IsKnown}, Region.{Region}}
 use Rattle.fm_workers.specs.Asking.{known_later}
 
 -- What lasts over two calls, one after the other.

@@ -1,15 +1,10 @@
 -- Which pages a pass has in its hand after a call.
 use Rattle.std.proofs.Common.{◌≡◌, List, [], ap, ◌∙◌, subst, Result, Ok, IfOk}
-use Rattle.fm_base.specs.declared.arena_id.ArenaId.{ArenaId}
-use Rattle.fm_base.specs.declared.kind.Kind.{Kind}
-use Rattle.fm_base.specs.declared.refusal.Refusal.{Refusal}
-use Rattle.fm_base.specs.Calls.{Entry}
-use Rattle.fm_base.specs.Finds.{Rest}
+use Rattle.fm_base.specs.{declared.{arena_id.ArenaId.{ArenaId}, kind.Kind.{Kind}, refusal.Refusal.{Refusal}}, Calls.{Entry}, Finds.{Rest}}
 use Rattle.fm_rule.specs.declared.pool.Pool.{Pool}
 use Rattle.fm_rule_facts.specs.Views.{View}
 use Rattle.fm_rule_calls.specs.Kept.{KeptAs}
-use Rattle.fm_gate.specs.Learnt.{AfterOpen, IsNew}
-use Rattle.fm_gate.specs.Needs.{CanAllocate}
+use Rattle.fm_gate.specs.{Learnt.{AfterOpen, IsNew}, Needs.{CanAllocate}}
 
 -- It has those that the call leaves it.
 pub pages_kept : {p q : View} {things : Rest} {P : List Entry → Type 0} → KeptAs p q things P → q.pages ≡ things.pages

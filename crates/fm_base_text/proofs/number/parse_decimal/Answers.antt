@@ -1,5 +1,4 @@
-use Rattle.std.proofs.Common.{◌<◌, ◌^◌, ℕ}
-use Rattle.std.specs.Fmt.{decimal}
+use Rattle.std.{proofs.Common.{◌<◌, ◌^◌, ℕ}, specs.Fmt.{decimal}}
 use Rattle.fm_base_text.proofs.Spelling.{misspelled, reads, unread}
 use Rattle.fm_base_text.proofs.number.parse_decimal.Goals as goal
 

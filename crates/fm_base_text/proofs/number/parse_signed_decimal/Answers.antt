@@ -1,7 +1,4 @@
-use Rattle.std.proofs.Common.{◌<◌, ◌^◌, ◌∙◌, ap}
-use Rattle.std.specs.Prelude.{ℤ}
-use Rattle.std.specs.Fmt.{signed_decimal}
-use Rattle.std.specs.Int.Signed.{mag}
+use Rattle.std.{proofs.Common.{◌<◌, ◌^◌, ◌∙◌, ap}, specs.{Prelude.{ℤ}, Fmt.{signed_decimal}, Int.Signed.{mag}}}
 use Rattle.fm_base_text.proofs.Spelling.{misspelled, parsed_held, reads_signed, unread}
 use Rattle.fm_base_text.proofs.number.parse_signed_decimal.Goals as goal
 

@@ -1,6 +1,4 @@
-use Rattle.fm_bench.specs.Ready.{CanWork}
-use Rattle.fm_bench.specs.declared.crews.Worker.{Worker}
-use Rattle.fm_bench.proofs.Pushing.{all_pushed}
+use Rattle.fm_bench.{specs.{Ready.{CanWork}, declared.crews.Worker.{Worker}}, proofs.Pushing.{all_pushed}}
 use Rattle.fm_bench.proofs.crews.crew_of.Goals as goal
 
 pub loop-preserved : goal.loop-preserved

@@ -1,14 +1,9 @@
 use Rattle.std.specs.Prelude.{◌≡◌, Result, Ok, Err, IfOk, IfErr}
-use Rattle.fm_base.specs.declared.arena_id.ArenaId.{ArenaId}
-use Rattle.fm_base.specs.declared.refusal.Refusal.{Refusal}
-use Rattle.fm_base.specs.declared.refusal.Refusal.TheVariants.{NoPass}
+use Rattle.fm_base.specs.declared.{arena_id.ArenaId.{ArenaId}, refusal.Refusal.{Refusal, TheVariants.{NoPass}}}
 use Rattle.fm_rule_facts.specs.Views.{View}
-use Rattle.fm_rule.specs.declared.pool.Pool.{Pool}
-use Rattle.fm_rule.specs.Passes.{IsOf}
-use Rattle.fm_rule.specs.Draws.{Drawn, NoneDrawn}
+use Rattle.fm_rule.specs.{declared.pool.Pool.{Pool}, Passes.{IsOf}, Draws.{Drawn, NoneDrawn}}
 use Rattle.fm_gate.specs.Crews.{CrewStands, StandsOn}
-use Rattle.fm_bench.specs.Ready.{CanWork, IsOpen}
-use Rattle.fm_bench.proofs.Working.{still_open}
+use Rattle.fm_bench.{specs.Ready.{CanWork, IsOpen}, proofs.Working.{still_open}}
 use Rattle.fm_bench.proofs.crews.hire.Goals as goal
 
 -- The giver stands on, whatever the answer.

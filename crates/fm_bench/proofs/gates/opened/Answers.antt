@@ -1,7 +1,5 @@
-use Rattle.std.proofs.lemmas.Grind.{common_steps}
-use Rattle.std.proofs.Common.{arith}
-use Rattle.fm_bench.specs.Ready.{IsOpen}
-use Rattle.fm_bench.proofs.Pushing.{all_pushed}
+use Rattle.std.proofs.{lemmas.Grind.{common_steps}, Common.{arith}}
+use Rattle.fm_bench.{specs.Ready.{IsOpen}, proofs.Pushing.{all_pushed}}
 use Rattle.fm_bench.proofs.gates.opened.Goals as goal
 
 pub loop-slot-preserved : goal.loop-slot-preserved

@@ -1,10 +1,7 @@
-use Rattle.std.proofs.Common.{◌∙◌, ap}
-use Rattle.std.specs.Prelude.{◌≡◌, Result, Ok, Err, IfOk, IfErr}
-use Rattle.fm_base.specs.declared.refusal.Refusal.{Refusal}
-use Rattle.fm_base.specs.declared.refusal.Refusal.TheVariants.{NoPass}
+use Rattle.std.{proofs.Common.{◌∙◌, ap}, specs.Prelude.{◌≡◌, Result, Ok, Err, IfOk, IfErr}}
+use Rattle.fm_base.specs.declared.refusal.Refusal.{Refusal, TheVariants.{NoPass}}
 use Rattle.fm_rule_facts.specs.Views.{View}
-use Rattle.fm_rule.specs.declared.pool.Pool.{Pool}
-use Rattle.fm_rule.specs.Draws.{Drawn, NoneDrawn}
+use Rattle.fm_rule.specs.{declared.pool.Pool.{Pool}, Draws.{Drawn, NoneDrawn}}
 use Rattle.fm_gate.specs.Crews.{CrewStands}
 use Rattle.fm_bench.specs.Ready.{IsFree}
 use Rattle.fm_bench.proofs.reuse.drawn.Goals as goal

@@ -1,6 +1,4 @@
-use Rattle.fm_bench.specs.Ready.{IsFree}
-use Rattle.fm_bench.specs.declared.reuse.Player.{Player}
-use Rattle.fm_bench.proofs.Pushing.{all_pushed}
+use Rattle.fm_bench.{specs.{Ready.{IsFree}, declared.reuse.Player.{Player}}, proofs.Pushing.{all_pushed}}
 use Rattle.fm_bench.proofs.reuse.hired.Goals as goal
 
 pub loop-preserved : goal.loop-preserved

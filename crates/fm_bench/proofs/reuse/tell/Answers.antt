@@ -1,8 +1,7 @@
 use Rattle.std.proofs.Common.{◌∙◌, List, ap, subst, arith}
 use Rattle.fm_base.specs.Calls.{Entry}
 use Rattle.fm_rule_facts.specs.Views.{View}
-use Rattle.fm_rule.specs.Views.{NoteView}
-use Rattle.fm_rule.specs.Passes.{GoesOnFrom}
+use Rattle.fm_rule.specs.{Views.{NoteView}, Passes.{GoesOnFrom}}
 use Rattle.fm_bench.proofs.reuse.tell.Goals as goal
 
 pub returns-clause-to : goal.returns-clause-to

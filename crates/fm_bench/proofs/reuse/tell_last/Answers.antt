@@ -1,7 +1,5 @@
 use Rattle.std.proofs.lemmas.List.Elements.{All-pop}
-use Rattle.fm_bench.specs.Ready.{CanRead, IsFree}
-use Rattle.fm_bench.specs.declared.reuse.Player.{Player}
-use Rattle.fm_bench.proofs.Pushing.{all_pushed}
+use Rattle.fm_bench.{specs.{Ready.{CanRead, IsFree}, declared.reuse.Player.{Player}}, proofs.Pushing.{all_pushed}}
 use Rattle.fm_bench.proofs.reuse.tell_last.Goals as goal
 
 pub returns-clause-crew : goal.returns-clause-crew

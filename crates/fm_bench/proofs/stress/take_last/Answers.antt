@@ -1,6 +1,5 @@
 use Rattle.std.proofs.lemmas.List.Elements.{All-pop}
-use Rattle.fm_bench.specs.Ready.{CanWork}
-use Rattle.fm_bench.specs.declared.crews.Worker.{Worker}
+use Rattle.fm_bench.specs.{Ready.{CanWork}, declared.crews.Worker.{Worker}}
 use Rattle.fm_bench.proofs.stress.take_last.Goals as goal
 
 pub returns-in-Some-clause-crew : goal.returns-in-Some-clause-crew

@@ -1,7 +1,5 @@
 use Rattle.std.proofs.Common.{subst}
-use Rattle.fm_close.specs.declared.outcome.Visit.{Visit}
-use Rattle.fm_close.specs.Learnt.{AfterVisit}
-use Rattle.fm_close.proofs.Walks.{walk_starts, visit_last, walk_goes_on}
+use Rattle.fm_close.{specs.{declared.outcome.Visit.{Visit}, Learnt.{AfterVisit}}, proofs.Walks.{walk_starts, visit_last, walk_goes_on}}
 use Rattle.fm_close.proofs.closing.walk.Goals as goal
 
 pub loop-init : goal.loop-init

@@ -1,6 +1,5 @@
 use Rattle.std.proofs.Common.{refl}
-use Rattle.fm_close.proofs.Walks.{finished}
-use Rattle.fm_close.proofs.Backs.{after_kept, after_ended}
+use Rattle.fm_close.proofs.{Walks.{finished}, Backs.{after_kept, after_ended}}
 use Rattle.fm_close.proofs.giving.give_back.Goals as goal
 
 pub returns-in-None : goal.returns-in-None

@@ -1,6 +1,5 @@
 use Rattle.std.proofs.Common.{◌≡◌, ◌∙◌, sym, ap, subst, arith, Some}
-use Rattle.fm_base.specs.declared.caller.Caller.{Caller}
-use Rattle.fm_base.specs.Arenas.{MayUse}
+use Rattle.fm_base.specs.{declared.caller.Caller.{Caller}, Arenas.{MayUse}}
 use Rattle.fm_close.proofs.Shuts.{shut_of, after_closed, after_held, after_fine}
 use Rattle.fm_close.proofs.shutting.shut.Goals as goal
 

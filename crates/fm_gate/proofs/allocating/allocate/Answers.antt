@@ -1,10 +1,6 @@
 use Rattle.std.proofs.Common.{subst, sym, ◌∙◌, Result}
-use Rattle.fm_base.specs.declared.caller.Caller.{Caller}
-use Rattle.fm_base.specs.Arenas.{MayUse}
-use Rattle.fm_base.specs.declared.refusal.Refusal.{Refusal}
-use Rattle.fm_gate.specs.Learnt.{AfterEnter}
-use Rattle.fm_gate.proofs.Allocations.{after_bad, after_not_his, after_no_entrance}
-use Rattle.fm_gate.proofs.Visited.{after_allocate}
+use Rattle.fm_base.specs.{declared.{caller.Caller.{Caller}, refusal.Refusal.{Refusal}}, Arenas.{MayUse}}
+use Rattle.fm_gate.{specs.Learnt.{AfterEnter}, proofs.{Allocations.{after_bad, after_not_his, after_no_entrance}, Visited.{after_allocate}}}
 use Rattle.fm_gate.proofs.allocating.allocate.Goals as goal
 
 pub returns-then-not-is_power_of_two : goal.returns-then-not-is_power_of_two

@@ -1,6 +1,5 @@
 use Rattle.std.proofs.Common.{◌∙◌, sym}
-use Rattle.fm_gate.proofs.Gives.{gives_begin, gives_more}
-use Rattle.fm_gate.proofs.Given.{after_fits, after_past, after_unpaged}
+use Rattle.fm_gate.proofs.{Gives.{gives_begin, gives_more}, Given.{after_fits, after_past, after_unpaged}}
 use Rattle.fm_gate.proofs.allocating.give.Goals as goal
 
 pub loop-init : goal.loop-init

@@ -1,9 +1,7 @@
 use Rattle.std.proofs.Common.{◌≡◌, ◌*◌, ◌/◌, ◌≤◌, ℕ, ap, sym, ◌∙◌, subst, arith}
 use Rattle.fm_words.specs.declared.shape.Shape.{Shape}
 use Rattle.fm_rule_facts.specs.Views.{View, limit_of}
-use Rattle.fm_pages.specs.Covers.{page_bytes}
-use Rattle.fm_pages.proofs.Parts.{of_way, way_read, pages_way}
-use Rattle.fm_pages.proofs.Ranges.{past_reach}
+use Rattle.fm_pages.{specs.Covers.{page_bytes}, proofs.{Parts.{of_way, way_read, pages_way}, Ranges.{past_reach}}}
 use Rattle.fm_gate.proofs.Readings.{Reading, reading_begins, reading_more, reading_all, reading_ends}
 use Rattle.fm_gate.proofs.allocating.has_parts.Goals as goal
 

@@ -1,6 +1,5 @@
 use Rattle.std.proofs.Common.{◌∙◌, sym, subst}
-use Rattle.fm_base.specs.declared.caller.Caller.{Caller}
-use Rattle.fm_base.specs.Arenas.{MayUse}
+use Rattle.fm_base.specs.{declared.caller.Caller.{Caller}, Arenas.{MayUse}}
 use Rattle.fm_rule_calls.proofs.Going.{known_on}
 use Rattle.fm_gate.proofs.Enters.{mark_goes, after_alive, after_closed}
 use Rattle.fm_gate.proofs.entering.enter.Goals as goal

@@ -1,8 +1,6 @@
 use Rattle.std.proofs.Common.{◌∙◌, sym, subst, refl}
-use Rattle.fm_base.specs.declared.caller.Caller.{Caller}
-use Rattle.fm_base.specs.Arenas.{MayUse}
-use Rattle.fm_gate.proofs.Outside.{of_on}
-use Rattle.fm_gate.proofs.Holds.{after_closed, after_most, after_taken}
+use Rattle.fm_base.specs.{declared.caller.Caller.{Caller}, Arenas.{MayUse}}
+use Rattle.fm_gate.proofs.{Outside.{of_on}, Holds.{after_closed, after_most, after_taken}}
 use Rattle.fm_gate.proofs.holding.hold.Goals as goal
 
 pub returns-in-None : goal.returns-in-None

@@ -1,9 +1,6 @@
-use Rattle.std.proofs.Common.{sym, subst, Result}
-use Rattle.std.specs.Prelude.{Err}
-use Rattle.fm_base.specs.declared.arena_id.ArenaId.{ArenaId}
-use Rattle.fm_base.specs.declared.refusal.Refusal.{Refusal}
-use Rattle.fm_gate.specs.Learnt.{AfterOpen}
-use Rattle.fm_gate.proofs.Opens.{after_no_slot, after_opened}
+use Rattle.std.{proofs.Common.{sym, subst, Result}, specs.Prelude.{Err}}
+use Rattle.fm_base.specs.declared.{arena_id.ArenaId.{ArenaId}, refusal.Refusal.{Refusal}}
+use Rattle.fm_gate.{specs.Learnt.{AfterOpen}, proofs.Opens.{after_no_slot, after_opened}}
 use Rattle.fm_gate.proofs.opening.open_arena.Goals as goal
 
 abbrev err : Refusal → Result ArenaId Refusal

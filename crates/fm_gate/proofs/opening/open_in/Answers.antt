@@ -1,8 +1,6 @@
 use Rattle.std.proofs.Common.{ap, ◌∙◌}
-use Rattle.fm_base.specs.declared.arena_id.ArenaId.{ArenaId}
-use Rattle.fm_base.specs.Arenas.{owner_of}
-use Rattle.fm_rule_facts.specs.Hands.{learnt}
-use Rattle.fm_rule_facts.specs.Views.{View}
+use Rattle.fm_base.specs.{declared.arena_id.ArenaId.{ArenaId}, Arenas.{owner_of}}
+use Rattle.fm_rule_facts.specs.{Hands.{learnt}, Views.{View}}
 use Rattle.fm_gate.proofs.Bids.{generation_is, opened_in}
 use Rattle.fm_gate.proofs.opening.open_in.Goals as goal
 

@@ -1,7 +1,6 @@
 use Rattle.std.proofs.Common.{refl}
 use Rattle.fm_base.specs.Does.{patched}
-use Rattle.fm_gate.proofs.Acts.{after_act, found_here, place_on}
-use Rattle.fm_gate.proofs.Tries.{tries_begin, tries_go_on, tries_end, tries_reach}
+use Rattle.fm_gate.proofs.{Acts.{after_act, found_here, place_on}, Tries.{tries_begin, tries_go_on, tries_end, tries_reach}}
 use Rattle.fm_gate.proofs.patching.patch.Goals as goal
 
 pub loop-init : goal.loop-init

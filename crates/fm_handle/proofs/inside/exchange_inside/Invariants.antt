@@ -1,7 +1,6 @@
 use Rattle.std.specs.Prelude.{◌≢◌, ◌/◌, ◌%◌}
 use Rattle.fm_lanes.specs.Value.{kind_of}
-use Rattle.fm_handle.specs.Acts.{value_in}
-use Rattle.fm_handle.proofs.Looking.{IsTrying}
+use Rattle.fm_handle.{specs.Acts.{value_in}, proofs.Looking.{IsTrying}}
 use Rattle.fm_handle.proofs.inside.exchange_inside.Given as goal
 
 abbrev pub invariant-tries : goal.invariant-tries

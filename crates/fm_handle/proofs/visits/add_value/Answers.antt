@@ -1,5 +1,4 @@
-use Rattle.fm_handle.specs.Acts.{Adds}
-use Rattle.fm_handle.proofs.Visiting.{acts_inside}
+use Rattle.fm_handle.{specs.Acts.{Adds}, proofs.Visiting.{acts_inside}}
 use Rattle.fm_handle.proofs.visits.add_value.Goals as goal
 
 pub returns : goal.returns

@@ -1,8 +1,6 @@
-use Rattle.std.proofs.Common.{◌/◌, arith, refl, w64}
-use Rattle.std.proofs.lemmas.Int.{to_z-of_z}
+use Rattle.std.proofs.{Common.{◌/◌, arith, refl, w64}, lemmas.Int.{to_z-of_z}}
 use Rattle.fm_base.specs.Calls.{SwapIf, Found}
-use Rattle.fm_handle.specs.Acts.{ExchangesLong}
-use Rattle.fm_handle.proofs.Visiting.{one_act}
+use Rattle.fm_handle.{specs.Acts.{ExchangesLong}, proofs.Visiting.{one_act}}
 use Rattle.fm_handle.proofs.visits.exchange_long.Goals as goal
 
 pub returns : goal.returns

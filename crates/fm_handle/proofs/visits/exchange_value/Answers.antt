@@ -1,5 +1,4 @@
-use Rattle.fm_handle.specs.Acts.{Exchanges}
-use Rattle.fm_handle.proofs.Visiting.{acts_inside}
+use Rattle.fm_handle.{specs.Acts.{Exchanges}, proofs.Visiting.{acts_inside}}
 use Rattle.fm_handle.proofs.visits.exchange_value.Goals as goal
 
 pub returns : goal.returns

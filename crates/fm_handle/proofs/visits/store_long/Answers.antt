@@ -1,8 +1,6 @@
-use Rattle.std.proofs.Common.{◌/◌, refl, w64}
-use Rattle.std.proofs.lemmas.Int.{to_z-of_z}
+use Rattle.std.proofs.{Common.{◌/◌, refl, w64}, lemmas.Int.{to_z-of_z}}
 use Rattle.fm_base.specs.Calls.{Write, Fine}
-use Rattle.fm_handle.specs.Acts.{Stores, word_of}
-use Rattle.fm_handle.proofs.Visiting.{one_act}
+use Rattle.fm_handle.{specs.Acts.{Stores, word_of}, proofs.Visiting.{one_act}}
 use Rattle.fm_handle.proofs.visits.store_long.Goals as goal
 
 pub returns : goal.returns

@@ -1,5 +1,4 @@
-use Rattle.std.proofs.Common.{refl, w64}
-use Rattle.std.proofs.lemmas.Int.{to_z-of_z}
+use Rattle.std.proofs.{Common.{refl, w64}, lemmas.Int.{to_z-of_z}}
 use Rattle.fm_lanes.specs.declared.value.Value.TheVariants.{Long}
 use Rattle.fm_handle.proofs.Words.{number_is}
 use Rattle.fm_handle.proofs.word.word_of.Goals as goal

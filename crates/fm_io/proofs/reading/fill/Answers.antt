@@ -1,12 +1,7 @@
-use Rattle.std.proofs.Common.{ℕ, ◌+◌, ◌≤◌, List, length, take, IfSome, Option, Ok, Err, refl, sym, ap, arith, subst}
-use Rattle.std.proofs.lemmas.List.{length-take-le}
-use Rattle.fm_io.specs.Files.{Contents, AreBytesFrom, TellsPiece}
-use Rattle.fm_io.specs.Reads.{At}
-use Rattle.fm_io.specs.declared.fault.Fault.TheVariants.{Failed, Memory}
-use Rattle.fm_io.specs.declared.files.Piece.TheVariants.{Got, End, Missing}
-use Rattle.fm_io.proofs.Filled.{take-filled, filled-le, AreBytesFrom-more}
-use Rattle.fm_io.proofs.Followed.{ReadsFile-more}
-use Rattle.fm_io.proofs.Left.{leaves_quiet, leaves_then}
+use Rattle.std.proofs.{Common.{ℕ, ◌+◌, ◌≤◌, List, length, take, IfSome, Option, Ok, Err, refl, sym, ap, arith, subst}, lemmas.List.{length-take-le}}
+use Rattle.fm_io.specs.{Files.{Contents, AreBytesFrom, TellsPiece}, Reads.{At}, declared.fault.Fault.TheVariants.{Failed, Memory}}
+use Rattle.fm_io.{specs.declared.files.Piece.TheVariants.{Got, End, Missing}, proofs.Filled.{take-filled, filled-le, AreBytesFrom-more}}
+use Rattle.fm_io.proofs.{Followed.{ReadsFile-more}, Left.{leaves_quiet, leaves_then}}
 use Rattle.fm_io.proofs.reading.fill.Goals as goal
 
 pub loop-n-preserved : goal.loop-n-preserved

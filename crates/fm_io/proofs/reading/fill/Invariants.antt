@@ -1,7 +1,5 @@
 use Rattle.std.proofs.Common.{◌≡◌, ◌+◌, ◌≤◌, ◌-◌, length, take}
-use Rattle.fm_io.specs.Files.{AreBytesFrom}
-use Rattle.fm_io.specs.Reads.{At, ReadsFile}
-use Rattle.fm_io.specs.View.{Leaves}
+use Rattle.fm_io.specs.{Files.{AreBytesFrom}, Reads.{At, ReadsFile}, View.{Leaves}}
 use Rattle.fm_io.proofs.reading.fill.Given as goal
 
 -- the buffer's first n bytes are those of the file, and nothing else has changed

@@ -1,6 +1,5 @@
 use Rattle.std.proofs.Common.{arith}
-use Rattle.fm_io.proofs.Appended.{Appends-rest}
-use Rattle.fm_io.proofs.Counting.{counts_quiet, counts_then}
+use Rattle.fm_io.proofs.{Appended.{Appends-rest}, Counting.{counts_quiet, counts_then}}
 use Rattle.fm_io.proofs.writing.write_text.Goals as goal
 
 pub loop-taken-preserved : goal.loop-taken-preserved

@@ -1,6 +1,5 @@
 use Rattle.std.proofs.Common.{sym, ap, ◌∙◌}
-use Rattle.fm_lanes.specs.Coding.{turned}
-use Rattle.fm_lanes.proofs.Turning.{turned_is, turned_fits, turned_back}
+use Rattle.fm_lanes.{specs.Coding.{turned}, proofs.Turning.{turned_is, turned_fits, turned_back}}
 use Rattle.fm_lanes.proofs.coding.turned.Goals as goal
 
 pub overflow_add-result : goal.overflow_add-result

@@ -1,5 +1,4 @@
-use Rattle.std.proofs.Common.{◌≡◌, ◌/◌, ◌∙◌, length, arith}
-use Rattle.std.proofs.lemmas.List.{length-take}
+use Rattle.std.proofs.{Common.{◌≡◌, ◌/◌, ◌∙◌, length, arith}, lemmas.List.{length-take}}
 use Rattle.fm_lanes.proofs.Reading.{whole_words, words_even, words_odd, little_tail}
 use Rattle.fm_lanes.proofs.words.words_of.Goals as goal
 

@@ -1,6 +1,5 @@
 use Rattle.std.proofs.Common.{◌≡◌, ◌+◌, ◌*◌, take}
-use Rattle.fm_layout.specs.Depth.{depth, deepest}
-use Rattle.fm_layout.specs.Views.{trees}
+use Rattle.fm_layout.specs.{Depth.{depth, deepest}, Views.{trees}}
 use Rattle.fm_layout.proofs.layout.+copies.Given as goal
 
 abbrev pub decreases-Layout::copy : goal.decreases-Layout::copy

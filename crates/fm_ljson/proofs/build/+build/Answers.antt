@@ -1,9 +1,7 @@
 -- A node is built after its parts, and parts from the first to the last.
-use Rattle.std.proofs.Common.{◌<◌, ◌-◌, inr, sym, arith}
-use Rattle.std.specs.BTreeMap.{get_by_text}
+use Rattle.std.{proofs.Common.{◌<◌, ◌-◌, inr, sym, arith}, specs.BTreeMap.{get_by_text}}
 use Rattle.serde_json.specs.View.{view}
-use Rattle.fm_ljson.specs.Built.{built}
-use Rattle.fm_ljson.specs.Views.{node_view}
+use Rattle.fm_ljson.specs.{Built.{built}, Views.{node_view}}
 use Rattle.fm_ljson.proofs.Building.{built_too_deep, built_none, built_aligned, built_finished, built_refused, building_done, building_pushed, or_memory}
 use Rattle.fm_ljson.proofs.Inside.{node_of-good}
 use Rattle.fm_ljson.proofs.build.+build.Goals as goal

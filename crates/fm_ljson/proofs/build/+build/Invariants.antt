@@ -1,8 +1,6 @@
-use Rattle.std.proofs.Common.{◌+◌, ◌*◌, drop, map}
-use Rattle.std.specs.BTreeMap.{get_by_text}
+use Rattle.std.{proofs.Common.{◌+◌, ◌*◌, drop, map}, specs.BTreeMap.{get_by_text}}
 use Rattle.serde_json.specs.View.{view}
-use Rattle.fm_ljson.specs.Built.{all_of, built}
-use Rattle.fm_ljson.proofs.Building.{IsBuilding}
+use Rattle.fm_ljson.{specs.Built.{all_of, built}, proofs.Building.{IsBuilding}}
 use Rattle.fm_ljson.proofs.build.+build.Given as goal
 
 abbrev pub decreases-build : goal.decreases-build

@@ -1,6 +1,5 @@
 use Rattle.serde_json.specs.View.{view}
-use Rattle.fm_ljson.specs.Views.{ref_view}
-use Rattle.fm_ljson.proofs.Inside.{ref_of-named}
+use Rattle.fm_ljson.{specs.Views.{ref_view}, proofs.Inside.{ref_of-named}}
 use Rattle.fm_ljson.proofs.build.copy_of.Goals as goal
 
 pub named-requires : goal.named-requires

@@ -1,7 +1,6 @@
 use Rattle.std.proofs.Common.{◌≡◌}
 use Rattle.serde_json.specs.View.{members_view}
-use Rattle.fm_ljson.specs.Node.{has_only}
-use Rattle.fm_ljson.specs.Types.{keys_in}
+use Rattle.fm_ljson.specs.{Node.{has_only}, Types.{keys_in}}
 use Rattle.fm_ljson.proofs.keys.has_only.Given as goal
 
 abbrev pub invariant-loop-key : goal.invariant-loop-key

@@ -1,9 +1,7 @@
 -- A node measures what its parts do, and one more.
-use Rattle.std.proofs.Common.{◌∙◌, ◌-◌, ◌<◌, ap, subst, arith}
-use Rattle.std.specs.BTreeMap.{get_by_text}
+use Rattle.std.{proofs.Common.{◌∙◌, ◌-◌, ◌<◌, ap, subst, arith}, specs.BTreeMap.{get_by_text}}
 use Rattle.serde_json.specs.View.{view}
-use Rattle.fm_ljson.specs.Measured.{IsLarge, above, all_measured, measure}
-use Rattle.fm_ljson.specs.Views.{node_view}
+use Rattle.fm_ljson.specs.{Measured.{IsLarge, above, all_measured, measure}, Views.{node_view}}
 use Rattle.fm_ljson.proofs.Measuring.{large_above, measure_node, measure_none, measure_zero, measured_as}
 use Rattle.fm_ljson.proofs.measure.+measure.Goals as goal
 

@@ -1,9 +1,6 @@
-use Rattle.std.proofs.Common.{◌+◌, ◌*◌, drop, map}
-use Rattle.std.specs.BTreeMap.{get_by_text}
+use Rattle.std.{proofs.Common.{◌+◌, ◌*◌, drop, map}, specs.BTreeMap.{get_by_text}}
 use Rattle.serde_json.specs.View.{view}
-use Rattle.fm_ljson.specs.Loops.{all_parts}
-use Rattle.fm_ljson.specs.Measured.{all_measured, measure}
-use Rattle.fm_ljson.proofs.Measuring.{IsSumming}
+use Rattle.fm_ljson.{specs.{Loops.{all_parts}, Measured.{all_measured, measure}}, proofs.Measuring.{IsSumming}}
 use Rattle.fm_ljson.proofs.measure.+measure.Given as goal
 
 abbrev pub decreases-measure : goal.decreases-measure

@@ -1,12 +1,8 @@
 -- The bytes have a reading, or they are no JSON.
 use Rattle.std.proofs.Common.{◌≡◌, inr, None, Err, IsUtf8}
-use Rattle.serde_json.specs.Read.{read}
-use Rattle.serde_json.specs.View.{view}
+use Rattle.serde_json.specs.{Read.{read}, View.{view}}
 use Rattle.fm_base.specs.declared.refusal.Refusal.TheVariants.{BadJson}
-use Rattle.fm_ljson.specs.Answer.{layout_of_json}
-use Rattle.fm_ljson.specs.Built.{OrMemory}
-use Rattle.fm_ljson.specs.Causes.{IsJsonOf}
-use Rattle.fm_ljson.proofs.Causing.{refused_read, refused_unread}
+use Rattle.fm_ljson.{specs.{Answer.{layout_of_json}, Built.{OrMemory}, Causes.{IsJsonOf}}, proofs.Causing.{refused_read, refused_unread}}
 use Rattle.fm_ljson.proofs.Reading.{value_read, not_read, not_so}
 use Rattle.fm_ljson.proofs.read.layout_from_json.Goals as goal
 

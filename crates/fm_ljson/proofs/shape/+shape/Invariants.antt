@@ -1,9 +1,6 @@
-use Rattle.std.proofs.Common.{◌+◌, ◌*◌, drop, map}
-use Rattle.std.specs.Prelude.{flat_map}
-use Rattle.std.specs.BTreeSet.{contains_text}
+use Rattle.std.{proofs.Common.{◌+◌, ◌*◌, drop, map}, specs.{Prelude.{flat_map}, BTreeSet.{contains_text}}}
 use Rattle.serde_json.specs.View.{view}
-use Rattle.fm_ljson.specs.Counted.{IsCounting}
-use Rattle.fm_ljson.specs.Nodes.{nodes}
+use Rattle.fm_ljson.specs.{Counted.{IsCounting}, Nodes.{nodes}}
 use Rattle.fm_ljson.proofs.shape.+shape.Given as goal
 
 abbrev pub decreases-check : goal.decreases-check

@@ -1,9 +1,6 @@
-use Rattle.std.proofs.Common.{◌∙◌, ◌+◌, drop, map}
-use Rattle.std.specs.BTreeMap.{get_by_text}
+use Rattle.std.{proofs.Common.{◌∙◌, ◌+◌, drop, map}, specs.BTreeMap.{get_by_text}}
 use Rattle.serde_json.specs.View.{view}
-use Rattle.fm_ljson.specs.Built.{built_behind}
-use Rattle.fm_ljson.specs.Views.{numbered_view}
-use Rattle.fm_ljson.proofs.Measuring.{built_more, entry_item}
+use Rattle.fm_ljson.{specs.{Built.{built_behind}, Views.{numbered_view}}, proofs.Measuring.{built_more, entry_item}}
 use Rattle.fm_ljson.proofs.types.build_all.Goals as goal
 
 pub loop-entry-preserved : goal.loop-entry-preserved

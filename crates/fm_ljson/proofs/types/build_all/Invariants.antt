@@ -1,9 +1,6 @@
-use Rattle.std.proofs.Common.{◌≡◌, drop, map}
-use Rattle.std.specs.BTreeMap.{get_by_text}
+use Rattle.std.{proofs.Common.{◌≡◌, drop, map}, specs.BTreeMap.{get_by_text}}
 use Rattle.serde_json.specs.View.{view}
-use Rattle.fm_ljson.specs.Built.{built_behind}
-use Rattle.fm_ljson.specs.Refs.{unknown}
-use Rattle.fm_ljson.specs.Views.{numbered_view, parts_view}
+use Rattle.fm_ljson.specs.{Built.{built_behind}, Refs.{unknown}, Views.{numbered_view, parts_view}}
 use Rattle.fm_ljson.proofs.types.build_all.Given as goal
 
 abbrev pub invariant-loop-entry : goal.invariant-loop-entry

@@ -1,9 +1,6 @@
-use Rattle.std.proofs.Common.{◌∙◌, ◌+◌, drop, map}
-use Rattle.std.specs.BTreeMap.{get_by_text}
+use Rattle.std.{proofs.Common.{◌∙◌, ◌+◌, drop, map}, specs.BTreeMap.{get_by_text}}
 use Rattle.serde_json.specs.View.{view}
-use Rattle.fm_ljson.specs.Measured.{first_large}
-use Rattle.fm_ljson.specs.Views.{numbered_view}
-use Rattle.fm_ljson.proofs.Measuring.{entry_item, large_more}
+use Rattle.fm_ljson.{specs.{Measured.{first_large}, Views.{numbered_view}}, proofs.Measuring.{entry_item, large_more}}
 use Rattle.fm_ljson.proofs.types.check_sizes.Goals as goal
 
 pub loop-entry-preserved : goal.loop-entry-preserved

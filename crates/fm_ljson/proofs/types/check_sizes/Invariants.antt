@@ -1,8 +1,6 @@
-use Rattle.std.proofs.Common.{◌≡◌, drop, map}
-use Rattle.std.specs.BTreeMap.{get_by_text}
+use Rattle.std.{proofs.Common.{◌≡◌, drop, map}, specs.BTreeMap.{get_by_text}}
 use Rattle.serde_json.specs.View.{view}
-use Rattle.fm_ljson.specs.Measured.{first_large, large_in}
-use Rattle.fm_ljson.specs.Views.{numbered_view, parts_view}
+use Rattle.fm_ljson.specs.{Measured.{first_large, large_in}, Views.{numbered_view, parts_view}}
 use Rattle.fm_ljson.proofs.types.check_sizes.Given as goal
 
 abbrev pub invariant-loop-entry : goal.invariant-loop-entry

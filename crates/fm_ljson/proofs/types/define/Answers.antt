@@ -1,8 +1,5 @@
-use Rattle.std.proofs.Common.{◌∙◌, Some, ap}
-use Rattle.std.proofs.lemmas.Map.Text.{btree_map_updates_text}
+use Rattle.std.{proofs.{Common.{◌∙◌, Some, ap}, lemmas.Map.Text.{btree_map_updates_text}}, specs.{BTreeMap.{get_by_text}, Prelude.{string_bytes}}}
 use Rattle.fm_ljson.specs.Refs.{knowing}
-use Rattle.std.specs.BTreeMap.{get_by_text}
-use Rattle.std.specs.Prelude.{string_bytes}
 use Rattle.fm_ljson.proofs.types.define.Goals as goal
 
 pub returns : goal.returns

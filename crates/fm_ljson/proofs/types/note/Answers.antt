@@ -1,7 +1,4 @@
-use Rattle.std.proofs.Common.{◌∙◌, ap, true}
-use Rattle.std.specs.BTreeSet.{contains_text}
-use Rattle.std.specs.Prelude.{string_bytes}
-use Rattle.std.proofs.lemmas.Map.Text.{btree_set_updates_text}
+use Rattle.std.{proofs.{Common.{◌∙◌, ap, true}, lemmas.Map.Text.{btree_set_updates_text}}, specs.{BTreeSet.{contains_text}, Prelude.{string_bytes}}}
 use Rattle.fm_ljson.specs.Refs.{also_known}
 use Rattle.fm_ljson.proofs.types.note.Goals as goal
 

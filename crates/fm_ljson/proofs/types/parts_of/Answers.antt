@@ -1,11 +1,7 @@
 -- Entries are read from the first to the last, each behind the names of the earlier ones.
-use Rattle.std.proofs.Common.{◌∙◌, ◌+◌, List, [], ◌∷◌, ap, drop, map, subst, sym}
-use Rattle.std.proofs.lemmas.List.{map-append}
-use Rattle.std.specs.BTreeSet.{contains_text}
+use Rattle.std.{proofs.{Common.{◌∙◌, ◌+◌, List, [], ◌∷◌, ap, drop, map, subst, sym}, lemmas.List.{map-append}}, specs.BTreeSet.{contains_text}}
 use Rattle.serde_json.specs.View.{view}
-use Rattle.fm_ljson.specs.Documents.{Numbered}
-use Rattle.fm_ljson.specs.Loops.{IsReading}
-use Rattle.fm_ljson.specs.Views.{numbered_view}
+use Rattle.fm_ljson.specs.{Documents.{Numbered}, Loops.{IsReading}, Views.{numbered_view}}
 use Rattle.fm_ljson.proofs.Entries.{bad_at, reading_broken, reading_item, reading_more}
 use Rattle.fm_ljson.proofs.types.parts_of.Goals as goal
 

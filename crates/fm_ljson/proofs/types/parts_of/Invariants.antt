@@ -1,8 +1,6 @@
-use Rattle.std.proofs.Common.{drop, map}
-use Rattle.std.specs.BTreeSet.{contains_text}
+use Rattle.std.{proofs.Common.{drop, map}, specs.BTreeSet.{contains_text}}
 use Rattle.serde_json.specs.View.{view}
-use Rattle.fm_ljson.specs.Loops.{IsReading}
-use Rattle.fm_ljson.specs.Views.{numbered_view}
+use Rattle.fm_ljson.specs.{Loops.{IsReading}, Views.{numbered_view}}
 use Rattle.fm_ljson.proofs.types.parts_of.Given as goal
 
 abbrev pub invariant-loop-value : goal.invariant-loop-value

@@ -1,6 +1,5 @@
 use Rattle.std.specs.Bool.{one_answer}
-use Rattle.fm_ljson.specs.Node.{is_name}
-use Rattle.fm_ljson.proofs.Inside.{is_name-Decides}
+use Rattle.fm_ljson.{specs.Node.{is_name}, proofs.Inside.{is_name-Decides}}
 use Rattle.fm_ljson.proofs.values.is_name.Goals as goal
 
 pub returns : goal.returns

@@ -1,8 +1,6 @@
 use Rattle.std.proofs.Common.{Some, List, map, option_map, ap, sym, ◌∙◌}
-use Rattle.serde_json.specs.View.{view}
-use Rattle.serde_json.specs.declared.value.Value.{Value}
-use Rattle.fm_ljson.specs.Node.{list_of}
-use Rattle.fm_ljson.proofs.Inside.{list_of-items_of}
+use Rattle.serde_json.specs.{View.{view}, declared.value.Value.{Value}}
+use Rattle.fm_ljson.{specs.Node.{list_of}, proofs.Inside.{list_of-items_of}}
 use Rattle.fm_ljson.proofs.values.members_in.Goals as goal
 
 pub returns-in-Some : goal.returns-in-Some

@@ -1,8 +1,6 @@
 use Rattle.std.proofs.Common.{◌∙◌, ◌+◌, ap, map, subst, sym, arith, List, refl}
-use Rattle.serde_json.specs.Data.{Data}
-use Rattle.serde_json.specs.View.{view}
-use Rattle.fm_ljson_write.specs.Canonical.{json_of}
-use Rattle.fm_ljson_write.proofs.Rest.{IsFilling, deep_element, deep_member, filling_more, filling_end, impossible, viewed_last}
+use Rattle.serde_json.specs.{Data.{Data}, View.{view}}
+use Rattle.fm_ljson_write.{specs.Canonical.{json_of}, proofs.Rest.{IsFilling, deep_element, deep_member, filling_more, filling_end, impossible, viewed_last}}
 use Rattle.fm_ljson_write.proofs.canonical.+writing.Goals as goal
 
 pub items_of-returns-in_default : goal.items_of-returns-in_default

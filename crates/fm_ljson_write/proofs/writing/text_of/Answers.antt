@@ -1,12 +1,6 @@
-use Rattle.std.proofs.Common.{◌∙◌, ◌≡◌, ◌≤◌, ap, false, arith, inl, inr}
-use Rattle.std.proofs.lemmas.Str.{is_utf8-from_IsUtf8}
-use Rattle.serde_json.specs.Data.{depth}
-use Rattle.serde_json.specs.Read.{max_depth}
-use Rattle.serde_json.specs.View.{view}
-use Rattle.serde_json.specs.Written.{has_float}
-use Rattle.fm_ljson_write.proofs.Again.{stands_again}
-use Rattle.fm_ljson_write.proofs.Deep.{document_depth, json_depth}
-use Rattle.fm_ljson_write.proofs.Floats.{no_float, no_float_document}
+use Rattle.std.proofs.{Common.{◌∙◌, ◌≡◌, ◌≤◌, ap, false, arith, inl, inr}, lemmas.Str.{is_utf8-from_IsUtf8}}
+use Rattle.serde_json.specs.{Data.{depth}, Read.{max_depth}, View.{view}, Written.{has_float}}
+use Rattle.fm_ljson_write.proofs.{Again.{stands_again}, Deep.{document_depth, json_depth}, Floats.{no_float, no_float_document}}
 use Rattle.fm_ljson_write.proofs.writing.text_of.Goals as goal
 
 pub returns-clause-text : goal.returns-clause-text

@@ -1,5 +1,4 @@
-use Rattle.fm_pages.proofs.Bids.{bids_begin, bids_go_on, bid_claimed}
-use Rattle.fm_pages.proofs.Looking.{bid_none}
+use Rattle.fm_pages.proofs.{Bids.{bids_begin, bids_go_on, bid_claimed}, Looking.{bid_none}}
 use Rattle.fm_pages.proofs.claiming.claim.Goals as goal
 
 pub loop-init : goal.loop-init

@@ -1,7 +1,5 @@
 use Rattle.std.proofs.Common.{◌<◌, ◌≤◌, subst, arith}
-use Rattle.fm_words.specs.declared.shape.Shape.{Shape}
-use Rattle.fm_words.specs.Places.{page_groups}
-use Rattle.fm_words.specs.Shapes.{IsValid}
+use Rattle.fm_words.specs.{declared.shape.Shape.{Shape}, Places.{page_groups}, Shapes.{IsValid}}
 use Rattle.fm_pages.proofs.Looking.{looks_all, looks_begin, looks_on, looks_so_far}
 use Rattle.fm_pages.proofs.claiming.finds_none.Goals as goal
 

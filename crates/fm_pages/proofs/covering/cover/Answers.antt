@@ -1,8 +1,7 @@
 use Rattle.std.proofs.Common.{◌≡◌, ◌*◌, ◌/◌, ◌<◌, ◌≤◌, ℕ, ap, sym, ◌∙◌, subst, arith}
 use Rattle.fm_words.specs.declared.shape.Shape.{Shape}
 use Rattle.fm_rule_facts.specs.Views.{limit_of}
-use Rattle.fm_pages.specs.Covers.{Covering, page_bytes}
-use Rattle.fm_pages.proofs.Parts.{of_way}
+use Rattle.fm_pages.{specs.Covers.{Covering, page_bytes}, proofs.Parts.{of_way}}
 use Rattle.fm_pages.proofs.Ranges.{covering_begins, covering_more, covering_all, covering_lacks, past_reach}
 use Rattle.fm_pages.proofs.covering.cover.Goals as goal
 

@@ -1,8 +1,7 @@
 use Rattle.std.proofs.Common.{◌+◌, ◌≤◌, ℕ, true, false, ap, sym, ◌∙◌, subst}
 use Rattle.fm_base.specs.Machine.{rounded_up}
 use Rattle.fm_rule_facts.specs.Views.{limit_of}
-use Rattle.fm_pages.specs.Covers.{Covered}
-use Rattle.fm_pages.proofs.Gives.{room_some, tried_past, tried_covered, tried_unpaged}
+use Rattle.fm_pages.{specs.Covers.{Covered}, proofs.Gives.{room_some, tried_past, tried_covered, tried_unpaged}}
 use Rattle.fm_pages.proofs.giving.try_at.Goals as goal
 
 pub returns-in-None : goal.returns-in-None

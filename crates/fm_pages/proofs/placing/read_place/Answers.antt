@@ -1,13 +1,8 @@
 use Rattle.std.proofs.Common.{◌≡◌, ◌<◌, ◌/◌, ◌%◌, ◌-◌, [], ℕ, ap, sym, ◌∙◌, subst, arith, Some}
-use Rattle.fm_words.specs.declared.shape.Shape.{Shape}
-use Rattle.fm_words.specs.Places.{at, page_word}
-use Rattle.fm_rule_facts.specs.Parts.{reads_after}
-use Rattle.fm_rule_facts.specs.Views.{View}
-use Rattle.fm_rule_facts.specs.Moves.{LearnsMap}
-use Rattle.fm_rule_facts.specs.Steps.{Stepped, none_noted}
-use Rattle.fm_pages.proofs.Finding.{mapped, part_low, placed}
+use Rattle.fm_words.specs.{declared.shape.Shape.{Shape}, Places.{at, page_word}}
+use Rattle.fm_rule_facts.specs.{Parts.{reads_after}, Views.{View}, Moves.{LearnsMap}, Steps.{Stepped, none_noted}}
+use Rattle.fm_pages.proofs.{Finding.{mapped, part_low, placed}, placing.read_place.Goals.{In-Some}}
 use Rattle.fm_pages.proofs.placing.read_place.Goals as goal
-use Rattle.fm_pages.proofs.placing.read_place.Goals.{In-Some}
 
 -- the pool's shape is the pass's
 shape_is : (c : In-Some) → c.shape-shape.result ≡ c.args.pass.now.shape

@@ -2,8 +2,7 @@
 use Rattle.std.proofs.Common.{◌∙◌, ◌<◌, ◌≤◌, ◌+◌, ◌*◌, ◌^◌, ◌++◌, length, ap, sym, arith}
 use Rattle.fm_layout.specs.Depth.{depth}
 use Rattle.fm_path_text.specs.Grammar.{piece_of}
-use Rattle.fm_path.proofs.Noted.{note_start, note_more, step_is}
-use Rattle.fm_path.proofs.Texts.{list_start, list_more, list_past, list_end, deep_member, inner_fits}
+use Rattle.fm_path.proofs.{Noted.{note_start, note_more, step_is}, Texts.{list_start, list_more, list_past, list_end, deep_member, inner_fits}}
 use Rattle.fm_path.proofs.listing.+listing.Goals as goal
 
 pub list_members-loop-i-init : goal.list_members-loop-i-init

@@ -1,8 +1,6 @@
-use Rattle.std.proofs.Common.{◌+◌, ◌*◌}
-use Rattle.std.specs.String.{string_bytes}
+use Rattle.std.{proofs.Common.{◌+◌, ◌*◌}, specs.String.{string_bytes}}
 use Rattle.fm_layout.specs.Depth.{depth}
-use Rattle.fm_path.proofs.Noted.{HasNoted}
-use Rattle.fm_path.proofs.Texts.{IsListing}
+use Rattle.fm_path.proofs.{Noted.{HasNoted}, Texts.{IsListing}}
 use Rattle.fm_path.proofs.listing.+listing.Given as goal
 
 abbrev pub decreases-list : goal.decreases-list

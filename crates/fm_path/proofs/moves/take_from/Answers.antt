@@ -1,6 +1,5 @@
 -- Where there is a second index, a step stays in the sequence.
-use Rattle.std.proofs.Common.{arith, ap, ◌*◌, w64, of_z}
-use Rattle.std.proofs.lemmas.Int.{to_z-of_z}
+use Rattle.std.proofs.{Common.{arith, ap, ◌*◌, w64, of_z}, lemmas.Int.{to_z-of_z}}
 use Rattle.fm_path_meaning.proofs.Bounds.{is_short}
 use Rattle.fm_path.proofs.moves.take_from.Goals as goal
 

@@ -1,8 +1,6 @@
 -- With no step left open the pass comes to one place.
-use Rattle.std.proofs.Common.{arith}
-use Rattle.std.proofs.lemmas.Result.{err_from_is_err_and}
-use Rattle.fm_path_meaning.specs.Walk.{move_closed}
-use Rattle.fm_path_meaning.proofs.Walking.{on_way_closed, on_way_err, on_way_finds, refused_closed}
+use Rattle.std.proofs.{Common.{arith}, lemmas.Result.{err_from_is_err_and}}
+use Rattle.fm_path_meaning.{specs.Walk.{move_closed}, proofs.Walking.{on_way_closed, on_way_err, on_way_finds, refused_closed}}
 use Rattle.fm_path.proofs.resolution.byte_offset.Goals as goal
 
 pub returns-in_err-moved-clause-refused : goal.returns-in_err-moved-clause-refused

@@ -1,6 +1,5 @@
 use Rattle.std.specs.Prelude.{[]}
-use Rattle.fm_path_meaning.specs.Walk.{move_closed}
-use Rattle.fm_path_meaning.proofs.Walking.{IsOnWay}
+use Rattle.fm_path_meaning.{specs.Walk.{move_closed}, proofs.Walking.{IsOnWay}}
 use Rattle.fm_path.proofs.resolution.byte_offset.Given as goal
 
 abbrev pub invariant-loop-k : goal.invariant-loop-k

@@ -1,10 +1,7 @@
 -- The pass over the path is the definition's walk; the place it comes to is the one that following finds.
-use Rattle.std.proofs.Common.{subst, sym, arith}
-use Rattle.std.proofs.lemmas.Result.{err_from_is_err_and}
-use Rattle.fm_path_meaning.specs.Walk.{move}
-use Rattle.fm_path_meaning.proofs.Walking.{on_way_more, on_way_err, on_way_leads, leads_end, refused}
-use Rattle.fm_path.specs.Resolution.{IsResolved, at_step, no_value, no_memory}
-use Rattle.fm_path.proofs.Resolving.{stays_inside, is_resolved}
+use Rattle.std.proofs.{Common.{subst, sym, arith}, lemmas.Result.{err_from_is_err_and}}
+use Rattle.fm_path_meaning.{specs.Walk.{move}, proofs.Walking.{on_way_more, on_way_err, on_way_leads, leads_end, refused}}
+use Rattle.fm_path.{specs.Resolution.{IsResolved, at_step, no_value, no_memory}, proofs.Resolving.{stays_inside, is_resolved}}
 use Rattle.fm_path.proofs.resolution.resolve.Goals as goal
 
 pub returns-in_err-moved-clause-refused : goal.returns-in_err-moved-clause-refused

@@ -1,5 +1,4 @@
-use Rattle.fm_path_meaning.specs.Walk.{move}
-use Rattle.fm_path_meaning.proofs.Walking.{IsOnWay}
+use Rattle.fm_path_meaning.{specs.Walk.{move}, proofs.Walking.{IsOnWay}}
 use Rattle.fm_path.proofs.resolution.resolve.Given as goal
 
 abbrev pub invariant-loop-k : goal.invariant-loop-k

@@ -1,6 +1,4 @@
-use Rattle.std.proofs.Common.{rules, ◌≡◌, ap, ◌∙◌}
-use Rattle.std.specs.Int.{w64, cast_unsigned, cast_signed}
-use Rattle.std.proofs.lemmas.Int.{to_z-of_z}
+use Rattle.std.{proofs.{Common.{rules, ◌≡◌, ap, ◌∙◌}, lemmas.Int.{to_z-of_z}}, specs.Int.{w64, cast_unsigned, cast_signed}}
 use Rattle.fm_path.proofs.Indices.{moves}
 use Rattle.fm_path.proofs.resolved.moved_by.Goals as goal
 

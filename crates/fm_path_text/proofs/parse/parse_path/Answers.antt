@@ -1,10 +1,8 @@
 -- Each byte takes the reader on as the definition says; a byte where it dies, or a part that isn't whole, ends the longest prefix.
 use Rattle.std.proofs.Common.{◌≡◌, ◌∙◌, ap, get_or, length, arith}
-use Rattle.fm_path_text.specs.Reader.{sign_of, next}
-use Rattle.fm_path_text.specs.declared.part.Move.{Move}
-use Rattle.fm_path_text.proofs.Parsing.{goes_on, stays, ends_at, is_found, ends_all}
-use Rattle.fm_path_text.proofs.parse.parse_path.Goals as goal
+use Rattle.fm_path_text.{specs.{Reader.{sign_of, next}, declared.part.Move.{Move}}, proofs.Parsing.{goes_on, stays, ends_at, is_found, ends_all}}
 use Rattle.fm_path_text.proofs.parse.parse_path.Goals.{in-Stay, in-Finish+in-Ok}
+use Rattle.fm_path_text.proofs.parse.parse_path.Goals as goal
 
 pub returns-in-Dead-clause-refused : goal.returns-in-Dead-clause-refused
 returns-in-Dead-clause-refused c =

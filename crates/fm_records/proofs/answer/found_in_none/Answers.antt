@@ -1,6 +1,5 @@
 -- Item by item.
-use Rattle.std.proofs.Common.{◌≡◌, ◌+◌, ◌<◌, ℕ, List, [], ◌∷◌, ◌++◌, length, get_or, map, take, ◌∙◌, ap, sym}
-use Rattle.std.proofs.lemmas.List.{map-append, take_all, take_more}
+use Rattle.std.proofs.{Common.{◌≡◌, ◌+◌, ◌<◌, ℕ, List, [], ◌∷◌, ◌++◌, length, get_or, map, take, ◌∙◌, ap, sym}, lemmas.List.{map-append, take_all, take_more}}
 use Rattle.std.proofs.lemmas.Result.{IfOk-from_err}
 use Rattle.fm_records_query.specs.declared.item.Item.{Item}
 use Rattle.fm_records.specs.Answers.{found_in, item_found}

@@ -1,8 +1,6 @@
 -- Nothing was found.
 use Rattle.std.proofs.Common.{[], map, ◌∙◌, ap, sym, subst}
-use Rattle.fm_records.specs.Answers.{item_found}
-use Rattle.fm_records.specs.Few.{AreFew}
-use Rattle.fm_records.proofs.Few.{nothing_few}
+use Rattle.fm_records.{specs.{Answers.{item_found}, Few.{AreFew}}, proofs.Few.{nothing_few}}
 use Rattle.fm_records.proofs.answer.of_no_records.Goals as goal
 
 pub returns-clause-few : goal.returns-clause-few

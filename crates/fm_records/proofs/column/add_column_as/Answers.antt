@@ -1,8 +1,7 @@
 -- The values of a column are gone through one by one.
 use Rattle.std.proofs.Common.{◌≡◌, ℕ, ◌∷◌, [], Ok, Err, ◌+◌, ◌*◌, ◌/◌, ◌<◌, ◌∙◌, ap, suc, subst, arith}
 use Rattle.fm_records.proofs.Columns.{column_can, column_recorded}
-use Rattle.fm_records.proofs.Recording.{next_lies, next_room, recorded_all, recorded_more, recorded_none, recorded_stops}
-use Rattle.fm_records.proofs.Visiting.{can_still}
+use Rattle.fm_records.proofs.{Recording.{next_lies, next_room, recorded_all, recorded_more, recorded_none, recorded_stops}, Visiting.{can_still}}
 use Rattle.fm_records.proofs.column.add_column_as.Goals as goal
 
 pub loop-init : goal.loop-init

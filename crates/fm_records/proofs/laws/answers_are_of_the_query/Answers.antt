@@ -1,5 +1,4 @@
-use Rattle.fm_records.specs.Records.{records}
-use Rattle.fm_records.proofs.Joining.{found_over_is}
+use Rattle.fm_records.{specs.Records.{records}, proofs.Joining.{found_over_is}}
 use Rattle.fm_records.proofs.laws.answers_are_of_the_query.Goals as goal
 
 pub returns : goal.returns

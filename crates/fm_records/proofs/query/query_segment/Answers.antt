@@ -1,8 +1,6 @@
 -- A query's tests come first, and then its records.
-use Rattle.std.proofs.Common.{◌∙◌, refl, arith}
-use Rattle.std.proofs.lemmas.List.{take_at}
-use Rattle.fm_records.proofs.Learning.{queried}
-use Rattle.fm_records.proofs.Recording.{query_wants, query_done, query_stopped, tested}
+use Rattle.std.proofs.{Common.{◌∙◌, refl, arith}, lemmas.List.{take_at}}
+use Rattle.fm_records.proofs.{Learning.{queried}, Recording.{query_wants, query_done, query_stopped, tested}}
 use Rattle.fm_records.proofs.query.query_segment.Goals as goal
 
 pub returns-in-Err : goal.returns-in-Err

@@ -1,6 +1,5 @@
 -- An item's values are read, or there are none.
-use Rattle.std.proofs.Common.{length, sym, ap, ◌∙◌, subst}
-use Rattle.std.proofs.lemmas.Bool.{eqb-true, eqb-false}
+use Rattle.std.proofs.{Common.{length, sym, ap, ◌∙◌, subst}, lemmas.Bool.{eqb-true, eqb-false}}
 use Rattle.fm_path.specs.Wide.{wide_dims}
 use Rattle.fm_records.specs.Paths.{CanAddAll}
 use Rattle.fm_records.proofs.Items.{is_none, is_some, item_can, item_closed, item_counted, item_inside, item_open, item_room, some_none}

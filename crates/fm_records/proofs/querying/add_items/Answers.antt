@@ -1,8 +1,7 @@
 -- The items are added one by one.
 use Rattle.std.proofs.Common.{Err, refl, sym, subst}
 use Rattle.fm_base_lists.proofs.Each.{all_at}
-use Rattle.fm_records.specs.Adds.{IsItemReadable}
-use Rattle.fm_records.proofs.Items.{items_start, next_within, next_open, item_more, item_refused, items_all}
+use Rattle.fm_records.{specs.Adds.{IsItemReadable}, proofs.Items.{items_start, next_within, next_open, item_more, item_refused, items_all}}
 use Rattle.fm_records.proofs.Seeing.{sees_still}
 use Rattle.fm_records.proofs.querying.add_items.Goals as goal
 

@@ -1,8 +1,6 @@
 -- There are no values, or they are added.
 use Rattle.std.proofs.Common.{[], refl}
-use Rattle.fm_records.specs.Paths.{CanAddAll}
-use Rattle.fm_records.proofs.Items.{none_open}
-use Rattle.fm_records.proofs.Shapes.{is_one}
+use Rattle.fm_records.{specs.Paths.{CanAddAll}, proofs.{Items.{none_open}, Shapes.{is_one}}}
 use Rattle.fm_records.proofs.querying.add_open.Goals as goal
 
 pub returns-then-has_no_values : goal.returns-then-has_no_values

@@ -2,9 +2,7 @@
 use Rattle.std.proofs.Common.{false, Ok, Err, refl, ap, sym, subst}
 use Rattle.fm_base.specs.declared.refusal.Refusal.TheVariants.{Closed}
 use Rattle.fm_base_lists.proofs.Each.{all_at}
-use Rattle.fm_records.specs.Adds.{IsTestable}
-use Rattle.fm_records.proofs.Testing.{none_tested, test_holds, test_ends, all_tested}
-use Rattle.fm_records.proofs.Seeing.{sees_still}
+use Rattle.fm_records.{specs.Adds.{IsTestable}, proofs.{Testing.{none_tested, test_holds, test_ends, all_tested}, Seeing.{sees_still}}}
 use Rattle.fm_records.proofs.querying.chooses.Goals as goal
 
 pub loop-condition-init : goal.loop-condition-init

@@ -1,10 +1,8 @@
 -- A condition's value is read and compared.
-use Rattle.std.proofs.Common.{◌≡◌, refl, ap, ◌∙◌, arith, w64, rules}
-use Rattle.std.proofs.lemmas.Int.{to_z-of_z}
+use Rattle.std.proofs.{Common.{◌≡◌, refl, ap, ◌∙◌, arith, w64, rules}, lemmas.Int.{to_z-of_z}}
 use mir.Val.{to_z, of_z}
 use Rattle.fm_base.specs.declared.refusal.Refusal.TheVariants.{Closed}
-use Rattle.fm_records.specs.Answers.{compares}
-use Rattle.fm_records.proofs.Testing.{test_closed, test_done, testable_lies}
+use Rattle.fm_records.{specs.Answers.{compares}, proofs.Testing.{test_closed, test_done, testable_lies}}
 use Rattle.fm_records.proofs.querying.holds_at.Goals as goal
 
 pub overflow_add-at : goal.overflow_add-at

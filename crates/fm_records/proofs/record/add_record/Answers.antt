@@ -1,9 +1,7 @@
 -- A record's conditions are tested, and then its items are read.
 use Rattle.fm_base.specs.declared.refusal.Refusal.TheVariants.{Closed}
-use Rattle.fm_records.proofs.Few.{plan_items_open}
-use Rattle.fm_records.proofs.Plans.{plan_items_readable, plan_conditions_testable}
-use Rattle.fm_records.proofs.Recording.{record_chosen, record_passed, record_stopped}
-use Rattle.fm_records.proofs.Seeing.{sees_still}
+use Rattle.fm_records.proofs.{Few.{plan_items_open}, Plans.{plan_items_readable, plan_conditions_testable}}
+use Rattle.fm_records.proofs.{Recording.{record_chosen, record_passed, record_stopped}, Seeing.{sees_still}}
 use Rattle.fm_records.proofs.record.add_record.Goals as goal
 
 pub chooses-requires-clause-testable : goal.chooses-requires-clause-testable

@@ -1,8 +1,6 @@
 -- The values are read and added index by index.
 use Rattle.std.proofs.Common.{◌-◌, length, arith}
-use Rattle.fm_records.proofs.Adding.{added_start, added_all}
-use Rattle.fm_records.proofs.Reaching.{turn_inside, turn_can, turn_added, turn_stops}
-use Rattle.fm_records.proofs.Shapes.{is_none, is_one, is_some}
+use Rattle.fm_records.proofs.{Adding.{added_start, added_all}, Reaching.{turn_inside, turn_can, turn_added, turn_stops}, Shapes.{is_none, is_one, is_some}}
 use Rattle.fm_records.proofs.values.+adding.Goals as goal
 
 pub add_all-add_value-requires : goal.add_all-add_value-requires

@@ -1,6 +1,5 @@
 use Rattle.std.proofs.Common.{◌+◌, ◌*◌, length}
-use Rattle.fm_records.specs.Rows.{words_of}
-use Rattle.fm_records.proofs.Adding.{AreAdded}
+use Rattle.fm_records.{specs.Rows.{words_of}, proofs.Adding.{AreAdded}}
 use Rattle.fm_records.proofs.values.+adding.Given as goal
 
 abbrev pub decreases-add_all : goal.decreases-add_all

@@ -1,7 +1,6 @@
 -- The values of one row are read and added index by index.
 use Rattle.std.proofs.Common.{arith}
-use Rattle.fm_records.proofs.Adding.{added_start, added_all}
-use Rattle.fm_records.proofs.Reaching.{turn_inside, turn_can, turn_added, turn_stops}
+use Rattle.fm_records.proofs.{Adding.{added_start, added_all}, Reaching.{turn_inside, turn_can, turn_added, turn_stops}}
 use Rattle.fm_records.proofs.values.add_row_as.Goals as goal
 
 pub loop-i-init : goal.loop-i-init

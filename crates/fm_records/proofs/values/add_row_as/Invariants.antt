@@ -1,6 +1,5 @@
 use Rattle.std.proofs.Common.{[]}
-use Rattle.fm_records.specs.Rows.{words_of}
-use Rattle.fm_records.proofs.Adding.{AreAdded}
+use Rattle.fm_records.{specs.Rows.{words_of}, proofs.Adding.{AreAdded}}
 use Rattle.fm_records.proofs.values.add_row_as.Given as goal
 
 abbrev pub invariant-loop-i : goal.invariant-loop-i

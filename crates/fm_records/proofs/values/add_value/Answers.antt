@@ -1,9 +1,7 @@
 -- One value's number is read, and then added.
-use Rattle.std.proofs.Common.{◌+◌, w64, rules, arith}
-use Rattle.std.proofs.lemmas.Int.{to_z-of_z}
+use Rattle.std.proofs.{Common.{◌+◌, w64, rules, arith}, lemmas.Int.{to_z-of_z}}
 use Rattle.fm_base.specs.declared.refusal.Refusal.TheVariants.{Closed}
-use Rattle.fm_records.proofs.Adding.{value_added, value_stops}
-use Rattle.fm_records.proofs.Reaching.{closed_lies}
+use Rattle.fm_records.proofs.{Adding.{value_added, value_stops}, Reaching.{closed_lies}}
 use Rattle.fm_records.proofs.values.add_value.Goals as goal
 
 pub overflow_add-place : goal.overflow_add-place

@@ -1,12 +1,9 @@
 -- A value in two words, each kept or read.
-use Rattle.std.proofs.Common.{◌≡◌, ◌∙◌, ◌/◌, ◌+◌, ap, w64, rules}
-use Rattle.std.proofs.lemmas.Int.{to_z-of_z}
+use Rattle.std.proofs.{Common.{◌≡◌, ◌∙◌, ◌/◌, ◌+◌, ap, w64, rules}, lemmas.Int.{to_z-of_z}}
 use mir.Val.{to_z, of_z}
 use Rattle.fm_base.specs.declared.refusal.Refusal.TheVariants.{Closed}
-use Rattle.fm_records.specs.Words.{if_new, kept_after}
+use Rattle.fm_records.{specs.Words.{if_new, kept_after}, proofs.{Getting.{closed_high, closed_low, got_across}, Seeing.{sees_still, word_above, word_of_place}}}
 use Rattle.fm_lanes.proofs.Meaning.{width_of-bounds}
-use Rattle.fm_records.proofs.Getting.{closed_high, closed_low, got_across}
-use Rattle.fm_records.proofs.Seeing.{sees_still, word_above, word_of_place}
 use Rattle.fm_records.proofs.values.number_across.Goals as goal
 
 pub fetch-requires-clause-word : goal.fetch-requires-clause-word

@@ -1,10 +1,7 @@
 -- The parts of a value in two words are put side by side.
-use Rattle.std.proofs.Common.{◌∙◌, ap, refl, w64, rules, arith}
-use Rattle.std.proofs.lemmas.Int.{to_z-of_z}
-use Rattle.fm_lanes.specs.Kind.{width_of}
-use Rattle.fm_lanes.proofs.Meaning.{width_of-bounds}
-use Rattle.fm_records.specs.Words.{number_of}
-use Rattle.fm_records.proofs.ByWords.{placed}
+use Rattle.std.proofs.{Common.{◌∙◌, ap, refl, w64, rules, arith}, lemmas.Int.{to_z-of_z}}
+use Rattle.fm_lanes.{specs.Kind.{width_of}, proofs.Meaning.{width_of-bounds}}
+use Rattle.fm_records.{specs.Words.{number_of}, proofs.ByWords.{placed}}
 use Rattle.fm_records.proofs.values.number_between.Goals as goal
 
 pub overflow_add-read : goal.overflow_add-read

@@ -1,11 +1,9 @@
 -- A value in one word, kept or read.
-use Rattle.std.proofs.Common.{◌≡◌, ◌∙◌, w64, rules}
-use Rattle.std.proofs.lemmas.Int.{to_z-of_z}
+use Rattle.std.proofs.{Common.{◌≡◌, ◌∙◌, w64, rules}, lemmas.Int.{to_z-of_z}}
 use mir.Val.{to_z, of_z}
 use Rattle.fm_base.specs.declared.refusal.Refusal.TheVariants.{Closed}
 use Rattle.fm_lanes.proofs.Meaning.{width_of-bounds}
-use Rattle.fm_records.proofs.Getting.{closed_inside, got_inside}
-use Rattle.fm_records.proofs.Seeing.{word_of_place}
+use Rattle.fm_records.proofs.{Getting.{closed_inside, got_inside}, Seeing.{word_of_place}}
 use Rattle.fm_records.proofs.values.number_inside.Goals as goal
 
 pub fetch-requires-clause-word : goal.fetch-requires-clause-word

@@ -1,8 +1,7 @@
 -- A word is known, or it is read.
 use Rattle.std.proofs.Common.{Err, Ok, refl, subst, sym}
 use Rattle.fm_base.specs.declared.refusal.Refusal.TheVariants.{Closed}
-use Rattle.fm_records.specs.Reads.{Fetches, Sees}
-use Rattle.fm_records.proofs.Seeing.{reaches_word, sees_none, word_closed, word_read}
+use Rattle.fm_records.{specs.Reads.{Fetches, Sees}, proofs.Seeing.{reaches_word, sees_none, word_closed, word_read}}
 use Rattle.fm_records.proofs.words.fetch.Goals as goal
 
 pub returns-in-Some : goal.returns-in-Some

@@ -1,8 +1,6 @@
-use Rattle.std.proofs.Common.{◌+◌, ◌<◌, length, drop, arith}
-use Rattle.std.proofs.lemmas.Result.{err_from_is_err_and}
+use Rattle.std.proofs.{Common.{◌+◌, ◌<◌, length, drop, arith}, lemmas.Result.{err_from_is_err_and}}
 use Rattle.fm_io.proofs.Sent.{goes_on, stops, ends}
-use Rattle.fm_records.specs.Texts.{line_text, lines_text}
-use Rattle.fm_records.proofs.Sent.{next_line, no_line}
+use Rattle.fm_records.{specs.Texts.{line_text, lines_text}, proofs.Sent.{next_line, no_line}}
 use Rattle.fm_records.proofs.writing.send_lines.Goals as goal
 
 pub loop-k-preserved : goal.loop-k-preserved

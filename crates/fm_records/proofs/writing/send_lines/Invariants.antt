@@ -1,5 +1,4 @@
-use Rattle.std.proofs.Common.{drop}
-use Rattle.std.specs.String.{string_bytes}
+use Rattle.std.{proofs.Common.{drop}, specs.String.{string_bytes}}
 use Rattle.fm_io.proofs.Sent.{IsUnderWay}
 use Rattle.fm_records.specs.Texts.{lines_text}
 use Rattle.fm_records.proofs.writing.send_lines.Given as goal

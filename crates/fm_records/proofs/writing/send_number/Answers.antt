@@ -1,11 +1,6 @@
-use Rattle.std.proofs.Common.{◌≡◌, ◌++◌, ◌∙◌, List, ℕ, codes, ap, subst, of_z, to_z, w64, rules}
-use Rattle.std.specs.Fmt.{signed_decimal}
-use Rattle.std.specs.String.{string_bytes}
-use Rattle.std.proofs.lemmas.Int.{to_z-of_z}
-use Rattle.std.proofs.lemmas.List.{append-nil}
-use Rattle.std.proofs.lemmas.Result.{err_from_is_err_and}
-use Rattle.fm_io.specs.Sending.{Sends}
-use Rattle.fm_io.proofs.Sent.{sent_then}
+use Rattle.std.{proofs.Common.{◌≡◌, ◌++◌, ◌∙◌, List, ℕ, codes, ap, subst, of_z, to_z, w64, rules}, specs.{Fmt.{signed_decimal}, String.{string_bytes}}}
+use Rattle.std.proofs.lemmas.{Int.{to_z-of_z}, List.{append-nil}, Result.{err_from_is_err_and}}
+use Rattle.fm_io.{specs.Sending.{Sends}, proofs.Sent.{sent_then}}
 use Rattle.fm_records.proofs.writing.send_number.Goals as goal
 
 pub returns-in_err-push_spaced : goal.returns-in_err-push_spaced

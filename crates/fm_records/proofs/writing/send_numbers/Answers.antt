@@ -1,10 +1,7 @@
-use Rattle.std.proofs.Common.{◌≡◌, ◌+◌, ◌<◌, length, drop, of_z, to_z, w64, ◌∙◌, arith, rules}
-use Rattle.std.specs.List.{flat_map}
-use Rattle.std.proofs.lemmas.Int.{to_z-of_z}
+use Rattle.std.{proofs.{Common.{◌≡◌, ◌+◌, ◌<◌, length, drop, of_z, to_z, w64, ◌∙◌, arith, rules}, lemmas.Int.{to_z-of_z}}, specs.List.{flat_map}}
 use Rattle.std.proofs.lemmas.Result.{err_from_is_err_and}
 use Rattle.fm_io.proofs.Sent.{goes_on, stops}
-use Rattle.fm_records.specs.Texts.{number_text}
-use Rattle.fm_records.proofs.Sent.{next_number}
+use Rattle.fm_records.{specs.Texts.{number_text}, proofs.Sent.{next_number}}
 use Rattle.fm_records.proofs.writing.send_numbers.Goals as goal
 
 pub loop-k-preserved : goal.loop-k-preserved

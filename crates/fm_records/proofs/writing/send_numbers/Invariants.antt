@@ -1,6 +1,4 @@
-use Rattle.std.proofs.Common.{drop}
-use Rattle.std.specs.List.{flat_map}
-use Rattle.std.specs.String.{string_bytes}
+use Rattle.std.{proofs.Common.{drop}, specs.{List.{flat_map}, String.{string_bytes}}}
 use Rattle.fm_io.proofs.Sent.{IsUnderWay}
 use Rattle.fm_records.specs.Texts.{number_text}
 use Rattle.fm_records.proofs.writing.send_numbers.Given as goal

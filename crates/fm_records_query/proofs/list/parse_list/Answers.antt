@@ -1,7 +1,5 @@
 use Rattle.std.proofs.Common.{refl}
-use Rattle.fm_records_query.specs.Lists.{list_of}
-use Rattle.fm_records_query.proofs.Lists.{list_is_query, list_refused}
-use Rattle.fm_records_query.proofs.Plans.{is_plan}
+use Rattle.fm_records_query.{specs.Lists.{list_of}, proofs.{Lists.{list_is_query, list_refused}, Plans.{is_plan}}}
 use Rattle.fm_records_query.proofs.list.parse_list.Goals as goal
 
 pub of-requires-in-Ok-resolve_all : goal.of-requires-in-Ok-resolve_all

@@ -1,7 +1,6 @@
 -- The text comes first, then the items, then the conditions.
 use Rattle.std.proofs.Common.{ap, ◌∙◌}
-use Rattle.fm_records_query.specs.Grammar.{Syntax}
-use Rattle.fm_records_query.proofs.Plans.{is_plan, item_refused, condition_refused, passed_on}
+use Rattle.fm_records_query.{specs.Grammar.{Syntax}, proofs.Plans.{is_plan, item_refused, condition_refused, passed_on}}
 use Rattle.fm_records_query.proofs.parse.parse_query.Goals as goal
 
 pub returns-in_err-items-clause-refused : goal.returns-in_err-items-clause-refused

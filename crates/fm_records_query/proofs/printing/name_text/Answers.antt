@@ -1,8 +1,5 @@
 -- The bytes of a name are ASCII, so each is one byte of the text.
-use Rattle.std.proofs.Common.{◌≡◌, ◌≤◌, ◌∷◌, ◌∙◌, ap, get_or, length, arith}
-use Rattle.std.specs.String.{string_bytes}
-use Rattle.std.proofs.lemmas.List.{take_all}
-use Rattle.std.proofs.lemmas.Result.{IfOk-from_err}
+use Rattle.std.{proofs.{Common.{◌≡◌, ◌≤◌, ◌∷◌, ◌∙◌, ap, get_or, length, arith}, lemmas.{List.{take_all}, Result.{IfOk-from_err}}}, specs.String.{string_bytes}}
 use Rattle.fm_records_query.proofs.Plans.{name_more}
 use Rattle.fm_records_query.proofs.printing.name_text.Goals as goal
 

@@ -1,5 +1,4 @@
-use Rattle.std.proofs.Common.{◌≡◌, ◌∷◌, take}
-use Rattle.std.specs.String.{string_bytes}
+use Rattle.std.{proofs.Common.{◌≡◌, ◌∷◌, take}, specs.String.{string_bytes}}
 use Rattle.fm_records_query.proofs.printing.name_text.Given as goal
 
 abbrev pub invariant-loop-k : goal.invariant-loop-k

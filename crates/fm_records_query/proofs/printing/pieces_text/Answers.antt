@@ -1,8 +1,5 @@
 -- The pieces stand one after the other.
-use Rattle.std.proofs.Common.{◌≡◌, ◌∙◌, ap, ◌++◌}
-use Rattle.std.specs.String.{string_bytes}
-use Rattle.std.proofs.lemmas.List.{take_all}
-use Rattle.std.proofs.lemmas.Result.{IfOk-from_err}
+use Rattle.std.{proofs.{Common.{◌≡◌, ◌∙◌, ap, ◌++◌}, lemmas.{List.{take_all}, Result.{IfOk-from_err}}}, specs.String.{string_bytes}}
 use Rattle.fm_path_text.specs.Grammar.{pieces_of}
 use Rattle.fm_records_query.proofs.Plans.{pieces_more}
 use Rattle.fm_records_query.proofs.printing.pieces_text.Goals as goal

@@ -1,5 +1,4 @@
-use Rattle.std.proofs.Common.{◌≡◌, take}
-use Rattle.std.specs.String.{string_bytes}
+use Rattle.std.{proofs.Common.{◌≡◌, take}, specs.String.{string_bytes}}
 use Rattle.fm_path_text.specs.Grammar.{pieces_of}
 use Rattle.fm_records_query.proofs.printing.pieces_text.Given as goal
 

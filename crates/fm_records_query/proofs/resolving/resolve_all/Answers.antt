@@ -1,8 +1,5 @@
 -- Each is resolved in its turn.
-use Rattle.std.proofs.Common.{inr, refl, subst}
-use Rattle.std.specs.List.{AllZip}
-use Rattle.std.proofs.lemmas.List.{take_all}
-use Rattle.std.proofs.lemmas.Result.{IfOk-from_err}
+use Rattle.std.{proofs.{Common.{inr, refl, subst}, lemmas.{List.{take_all}, Result.{IfOk-from_err}}}, specs.List.{AllZip}}
 use Rattle.fm_records_query.proofs.Plans.{zip_more, refused_or, passed_on}
 use Rattle.fm_records_query.proofs.resolving.resolve_all.Goals as goal
 

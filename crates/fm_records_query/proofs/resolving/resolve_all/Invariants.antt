@@ -1,5 +1,4 @@
-use Rattle.std.proofs.Common.{take}
-use Rattle.std.specs.List.{AllZip}
+use Rattle.std.{proofs.Common.{take}, specs.List.{AllZip}}
 use Rattle.fm_records_query.proofs.resolving.resolve_all.Given as goal
 
 abbrev pub invariant-loop-k : goal.invariant-loop-k

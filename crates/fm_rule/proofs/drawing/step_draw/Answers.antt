@@ -1,7 +1,5 @@
 use Rattle.fm_rule_facts.specs.Steps.{part, entries, noted}
-use Rattle.fm_rule.proofs.Knowing.{opened}
-use Rattle.fm_rule.proofs.Making.{can_draw}
-use Rattle.fm_rule.proofs.Stepping.{step_stepped, count_learnt}
+use Rattle.fm_rule.proofs.{Knowing.{opened}, Making.{can_draw}, Stepping.{step_stepped, count_learnt}}
 use Rattle.fm_rule.proofs.drawing.step_draw.Goals as goal
 
 pub exchange_as-requires-clause-can : goal.exchange_as-requires-clause-can

@@ -1,7 +1,5 @@
 use Rattle.fm_rule_facts.specs.Steps.{part, entries, noted}
-use Rattle.fm_rule.proofs.Knowing.{opened}
-use Rattle.fm_rule.proofs.Making.{can_back}
-use Rattle.fm_rule.proofs.Stepping.{step_stepped}
+use Rattle.fm_rule.proofs.{Knowing.{opened}, Making.{can_back}, Stepping.{step_stepped}}
 use Rattle.fm_rule.proofs.holding.step_back.Goals as goal
 
 pub exchange_as-requires-clause-can : goal.exchange_as-requires-clause-can

@@ -1,11 +1,6 @@
 use Rattle.std.proofs.Common.{subst, ◌≢◌, None}
-use Rattle.fm_rule_facts.specs.Views.{View, In}
-use Rattle.fm_rule_facts.specs.Words.{alive_holds}
-use Rattle.fm_rule_facts.specs.Holds.{grips}
-use Rattle.fm_rule_facts.specs.Steps.{part, entries, noted}
-use Rattle.fm_rule.proofs.Knowing.{opened}
-use Rattle.fm_rule.proofs.Making.{can_hold}
-use Rattle.fm_rule.proofs.Stepping.{step_stepped}
+use Rattle.fm_rule_facts.specs.{Views.{View, In}, Words.{alive_holds}, Holds.{grips}, Steps.{part, entries, noted}}
+use Rattle.fm_rule.proofs.{Knowing.{opened}, Making.{can_hold}, Stepping.{step_stepped}}
 use Rattle.fm_rule.proofs.holding.step_hold.Goals as goal
 
 pub exchange_as-requires-clause-can : goal.exchange_as-requires-clause-can

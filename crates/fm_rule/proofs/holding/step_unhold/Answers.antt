@@ -1,7 +1,5 @@
 use Rattle.fm_rule_facts.specs.Steps.{part, entries, noted}
-use Rattle.fm_rule.proofs.Knowing.{opened}
-use Rattle.fm_rule.proofs.Making.{can_unhold}
-use Rattle.fm_rule.proofs.Stepping.{step_stepped}
+use Rattle.fm_rule.proofs.{Knowing.{opened}, Making.{can_unhold}, Stepping.{step_stepped}}
 use Rattle.fm_rule.proofs.holding.step_unhold.Goals as goal
 
 pub subtract_as-requires-clause-can : goal.subtract_as-requires-clause-can

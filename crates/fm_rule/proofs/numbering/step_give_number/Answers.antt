@@ -1,7 +1,5 @@
 use Rattle.fm_rule_facts.specs.Steps.{part, entries, noted}
-use Rattle.fm_rule.proofs.Knowing.{opened}
-use Rattle.fm_rule.proofs.Making.{can_give_number}
-use Rattle.fm_rule.proofs.Stepping.{step_stepped}
+use Rattle.fm_rule.proofs.{Knowing.{opened}, Making.{can_give_number}, Stepping.{step_stepped}}
 use Rattle.fm_rule.proofs.numbering.step_give_number.Goals as goal
 
 pub or_as-requires-clause-can : goal.or_as-requires-clause-can

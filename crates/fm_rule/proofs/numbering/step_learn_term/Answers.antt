@@ -1,7 +1,5 @@
 use Rattle.fm_rule_facts.specs.Steps.{part, entries, noted}
-use Rattle.fm_rule.proofs.Knowing.{opened}
-use Rattle.fm_rule.proofs.Making.{can_learn_term}
-use Rattle.fm_rule.proofs.Stepping.{step_stepped}
+use Rattle.fm_rule.proofs.{Knowing.{opened}, Making.{can_learn_term}, Stepping.{step_stepped}}
 use Rattle.fm_rule.proofs.numbering.step_learn_term.Goals as goal
 
 pub load_as-requires-clause-can : goal.load_as-requires-clause-can

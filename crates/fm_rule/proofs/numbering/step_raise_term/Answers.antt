@@ -1,8 +1,6 @@
 use Rattle.std.proofs.Common.{ap, ℕ, ◌+◌}
 use Rattle.fm_rule_facts.specs.Steps.{part, entries, noted}
-use Rattle.fm_rule.proofs.Knowing.{opened}
-use Rattle.fm_rule.proofs.Making.{can_raise_term}
-use Rattle.fm_rule.proofs.Stepping.{step_stepped}
+use Rattle.fm_rule.proofs.{Knowing.{opened}, Making.{can_raise_term}, Stepping.{step_stepped}}
 use Rattle.fm_rule.proofs.numbering.step_raise_term.Goals as goal
 
 pub store_as-requires-clause-can : goal.store_as-requires-clause-can

@@ -1,7 +1,5 @@
 use Rattle.fm_rule_facts.specs.Steps.{part, entries, noted}
-use Rattle.fm_rule.proofs.Knowing.{opened, group_of_low}
-use Rattle.fm_rule.proofs.Making.{can_take_number}
-use Rattle.fm_rule.proofs.Stepping.{step_stepped}
+use Rattle.fm_rule.proofs.{Knowing.{opened, group_of_low}, Making.{can_take_number}, Stepping.{step_stepped}}
 use Rattle.fm_rule.proofs.numbering.step_take_number.Goals as goal
 
 pub number_bits_place-place-requires-clause-place : goal.number_bits_place-place-requires-clause-place

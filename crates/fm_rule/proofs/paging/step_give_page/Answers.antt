@@ -1,7 +1,5 @@
 use Rattle.fm_rule_facts.specs.Steps.{part, entries, noted}
-use Rattle.fm_rule.proofs.Knowing.{opened, sees, group_in_hand}
-use Rattle.fm_rule.proofs.Making.{can_give_page}
-use Rattle.fm_rule.proofs.Stepping.{step_stepped}
+use Rattle.fm_rule.proofs.{Knowing.{opened, sees, group_in_hand}, Making.{can_give_page}, Stepping.{step_stepped}}
 use Rattle.fm_rule.proofs.paging.step_give_page.Goals as goal
 
 pub page_bits_place-place-requires-clause-place : goal.page_bits_place-place-requires-clause-place

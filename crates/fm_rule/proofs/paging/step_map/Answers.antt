@@ -1,9 +1,6 @@
 use Rattle.std.proofs.Common.{subst, arith, ◌≤◌}
-use Rattle.fm_rule_facts.specs.Views.{View}
-use Rattle.fm_rule_facts.specs.Steps.{part, entries, noted}
-use Rattle.fm_rule.proofs.Knowing.{opened, sees, inside_slot, page_in_hand, valid}
-use Rattle.fm_rule.proofs.Making.{can_map}
-use Rattle.fm_rule.proofs.Stepping.{step_stepped}
+use Rattle.fm_rule_facts.specs.{Views.{View}, Steps.{part, entries, noted}}
+use Rattle.fm_rule.proofs.{Knowing.{opened, sees, inside_slot, page_in_hand, valid}, Making.{can_map}, Stepping.{step_stepped}}
 use Rattle.fm_rule.proofs.paging.step_map.Goals as goal
 
 pub map_place-place-requires-clause-place : goal.map_place-place-requires-clause-place

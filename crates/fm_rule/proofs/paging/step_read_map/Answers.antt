@@ -1,10 +1,7 @@
 use Rattle.std.proofs.Common.{ap, arith}
 use Rattle.fm_words.specs.declared.shape.Shape.{Shape}
 use Rattle.fm_rule_facts.specs.Steps.{part, entries, noted}
-use Rattle.fm_rule.proofs.Knowing.{opened, sees, inside_slot, shape_is}
-use Rattle.fm_rule.proofs.Making.{can_read_map}
-use Rattle.fm_rule.proofs.Keeping.{read_map_keeps}
-use Rattle.fm_rule.proofs.Stepping.{step_stepped, map_learnt}
+use Rattle.fm_rule.proofs.{Knowing.{opened, sees, inside_slot, shape_is}, Making.{can_read_map}, Keeping.{read_map_keeps}, Stepping.{step_stepped, map_learnt}}
 use Rattle.fm_rule.proofs.paging.step_read_map.Goals as goal
 
 pub map_place-place-requires-clause-place : goal.map_place-place-requires-clause-place

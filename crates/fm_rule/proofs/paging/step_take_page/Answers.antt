@@ -1,8 +1,5 @@
-use Rattle.fm_rule_facts.proofs.Groups.{group_of_page}
-use Rattle.fm_rule_facts.specs.Steps.{part, entries, noted}
-use Rattle.fm_rule.proofs.Knowing.{opened}
-use Rattle.fm_rule.proofs.Making.{can_take_page}
-use Rattle.fm_rule.proofs.Stepping.{step_stepped}
+use Rattle.fm_rule_facts.{proofs.Groups.{group_of_page}, specs.Steps.{part, entries, noted}}
+use Rattle.fm_rule.proofs.{Knowing.{opened}, Making.{can_take_page}, Stepping.{step_stepped}}
 use Rattle.fm_rule.proofs.paging.step_take_page.Goals as goal
 
 pub page_bits_place-place-requires-clause-place : goal.page_bits_place-place-requires-clause-place

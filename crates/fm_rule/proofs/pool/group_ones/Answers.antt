@@ -1,6 +1,5 @@
 use Rattle.std.proofs.Common.{sym, subst}
-use Rattle.fm_rule.specs.Beginning.{IsFull}
-use Rattle.fm_rule.proofs.Beginning.{full_word}
+use Rattle.fm_rule.{specs.Beginning.{IsFull}, proofs.Beginning.{full_word}}
 use Rattle.fm_rule.proofs.pool.group_ones.Goals as goal
 
 pub returns : goal.returns

@@ -1,8 +1,5 @@
 use Rattle.fm_rule_facts.specs.Steps.{part, entries, noted}
-use Rattle.fm_rule.proofs.Knowing.{opened}
-use Rattle.fm_rule.proofs.Making.{can_check}
-use Rattle.fm_rule.proofs.Keeping.{check_keeps}
-use Rattle.fm_rule.proofs.Stepping.{step_stepped}
+use Rattle.fm_rule.proofs.{Knowing.{opened}, Making.{can_check}, Keeping.{check_keeps}, Stepping.{step_stepped}}
 use Rattle.fm_rule.proofs.steps.step_check.Goals as goal
 
 pub load_as-word-requires-clause-can : goal.load_as-word-requires-clause-can

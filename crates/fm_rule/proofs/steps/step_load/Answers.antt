@@ -1,7 +1,5 @@
 use Rattle.fm_rule_facts.specs.Steps.{part, entries, noted}
-use Rattle.fm_rule.proofs.Knowing.{opened}
-use Rattle.fm_rule.proofs.Making.{can_load}
-use Rattle.fm_rule.proofs.Stepping.{step_stepped}
+use Rattle.fm_rule.proofs.{Knowing.{opened}, Making.{can_load}, Stepping.{step_stepped}}
 use Rattle.fm_rule.proofs.steps.step_load.Goals as goal
 
 pub load_as-requires-clause-can : goal.load_as-requires-clause-can

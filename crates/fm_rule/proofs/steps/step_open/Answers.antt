@@ -1,9 +1,7 @@
 use Rattle.std.proofs.Common.{ap, refl, arith, ◌≡◌}
 use Rattle.fm_base.specs.declared.caller.Caller.{Caller}
 use Rattle.fm_rule_facts.specs.Steps.{part, entries, noted}
-use Rattle.fm_rule.proofs.Knowing.{opened, sees, slot_in_hand, valid, number_below}
-use Rattle.fm_rule.proofs.Making.{can_open}
-use Rattle.fm_rule.proofs.Stepping.{step_stepped}
+use Rattle.fm_rule.proofs.{Knowing.{opened, sees, slot_in_hand, valid, number_below}, Making.{can_open}, Stepping.{step_stepped}}
 use Rattle.fm_rule.proofs.steps.step_open.Goals as goal
 
 pub session_place-place-requires : goal.session_place-place-requires

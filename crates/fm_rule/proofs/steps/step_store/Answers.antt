@@ -1,7 +1,5 @@
 use Rattle.fm_rule_facts.specs.Steps.{part, entries, noted}
-use Rattle.fm_rule.proofs.Knowing.{opened}
-use Rattle.fm_rule.proofs.Making.{can_store}
-use Rattle.fm_rule.proofs.Stepping.{step_stepped}
+use Rattle.fm_rule.proofs.{Knowing.{opened}, Making.{can_store}, Stepping.{step_stepped}}
 use Rattle.fm_rule.proofs.steps.step_store.Goals as goal
 
 pub store_as-requires-clause-can : goal.store_as-requires-clause-can

@@ -1,8 +1,5 @@
 use Rattle.fm_rule_facts.specs.Steps.{part, entries, noted}
-use Rattle.fm_rule.proofs.Knowing.{opened}
-use Rattle.fm_rule.proofs.Making.{can_unmark}
-use Rattle.fm_rule.proofs.Keeping.{unmark_keeps}
-use Rattle.fm_rule.proofs.Stepping.{step_stepped}
+use Rattle.fm_rule.proofs.{Knowing.{opened}, Making.{can_unmark}, Keeping.{unmark_keeps}, Stepping.{step_stepped}}
 use Rattle.fm_rule.proofs.steps.step_unmark.Goals as goal
 
 pub store_as-requires-clause-can : goal.store_as-requires-clause-can

@@ -1,10 +1,6 @@
 use Rattle.std.proofs.Common.{subst, ◌≡◌}
-use Rattle.fm_rule_facts.specs.Views.{View}
-use Rattle.fm_rule_facts.specs.Words.{own_word}
-use Rattle.fm_rule_facts.specs.Steps.{part, entries, noted}
-use Rattle.fm_rule.proofs.Knowing.{opened}
-use Rattle.fm_rule.proofs.Making.{can_visit}
-use Rattle.fm_rule.proofs.Stepping.{step_stepped}
+use Rattle.fm_rule_facts.specs.{Views.{View}, Words.{own_word}, Steps.{part, entries, noted}}
+use Rattle.fm_rule.proofs.{Knowing.{opened}, Making.{can_visit}, Stepping.{step_stepped}}
 use Rattle.fm_rule.proofs.steps.step_visit.Goals as goal
 
 pub load_as-requires-clause-can : goal.load_as-requires-clause-can

@@ -1,8 +1,6 @@
 use Rattle.std.proofs.Common.{refl, arith}
 use Rattle.fm_rule_facts.specs.Steps.{part, entries, noted}
-use Rattle.fm_rule.proofs.Knowing.{opened, sees, slot_in_hand, valid}
-use Rattle.fm_rule.proofs.Making.{can_give}
-use Rattle.fm_rule.proofs.Stepping.{step_stepped}
+use Rattle.fm_rule.proofs.{Knowing.{opened, sees, slot_in_hand, valid}, Making.{can_give}, Stepping.{step_stepped}}
 use Rattle.fm_rule.proofs.sweeping.step_give_slot.Goals as goal
 
 pub bit-bits-requires : goal.bit-bits-requires

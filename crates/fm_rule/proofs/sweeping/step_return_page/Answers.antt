@@ -1,7 +1,5 @@
 use Rattle.fm_rule_facts.specs.Steps.{part, entries, noted}
-use Rattle.fm_rule.proofs.Knowing.{opened, sees, group_in_sweep}
-use Rattle.fm_rule.proofs.Making.{can_return_page}
-use Rattle.fm_rule.proofs.Stepping.{step_stepped}
+use Rattle.fm_rule.proofs.{Knowing.{opened, sees, group_in_sweep}, Making.{can_return_page}, Stepping.{step_stepped}}
 use Rattle.fm_rule.proofs.sweeping.step_return_page.Goals as goal
 
 pub page_bits_place-place-requires-clause-place : goal.page_bits_place-place-requires-clause-place

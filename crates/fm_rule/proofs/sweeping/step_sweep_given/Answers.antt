@@ -1,8 +1,6 @@
 use Rattle.std.proofs.Common.{refl}
 use Rattle.fm_rule_facts.specs.Steps.{part, entries, noted}
-use Rattle.fm_rule.proofs.Knowing.{opened, sees, swept_fits}
-use Rattle.fm_rule.proofs.Making.{can_sweep_given}
-use Rattle.fm_rule.proofs.Stepping.{step_stepped}
+use Rattle.fm_rule.proofs.{Knowing.{opened, sees, swept_fits}, Making.{can_sweep_given}, Stepping.{step_stepped}}
 use Rattle.fm_rule.proofs.sweeping.step_sweep_given.Goals as goal
 
 pub given_place-place-requires : goal.given_place-place-requires

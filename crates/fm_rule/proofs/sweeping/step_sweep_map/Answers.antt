@@ -1,9 +1,6 @@
 use Rattle.std.proofs.Common.{subst, ◌≤◌}
-use Rattle.fm_rule_facts.specs.Views.{View}
-use Rattle.fm_rule_facts.specs.Steps.{part, entries, noted}
-use Rattle.fm_rule.proofs.Knowing.{opened, sees, swept_fits}
-use Rattle.fm_rule.proofs.Making.{can_sweep_map}
-use Rattle.fm_rule.proofs.Stepping.{step_stepped}
+use Rattle.fm_rule_facts.specs.{Views.{View}, Steps.{part, entries, noted}}
+use Rattle.fm_rule.proofs.{Knowing.{opened, sees, swept_fits}, Making.{can_sweep_map}, Stepping.{step_stepped}}
 use Rattle.fm_rule.proofs.sweeping.step_sweep_map.Goals as goal
 
 pub map_place-place-requires-clause-place : goal.map_place-place-requires-clause-place

@@ -1,7 +1,5 @@
 use Rattle.fm_rule_facts.specs.Steps.{part, entries, noted}
-use Rattle.fm_rule.proofs.Knowing.{opened, sees, swept_fits}
-use Rattle.fm_rule.proofs.Making.{can_unmap}
-use Rattle.fm_rule.proofs.Stepping.{step_stepped}
+use Rattle.fm_rule.proofs.{Knowing.{opened, sees, swept_fits}, Making.{can_unmap}, Stepping.{step_stepped}}
 use Rattle.fm_rule.proofs.sweeping.step_unmap.Goals as goal
 
 pub map_place-place-requires-clause-place : goal.map_place-place-requires-clause-place

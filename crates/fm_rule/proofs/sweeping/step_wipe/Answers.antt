@@ -1,7 +1,5 @@
 use Rattle.fm_rule_facts.specs.Steps.{part, entries, noted}
-use Rattle.fm_rule.proofs.Knowing.{opened, sees, page_in_sweep}
-use Rattle.fm_rule.proofs.Making.{can_wipe}
-use Rattle.fm_rule.proofs.Stepping.{step_stepped}
+use Rattle.fm_rule.proofs.{Knowing.{opened, sees, page_in_sweep}, Making.{can_wipe}, Stepping.{step_stepped}}
 use Rattle.fm_rule.proofs.sweeping.step_wipe.Goals as goal
 
 pub page_place-place-requires-clause-place : goal.page_place-place-requires-clause-place

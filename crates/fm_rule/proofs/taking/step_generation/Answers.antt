@@ -1,8 +1,6 @@
 use Rattle.std.proofs.Common.{refl}
 use Rattle.fm_rule_facts.specs.Steps.{part, entries, noted}
-use Rattle.fm_rule.proofs.Knowing.{opened, sees, slot_in_hand}
-use Rattle.fm_rule.proofs.Making.{can_learn_generation}
-use Rattle.fm_rule.proofs.Stepping.{step_stepped}
+use Rattle.fm_rule.proofs.{Knowing.{opened, sees, slot_in_hand}, Making.{can_learn_generation}, Stepping.{step_stepped}}
 use Rattle.fm_rule.proofs.taking.step_generation.Goals as goal
 
 pub session_place-place-requires : goal.session_place-place-requires

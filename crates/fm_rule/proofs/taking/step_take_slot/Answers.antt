@@ -1,8 +1,6 @@
 use Rattle.std.proofs.Common.{arith}
 use Rattle.fm_rule_facts.specs.Steps.{part, entries, noted}
-use Rattle.fm_rule.proofs.Knowing.{opened, sees, valid}
-use Rattle.fm_rule.proofs.Making.{can_take}
-use Rattle.fm_rule.proofs.Stepping.{step_stepped, slots_learnt}
+use Rattle.fm_rule.proofs.{Knowing.{opened, sees, valid}, Making.{can_take}, Stepping.{step_stepped, slots_learnt}}
 use Rattle.fm_rule.proofs.taking.step_take_slot.Goals as goal
 
 pub without_bit-next-requires : goal.without_bit-next-requires

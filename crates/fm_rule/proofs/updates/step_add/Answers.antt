@@ -1,7 +1,5 @@
 use Rattle.fm_rule_facts.specs.Steps.{part, entries, noted}
-use Rattle.fm_rule.proofs.Knowing.{opened}
-use Rattle.fm_rule.proofs.Making.{can_add}
-use Rattle.fm_rule.proofs.Stepping.{step_stepped}
+use Rattle.fm_rule.proofs.{Knowing.{opened}, Making.{can_add}, Stepping.{step_stepped}}
 use Rattle.fm_rule.proofs.updates.step_add.Goals as goal
 
 pub add_as-requires-clause-can : goal.add_as-requires-clause-can

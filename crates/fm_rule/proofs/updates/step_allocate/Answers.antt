@@ -1,10 +1,7 @@
 use Rattle.std.proofs.Common.{◌≡◌, Some}
 use Rattle.fm_base.proofs.Growing.{power_pos}
-use Rattle.fm_rule_facts.specs.Views.{View}
-use Rattle.fm_rule_facts.specs.Steps.{part, entries, noted}
-use Rattle.fm_rule.proofs.Knowing.{opened, sees, inner, inside_slot}
-use Rattle.fm_rule.proofs.Making.{can_allocate}
-use Rattle.fm_rule.proofs.Stepping.{step_stepped}
+use Rattle.fm_rule_facts.specs.{Views.{View}, Steps.{part, entries, noted}}
+use Rattle.fm_rule.proofs.{Knowing.{opened, sees, inner, inside_slot}, Making.{can_allocate}, Stepping.{step_stepped}}
 use Rattle.fm_rule.proofs.updates.step_allocate.Goals as goal
 
 pub given_place-place-requires : goal.given_place-place-requires

@@ -1,7 +1,5 @@
 use Rattle.fm_rule_facts.specs.Steps.{part, entries, noted}
-use Rattle.fm_rule.proofs.Knowing.{opened}
-use Rattle.fm_rule.proofs.Making.{can_swap}
-use Rattle.fm_rule.proofs.Stepping.{step_stepped}
+use Rattle.fm_rule.proofs.{Knowing.{opened}, Making.{can_swap}, Stepping.{step_stepped}}
 use Rattle.fm_rule.proofs.updates.step_swap_if.Goals as goal
 
 pub exchange_as-requires-clause-can : goal.exchange_as-requires-clause-can

@@ -1,5 +1,4 @@
-use Rattle.std.proofs.Common.{◌≡◌, ◌++◌, take}
-use Rattle.std.specs.List.{flat_map}
+use Rattle.std.{proofs.Common.{◌≡◌, ◌++◌, take}, specs.List.{flat_map}}
 use Rattle.fm_script.proofs.joining.replies_of.Given as goal
 
 abbrev pub invariant-loop-player : goal.invariant-loop-player

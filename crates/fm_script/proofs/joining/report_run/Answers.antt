@@ -1,11 +1,6 @@
-use Rattle.std.proofs.Common.{List, length, ap, ◌∙◌}
-use Rattle.std.specs.Borrow.{Bor}
-use Rattle.std.proofs.lemmas.List.{length-map}
-use Rattle.std.proofs.lemmas.Result.{IfOk-weaker}
+use Rattle.std.{proofs.{Common.{List, length, ap, ◌∙◌}, lemmas.{List.{length-map}, Result.{IfOk-weaker}}}, specs.Borrow.{Bor}}
 use Rattle.fm_script_text.specs.declared.line.Line.{Line}
-use Rattle.fm_script_lines.specs.declared.bound.Bound.{Bound}
-use Rattle.fm_script_lines.specs.declared.reply.Reply.{Reply}
-use Rattle.fm_script_lines.specs.Ordering.{lines_at}
+use Rattle.fm_script_lines.specs.{declared.{bound.Bound.{Bound}, reply.Reply.{Reply}}, Ordering.{lines_at}}
 use Rattle.fm_script.proofs.Ended.{all_opened, arenas_lent, replies_many, replies_put, run_told}
 use Rattle.fm_script.proofs.joining.report_run.Goals as goal
 

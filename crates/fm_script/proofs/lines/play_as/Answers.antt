@@ -1,14 +1,7 @@
-use Rattle.std.proofs.Common.{List, length, [], Result, refl, sym, ap, subst, arith}
-use Rattle.std.proofs.lemmas.Result.{err_from_is_err_and, on_ok_weaker}
-use Rattle.fm_script_lines.specs.declared.numbers.Numbers.{Numbers}
-use Rattle.fm_script_lines.specs.declared.standing.Standing.{Standing}
-use Rattle.fm_script_lines.specs.Playing.{LinesRan}
-use Rattle.fm_script.specs.declared.player.Player.{Player}
-use Rattle.fm_script.specs.Players.{PlayedAs, lines_for, playing}
-use Rattle.fm_script.proofs.Fresh.{fresh_ready, played_backs, played_ready}
-use Rattle.fm_script.proofs.Passing.{ran_from}
-use Rattle.fm_script.proofs.Running.{all_spelled}
-use Rattle.fm_script.proofs.Worker.{played_as, played_none}
+use Rattle.std.proofs.{Common.{List, length, [], Result, refl, sym, ap, subst, arith}, lemmas.Result.{err_from_is_err_and, on_ok_weaker}}
+use Rattle.fm_script_lines.specs.{declared.{numbers.Numbers.{Numbers}, standing.Standing.{Standing}}, Playing.{LinesRan}}
+use Rattle.fm_script.{specs.{declared.player.Player.{Player}, Players.{PlayedAs, lines_for, playing}}, proofs.Fresh.{fresh_ready, played_backs, played_ready}}
+use Rattle.fm_script.proofs.{Passing.{ran_from}, Running.{all_spelled}, Worker.{played_as, played_none}}
 use Rattle.fm_script.proofs.lines.play_as.Goals as goal
 
 pub returns-in_err-table : goal.returns-in_err-table

@@ -1,9 +1,7 @@
 use Rattle.std.proofs.Common.{subst, sym}
 use Rattle.fm_rule_facts.specs.Views.{View}
 use Rattle.fm_rule.specs.Passes.{IsOf}
-use Rattle.fm_script_lines.specs.Learnt.{AfterLines, CanRunLines}
-use Rattle.fm_script_lines.specs.Ordering.{is_by}
-use Rattle.fm_script_lines.specs.Report.{lines_by}
+use Rattle.fm_script_lines.specs.{Learnt.{AfterLines, CanRunLines}, Ordering.{is_by}, Report.{lines_by}}
 use Rattle.fm_script.proofs.Outside.{still_of}
 use Rattle.fm_script.proofs.main_lines.play_main.Goals as goal
 

@@ -1,7 +1,5 @@
 use Rattle.std.proofs.Common.{◌∙◌, List, length, ap, sym, subst, arith}
-use Rattle.fm_script.specs.declared.player.Player.{Player}
-use Rattle.fm_script.specs.Mains.{TakesOver}
-use Rattle.fm_script.specs.Runs.{names_lent}
+use Rattle.fm_script.specs.{declared.player.Player.{Player}, Mains.{TakesOver}, Runs.{names_lent}}
 use Rattle.fm_script.proofs.Staging.{all_after, all_failed, can_first, can_last, can_work, over_room, worked_over}
 use Rattle.fm_script.proofs.over.run_all.Goals as goal
 

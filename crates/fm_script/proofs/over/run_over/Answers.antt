@@ -1,15 +1,7 @@
-use Rattle.std.specs.Prelude.{OnOk, Vec, vec_capacity}
-use Rattle.std.specs.declared.alloc.Global.{Global}
-use Rattle.std.proofs.Common.{◌≡◌, ◌∙◌, ℕ, List, [], Result, ap, arith, subst, sym}
+use Rattle.std.{specs.{Prelude.{OnOk, Vec, vec_capacity}, declared.alloc.Global.{Global}}, proofs.Common.{◌≡◌, ◌∙◌, ℕ, List, [], Result, ap, arith, subst, sym}}
 use Rattle.fm_rule_facts.specs.Views.{View}
-use Rattle.fm_script_lines.specs.declared.bound.Bound.{Bound}
-use Rattle.fm_script_lines.specs.declared.standing.Standing.{Standing}
-use Rattle.fm_script_lines.specs.Learnt.{CanSettle, IsFresh}
-use Rattle.fm_script_lines.specs.Tokens.{IsReady}
-use Rattle.fm_script.specs.declared.player.Player.{Player}
-use Rattle.fm_script.specs.Mains.{HasRoom}
-use Rattle.fm_script.specs.Runs.{AllRan}
-use Rattle.fm_script.proofs.Outside.{shares_still}
+use Rattle.fm_script_lines.specs.{declared.{bound.Bound.{Bound}, standing.Standing.{Standing}}, Learnt.{CanSettle, IsFresh}, Tokens.{IsReady}}
+use Rattle.fm_script.{specs.{declared.player.Player.{Player}, Mains.{HasRoom}, Runs.{AllRan}}, proofs.Outside.{shares_still}}
 use Rattle.fm_script.proofs.Passing.{all_spent, ran_settled, ready_backs}
 use Rattle.fm_script.proofs.over.run_over.Goals as goal
 

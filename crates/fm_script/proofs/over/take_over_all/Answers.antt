@@ -1,14 +1,7 @@
-use Rattle.std.proofs.Common.{◌≡◌, ◌+◌, ◌++◌, All, List, length, length-append, map, take, append_assoc, ap, sym, ◌∙◌, subst, arith}
-use Rattle.std.proofs.lemmas.List.{take_all}
-use Rattle.fm_script_lines.specs.declared.bound.Bound.{Bound}
-use Rattle.fm_script_lines.specs.declared.standing.Standing.{Standing}
-use Rattle.fm_script_lines.specs.Standings.{IsBacked, standing_as}
-use Rattle.fm_script_lines.specs.Tokens.{Backs}
+use Rattle.std.proofs.{Common.{◌≡◌, ◌+◌, ◌++◌, All, List, length, length-append, map, take, append_assoc, ap, sym, ◌∙◌, subst, arith}, lemmas.List.{take_all}}
+use Rattle.fm_script_lines.specs.{declared.{bound.Bound.{Bound}, standing.Standing.{Standing}}, Standings.{IsBacked, standing_as}, Tokens.{Backs}}
 use Rattle.fm_script_lines.proofs.Returning.{keeps_then}
-use Rattle.fm_script.specs.declared.player.Player.{Player}
-use Rattle.fm_script.specs.Mains.{TakesOver}
-use Rattle.fm_script.specs.Runs.{names_lent}
-use Rattle.fm_script.proofs.Arranged.{all_of_both, lent_room, lent_taken}
+use Rattle.fm_script.{specs.{declared.player.Player.{Player}, Mains.{TakesOver}, Runs.{names_lent}}, proofs.Arranged.{all_of_both, lent_room, lent_taken}}
 use Rattle.fm_script.proofs.over.take_over_all.Goals as goal
 
 pub take_over-requires : goal.take_over-requires

@@ -4,8 +4,7 @@ use Rattle.std.proofs.Common.{inl, rules}
 use denote.Ref.{NamedLft}
 use denote.Signature.{static_lft}
 use denote.Param.Send.{IsSync, param_sync}
-use Rattle.fm_script.proofs.Crewed.{crew_refused, crew_unbegun}
-use Rattle.fm_script.proofs.Sharing.{lines_sync}
+use Rattle.fm_script.proofs.{Crewed.{crew_refused, crew_unbegun}, Sharing.{lines_sync}}
 use Rattle.fm_script.proofs.over.work_players.Goals as goal
 use Rattle.fm_script.proofs.over.work_players.Lts as lts
 

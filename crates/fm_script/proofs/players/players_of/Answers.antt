@@ -1,7 +1,5 @@
-use Rattle.std.proofs.Common.{◌≡◌, List, [], ◌∷◌, ◌++◌, length, ap, arith}
-use Rattle.std.proofs.lemmas.List.{length_push}
-use Rattle.fm_script.specs.declared.player.Player.{Player}
-use Rattle.fm_script.proofs.Arranged.{player_more}
+use Rattle.std.proofs.{Common.{◌≡◌, List, [], ◌∷◌, ◌++◌, length, ap, arith}, lemmas.List.{length_push}}
+use Rattle.fm_script.{specs.declared.player.Player.{Player}, proofs.Arranged.{player_more}}
 use Rattle.fm_script.proofs.players.players_of.Goals as goal
 
 pub loop-place-preserved : goal.loop-place-preserved

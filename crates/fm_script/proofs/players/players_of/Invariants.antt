@@ -1,6 +1,5 @@
 use Rattle.std.proofs.Common.{◌≡◌, ℕ, ◌+◌, ◌<◌, get_or, length}
-use Rattle.fm_script.specs.declared.player.Player.{Player}
-use Rattle.fm_script.specs.Players.{IsPlayer}
+use Rattle.fm_script.specs.{declared.player.Player.{Player}, Players.{IsPlayer}}
 use Rattle.fm_script.proofs.players.players_of.Given as goal
 
 abbrev pub invariant-loop-place : goal.invariant-loop-place

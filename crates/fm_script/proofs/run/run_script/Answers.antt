@@ -1,9 +1,6 @@
-use Rattle.std.proofs.Common.{List, Result, sym, ◌∙◌, subst}
-use Rattle.std.specs.Prelude.{IfOk}
+use Rattle.std.{proofs.Common.{List, Result, sym, ◌∙◌, subst}, specs.Prelude.{IfOk}}
 use Rattle.fm_script_text.specs.declared.line.Line.{Line}
-use Rattle.fm_script.specs.declared.main_lines.MainLines.{MainLines}
-use Rattle.fm_script.specs.declared.player.Player.{Player}
-use Rattle.fm_script.specs.Runs.{CanRun, Ran}
+use Rattle.fm_script.specs.{declared.{main_lines.MainLines.{MainLines}, player.Player.{Player}}, Runs.{CanRun, Ran}}
 use Rattle.fm_script.proofs.Beginning.{begun, can_run, has_run}
 use Rattle.fm_script.proofs.run.run_script.Goals as goal
 

@@ -1,9 +1,5 @@
-use Rattle.std.proofs.Common.{ℤ, refl, subst, w64, Ok, Err, ◌∙◌, sym}
-use Rattle.std.proofs.lemmas.Int.{to_z-of_z}
-use Rattle.fm_script_lines.specs.Calls.{IsValue}
-use Rattle.fm_script_lines.specs.declared.reply.Reply.TheVariants.{Fine, Refused}
-use Rattle.fm_script_lines.specs.Calls.{Sets}
-use Rattle.fm_script_lines.proofs.Lines.{line_none, line_set}
+use Rattle.std.proofs.{Common.{ℤ, refl, subst, w64, Ok, Err, ◌∙◌, sym}, lemmas.Int.{to_z-of_z}}
+use Rattle.fm_script_lines.{specs.{Calls.{IsValue, Sets}, declared.reply.Reply.TheVariants.{Fine, Refused}}, proofs.Lines.{line_none, line_set}}
 use Rattle.fm_script_lines.proofs.accesses.set.Goals as goal
 
 pub returns-in_default : goal.returns-in_default

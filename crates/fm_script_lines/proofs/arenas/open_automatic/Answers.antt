@@ -1,7 +1,5 @@
 use Rattle.std.proofs.Common.{refl, ap}
-use Rattle.fm_script_lines.specs.declared.outcome.LineOutcome.{LineOutcome}
-use Rattle.fm_script_lines.specs.declared.reply.Reply.TheVariants.{Fine}
-use Rattle.fm_script_lines.proofs.Handled.{line_started, line_not_started}
+use Rattle.fm_script_lines.{specs.declared.{outcome.LineOutcome.{LineOutcome}, reply.Reply.TheVariants.{Fine}}, proofs.Handled.{line_started, line_not_started}}
 use Rattle.fm_script_lines.proofs.Opening.{told_fine, told_refused}
 use Rattle.fm_script_lines.proofs.arenas.open_automatic.Goals as goal
 

@@ -1,6 +1,5 @@
 use Rattle.std.proofs.Common.{sym, ◌∙◌}
-use Rattle.fm_script_lines.specs.Calls.{Fills}
-use Rattle.fm_script_lines.proofs.Lines.{line_none}
+use Rattle.fm_script_lines.{specs.Calls.{Fills}, proofs.Lines.{line_none}}
 use Rattle.fm_script_lines.proofs.blocks.fill.Goals as goal
 
 pub returns-in_default : goal.returns-in_default

@@ -1,8 +1,6 @@
 use Rattle.std.proofs.Common.{sym, ◌∙◌}
 use Rattle.fm_segment.specs.Region.{Region}
-use Rattle.fm_script_lines.specs.Calls.{On, Compares}
-use Rattle.fm_script_lines.specs.Standings.{segment_of, standing_as}
-use Rattle.fm_script_lines.proofs.Lines.{line_none, line_some}
+use Rattle.fm_script_lines.{specs.{Calls.{On, Compares}, Standings.{segment_of, standing_as}}, proofs.Lines.{line_none, line_some}}
 use Rattle.fm_script_lines.proofs.blocks.mismatch.Goals as goal
 
 pub returns-in_default : goal.returns-in_default

@@ -1,22 +1,13 @@
-use Rattle.std.proofs.Common.{◌≡◌, subst, sym, List, ℕ, Option}
-use Rattle.std.specs.Prelude.{IfSome}
-use Rattle.fm_arena.specs.declared.handle.AutoHandle.{AutoHandle}
-use Rattle.fm_arena.specs.Handles.{HasHandle}
+use Rattle.std.{proofs.Common.{◌≡◌, subst, sym, List, ℕ, Option}, specs.Prelude.{IfSome}}
+use Rattle.fm_arena.specs.{declared.handle.AutoHandle.{AutoHandle}, Handles.{HasHandle}}
 use Rattle.fm_base.specs.Calls.{Entry}
 use Rattle.fm_rule_facts.specs.Views.{View}
 use Rattle.fm_rule_calls.specs.Told.{view_of_pass}
-use Rattle.fm_script_lines.specs.declared.outcome.LineOutcome.{LineOutcome}
-use Rattle.fm_script_lines.specs.declared.table.Table.{Table}
-use Rattle.fm_script_lines.specs.Tokens.{IsReady}
-use Rattle.fm_segment.specs.Access.{IsKnown}
-use Rattle.fm_segment.specs.Region.{Region}
-use Rattle.fm_script_text.specs.declared.command.Command.{Command}
-use Rattle.fm_script_lines.specs.Calls.{On}
-use Rattle.fm_script_lines.specs.Learnt.{CallRan, stands_by}
-use Rattle.fm_script_lines.specs.Numbers.{number_at}
-use Rattle.fm_script_lines.specs.Runs.{RanLine}
-use Rattle.fm_script_lines.specs.Standings.{handle_in, segment_of}
+use Rattle.fm_script_lines.specs.{declared.{outcome.LineOutcome.{LineOutcome}, table.Table.{Table}}, Tokens.{IsReady}, Calls.{On}, Learnt.{CallRan, stands_by}}
+use Rattle.fm_script_lines.specs.{Numbers.{number_at}, Runs.{RanLine}, Standings.{handle_in, segment_of}}
 use Rattle.fm_script_lines.proofs.Backing.{is_handled, name_known, segment_known, some_mapped}
+use Rattle.fm_segment.specs.{Access.{IsKnown}, Region.{Region}}
+use Rattle.fm_script_text.specs.declared.command.Command.{Command}
 use Rattle.fm_script_lines.proofs.line.call.Goals as goal
 
 pub again-requires-clause-has : goal.again-requires-clause-has

@@ -1,8 +1,5 @@
-use Rattle.std.proofs.Common.{Result, subst, sym}
-use Rattle.std.proofs.lemmas.Result.{err_from_is_err_and}
-use Rattle.fm_script_lines.specs.declared.reply.Reply.{Reply}
-use Rattle.fm_script_lines.specs.Learnt.{AfterLine}
-use Rattle.fm_script_lines.proofs.Returning.{keeps_then, line_backs, line_ran, line_wanted}
+use Rattle.std.proofs.{Common.{Result, subst, sym}, lemmas.Result.{err_from_is_err_and}}
+use Rattle.fm_script_lines.{specs.{declared.reply.Reply.{Reply}, Learnt.{AfterLine}}, proofs.Returning.{keeps_then, line_backs, line_ran, line_wanted}}
 use Rattle.fm_script_lines.proofs.line.run_line.Goals as goal
 
 pub returns-in_err-out : goal.returns-in_err-out

@@ -1,6 +1,5 @@
 use Rattle.std.proofs.Common.{◌≡◌, ◌++◌, take}
-use Rattle.fm_script_lines.specs.Ordering.{is_by, lines_at}
-use Rattle.fm_script_lines.specs.Report.{lines_by}
+use Rattle.fm_script_lines.specs.{Ordering.{is_by, lines_at}, Report.{lines_by}}
 use Rattle.fm_script_lines.proofs.ordering.add_lines.Given as goal
 
 abbrev pub invariant-loop-line : goal.invariant-loop-line

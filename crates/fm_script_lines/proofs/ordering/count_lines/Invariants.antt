@@ -1,6 +1,5 @@
 use Rattle.std.proofs.Common.{◌≡◌, ◌≤◌, length, take}
-use Rattle.fm_script_lines.specs.Ordering.{is_by}
-use Rattle.fm_script_lines.specs.Report.{lines_by}
+use Rattle.fm_script_lines.specs.{Ordering.{is_by}, Report.{lines_by}}
 use Rattle.fm_script_lines.proofs.ordering.count_lines.Given as goal
 
 abbrev pub invariant-loop-line : goal.invariant-loop-line

@@ -1,9 +1,6 @@
-use Rattle.std.proofs.Common.{◌≡◌, List, length, sym, ◌∙◌, arith, vec_len}
-use Rattle.std.proofs.lemmas.List.{length-map}
-use Rattle.std.specs.Borrow.{Bor}
+use Rattle.std.{proofs.{Common.{◌≡◌, List, length, sym, ◌∙◌, arith, vec_len}, lemmas.List.{length-map}}, specs.Borrow.{Bor}}
 use Rattle.fm_script_text.specs.declared.line.Line.{Line}
-use Rattle.fm_script_lines.specs.Ordering.{lines_at}
-use Rattle.fm_script_lines.proofs.Picking.{lines_so_far, starts-push}
+use Rattle.fm_script_lines.{specs.Ordering.{lines_at}, proofs.Picking.{lines_so_far, starts-push}}
 use Rattle.fm_script_lines.proofs.ordering.in_order.Goals as goal
 
 pub loop-worker-preserved : goal.loop-worker-preserved

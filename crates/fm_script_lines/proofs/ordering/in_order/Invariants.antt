@@ -1,6 +1,5 @@
 use Rattle.std.proofs.Common.{◌≡◌, ◌++◌}
-use Rattle.fm_script_lines.specs.Ordering.{AreStarts, lines_at, worker_lines}
-use Rattle.fm_script_lines.specs.Report.{is_first, lines_by}
+use Rattle.fm_script_lines.specs.{Ordering.{AreStarts, lines_at, worker_lines}, Report.{is_first, lines_by}}
 use Rattle.fm_script_lines.proofs.ordering.in_order.Given as goal
 
 abbrev pub invariant-loop-worker : goal.invariant-loop-worker

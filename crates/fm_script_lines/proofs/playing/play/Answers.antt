@@ -1,22 +1,13 @@
-use Rattle.std.specs.Prelude.{Vec}
-use Rattle.std.specs.declared.alloc.Global.{Global}
-use Rattle.std.proofs.Common.{ℕ, ◌+◌, Bool, List, [], Result, drop, refl, take, sym, ◌∙◌, subst, arith, vec_capacity}
-use Rattle.std.proofs.lemmas.List.{take_all}
+use Rattle.std.specs.{Prelude.{Vec}, declared.alloc.Global.{Global}}
+use Rattle.std.proofs.{Common.{ℕ, ◌+◌, Bool, List, [], Result, drop, refl, take, sym, ◌∙◌, subst, arith, vec_capacity}, lemmas.List.{take_all}}
 use Rattle.std.proofs.lemmas.Result.{err_from_is_err_and}
 use Rattle.fm_rule_facts.specs.Views.{View}
-use Rattle.fm_script_text.specs.declared.line.Line.{Line}
-use Rattle.fm_script_text.specs.declared.who.Who.{Who}
-use Rattle.fm_script_text.specs.Syntax.{IsSpelled}
-use Rattle.fm_script_lines.specs.declared.reply.Reply.{Reply}
-use Rattle.fm_script_lines.specs.declared.table.Table.{Table}
-use Rattle.fm_script_lines.specs.Learnt.{AfterLines}
-use Rattle.fm_script_lines.specs.Ordering.{is_by}
-use Rattle.fm_script_lines.specs.Playing.{LinesRan}
-use Rattle.fm_script_lines.specs.Report.{lines_by}
-use Rattle.fm_script_lines.proofs.Picking.{by_none, by_one, by_room, by_split}
+use Rattle.fm_script_text.specs.{declared.{line.Line.{Line}, who.Who.{Who}}, Syntax.{IsSpelled}}
+use Rattle.fm_script_lines.specs.{declared.{reply.Reply.{Reply}, table.Table.{Table}}, Learnt.{AfterLines}, Ordering.{is_by}, Playing.{LinesRan}}
+use Rattle.fm_script_lines.{specs.Report.{lines_by}, proofs.Picking.{by_none, by_one, by_room, by_split}}
 use Rattle.fm_script_lines.proofs.Rows.{SoFar, lines_none, ran_many, replied_many, so_far_all, so_far_backs, so_far_more, so_far_stops}
-use Rattle.fm_script_lines.proofs.playing.play.Goals as goal
 use Rattle.fm_script_lines.proofs.playing.play.Goals.{then-is_by+in_ok-reply, else-is_by}
+use Rattle.fm_script_lines.proofs.playing.play.Goals as goal
 
 pub loop-line-init : goal.loop-line-init
 loop-line-init g c =

@@ -1,7 +1,5 @@
 use Rattle.std.proofs.Common.{take, vec_capacity}
-use Rattle.fm_script_lines.specs.Ordering.{is_by}
-use Rattle.fm_script_lines.specs.Report.{lines_by}
-use Rattle.fm_script_lines.proofs.Rows.{SoFar}
+use Rattle.fm_script_lines.{specs.{Ordering.{is_by}, Report.{lines_by}}, proofs.Rows.{SoFar}}
 use Rattle.fm_script_lines.proofs.playing.play.Given as goal
 
 abbrev pub invariant-loop-line : goal.invariant-loop-line

@@ -1,8 +1,5 @@
 use Rattle.std.proofs.Common.{ap, sym, ◌∙◌, None, Some}
-use Rattle.fm_script_lines.specs.Numbers.{number_at}
-use Rattle.fm_script_lines.specs.Standings.{handle_in}
-use Rattle.fm_script_lines.proofs.Backing.{has_handle}
-use Rattle.fm_script_lines.proofs.Giving.{handed_leaves, handed_none, handed_ran}
+use Rattle.fm_script_lines.{specs.{Numbers.{number_at}, Standings.{handle_in}}, proofs.{Backing.{has_handle}, Giving.{handed_leaves, handed_none, handed_ran}}}
 use Rattle.fm_script_lines.proofs.Naming.{standing-here}
 use Rattle.fm_script_lines.proofs.returns.give_back.Goals as goal
 

@@ -1,8 +1,5 @@
 use Rattle.std.proofs.Common.{ap, sym, ◌∙◌, None, Some}
-use Rattle.fm_script_lines.specs.Numbers.{number_at}
-use Rattle.fm_script_lines.specs.Standings.{hold_in}
-use Rattle.fm_script_lines.proofs.Backing.{can_unhold}
-use Rattle.fm_script_lines.proofs.Giving.{unheld_leaves, unheld_none, unheld_ran}
+use Rattle.fm_script_lines.{specs.{Numbers.{number_at}, Standings.{hold_in}}, proofs.{Backing.{can_unhold}, Giving.{unheld_leaves, unheld_none, unheld_ran}}}
 use Rattle.fm_script_lines.proofs.Naming.{standing-here}
 use Rattle.fm_script_lines.proofs.returns.unhold.Goals as goal
 

@@ -1,7 +1,5 @@
 use Rattle.std.proofs.Common.{ap, Ok, Err, refl, ◌∙◌, sym}
-use Rattle.fm_script_lines.specs.declared.outcome.LineOutcome.{LineOutcome}
-use Rattle.fm_script_lines.specs.Calls.{Allocates}
-use Rattle.fm_script_lines.proofs.Allocating.{pages_told, pages_untold}
+use Rattle.fm_script_lines.{specs.{declared.outcome.LineOutcome.{LineOutcome}, Calls.{Allocates}}, proofs.Allocating.{pages_told, pages_untold}}
 use Rattle.fm_script_lines.proofs.Lines.{line_none}
 use Rattle.fm_script_lines.proofs.segments.allocate.Goals as goal
 

@@ -1,10 +1,7 @@
-use Rattle.std.proofs.Common.{◌≡◌, subst, sym, ap, Option, Ok, ◌∙◌}
-use Rattle.std.specs.Prelude.{IfSome}
+use Rattle.std.{proofs.Common.{◌≡◌, subst, sym, ap, Option, Ok, ◌∙◌}, specs.Prelude.{IfSome}}
 use Rattle.fm_rule_calls.specs.Told.{view_of_pass}
-use Rattle.fm_segment.specs.Access.{IsKnown}
-use Rattle.fm_segment.specs.Region.{Region, read_only_of}
-use Rattle.fm_script_lines.specs.Calls.{Called, Answers, segment_made}
-use Rattle.fm_script_lines.proofs.Lines.{line_none, line_made}
+use Rattle.fm_segment.specs.{Access.{IsKnown}, Region.{Region, read_only_of}}
+use Rattle.fm_script_lines.{specs.Calls.{Called, Answers, segment_made}, proofs.Lines.{line_none, line_made}}
 use Rattle.fm_script_lines.proofs.segments.read_only.Goals as goal
 
 pub returns-in_default : goal.returns-in_default

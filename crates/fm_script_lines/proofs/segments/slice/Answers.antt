@@ -1,11 +1,7 @@
-use Rattle.std.proofs.Common.{subst, sym, ◌∙◌, Option}
-use Rattle.std.specs.Prelude.{IfSome}
+use Rattle.std.{proofs.Common.{subst, sym, ◌∙◌, Option}, specs.Prelude.{IfSome}}
 use Rattle.fm_rule_calls.specs.Told.{view_of_pass}
-use Rattle.fm_segment.specs.Access.{IsKnown}
-use Rattle.fm_segment.specs.Region.{Region}
-use Rattle.fm_segment.specs.Slices.{slice_of}
-use Rattle.fm_script_lines.specs.Calls.{Called, Answers, segment_made}
-use Rattle.fm_script_lines.proofs.Lines.{line_none, line_made, line_not_made, slice_known}
+use Rattle.fm_segment.specs.{Access.{IsKnown}, Region.{Region}, Slices.{slice_of}}
+use Rattle.fm_script_lines.{specs.Calls.{Called, Answers, segment_made}, proofs.Lines.{line_none, line_made, line_not_made, slice_known}}
 use Rattle.fm_script_lines.proofs.segments.slice.Goals as goal
 
 pub returns-in_default : goal.returns-in_default

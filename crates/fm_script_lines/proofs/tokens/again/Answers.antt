@@ -1,8 +1,5 @@
-use Rattle.std.specs.Option.{option_map}
-use Rattle.std.proofs.Common.{ap}
-use Rattle.fm_script_lines.specs.Calls.{TakesAgain}
-use Rattle.fm_script_lines.proofs.Handled.{line_again, line_not_again}
-use Rattle.fm_script_lines.proofs.Lines.{line_none}
+use Rattle.std.{specs.Option.{option_map}, proofs.Common.{ap}}
+use Rattle.fm_script_lines.{specs.Calls.{TakesAgain}, proofs.{Handled.{line_again, line_not_again}, Lines.{line_none}}}
 use Rattle.fm_script_lines.proofs.tokens.again.Goals as goal
 
 pub returns-in-Ok : goal.returns-in-Ok

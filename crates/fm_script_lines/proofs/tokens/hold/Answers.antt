@@ -1,6 +1,5 @@
 use Rattle.std.proofs.Common.{sym, ◌∙◌}
-use Rattle.fm_script_lines.specs.Calls.{Holds}
-use Rattle.fm_script_lines.proofs.Lines.{line_none, line_held, line_not_held}
+use Rattle.fm_script_lines.{specs.Calls.{Holds}, proofs.Lines.{line_none, line_held, line_not_held}}
 use Rattle.fm_script_lines.proofs.tokens.hold.Goals as goal
 
 pub returns-in_default : goal.returns-in_default

@@ -1,9 +1,5 @@
-use Rattle.std.proofs.Common.{◌≡◌, ℤ, refl, ap, subst, w64, Ok, Err, ◌∙◌, sym}
-use Rattle.std.proofs.lemmas.Int.{to_z-of_z}
-use Rattle.fm_script_lines.specs.Calls.{IsValue}
-use Rattle.fm_script_lines.specs.declared.reply.Reply.TheVariants.{Number, Refused}
-use Rattle.fm_script_lines.specs.Calls.{Adds}
-use Rattle.fm_script_lines.specs.Outcomes.{plain}
+use Rattle.std.proofs.{Common.{◌≡◌, ℤ, refl, ap, subst, w64, Ok, Err, ◌∙◌, sym}, lemmas.Int.{to_z-of_z}}
+use Rattle.fm_script_lines.specs.{Calls.{IsValue, Adds}, declared.reply.Reply.TheVariants.{Number, Refused}, Outcomes.{plain}}
 use Rattle.fm_script_lines.proofs.Lines.{line_none, line_added}
 use Rattle.fm_script_lines.proofs.updates.add.Goals as goal
 

@@ -1,12 +1,9 @@
 -- One more line is told by its text and its reply.
 use Rattle.std.proofs.Common.{◌≡◌, ◌<◌, ◌+◌, List, [], ◌∷◌, ◌++◌, length, get_or, map, take, sym, ap, ◌∙◌, subst, arith}
 use Rattle.std.proofs.lemmas.List.{get_or-map, get_or_default, length-map}
-use Rattle.fm_script_lines.specs.declared.reply.Reply.{Reply}
-use Rattle.fm_script_lines.specs.declared.reply.Reply.TheVariants.{Fine}
+use Rattle.fm_script_lines.specs.declared.reply.Reply.{Reply, TheVariants.{Fine}}
 use Rattle.fm_script_text.specs.declared.line.Line.{Line}
-use Rattle.fm_script_report.specs.declared.line.ReportLine.{ReportLine}
-use Rattle.fm_script_report.specs.Told.{AreTold}
-use Rattle.fm_script_report.proofs.Joining.{told_more}
+use Rattle.fm_script_report.{specs.{declared.line.ReportLine.{ReportLine}, Told.{AreTold}}, proofs.Joining.{told_more}}
 use Rattle.fm_script_report.proofs.lines.report_lines.Goals as goal
 
 pub loop-k-preserved : goal.loop-k-preserved

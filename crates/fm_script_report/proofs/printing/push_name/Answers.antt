@@ -1,6 +1,5 @@
 -- A name is ASCII.
-use Rattle.std.proofs.Common.{sym, subst}
-use Rattle.std.specs.Str.{IsUtf8}
+use Rattle.std.{proofs.Common.{sym, subst}, specs.Str.{IsUtf8}}
 use Rattle.fm_script_text.proofs.Plain.{utf8_name}
 use Rattle.fm_script_report.proofs.printing.push_name.Goals as goal
 

@@ -1,5 +1,4 @@
-use Rattle.std.proofs.Common.{arith}
-use Rattle.std.proofs.lemmas.Str.Pattern.{split_parts}
+use Rattle.std.proofs.{Common.{arith}, lemmas.Str.Pattern.{split_parts}}
 use Rattle.fm_script_text.proofs.Cuts.{is_cut}
 use Rattle.fm_script_text.proofs.cutting.cut.Goals as goal
 

@@ -1,5 +1,4 @@
-use Rattle.std.proofs.Common.{sym, subst}
-use Rattle.std.specs.Str.{IsUtf8}
+use Rattle.std.{proofs.Common.{sym, subst}, specs.Str.{IsUtf8}}
 use Rattle.fm_script_text.proofs.Plain.{utf8_name}
 use Rattle.fm_script_text.proofs.knowing.text_of.Goals as goal
 

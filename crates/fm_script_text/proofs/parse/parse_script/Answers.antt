@@ -1,9 +1,6 @@
-use Rattle.std.proofs.Common.{refl, ap, subst, sym, ◌∙◌, List}
-use Rattle.std.specs.Option.{option_map}
-use Rattle.fm_script_text.proofs.Answering.{from_the_first, lines_refused, kept_found, script_read}
-use Rattle.fm_script_text.specs.declared.line.Line.{Line}
-use Rattle.fm_script_text.specs.Scripts.{IsScript, bad_pool, not_settled, lines_of, numbered, source}
-use Rattle.fm_script_text.specs.Taking.{first_kept}
+use Rattle.std.{proofs.Common.{refl, ap, subst, sym, ◌∙◌, List}, specs.Option.{option_map}}
+use Rattle.fm_script_text.{proofs.Answering.{from_the_first, lines_refused, kept_found, script_read}, specs.declared.line.Line.{Line}}
+use Rattle.fm_script_text.specs.{Scripts.{IsScript, bad_pool, not_settled, lines_of, numbered, source}, Taking.{first_kept}}
 use Rattle.fm_script_text.proofs.parse.parse_script.Goals as goal
 
 pub returns-in_default-shape_of-clause-refused : goal.returns-in_default-shape_of-clause-refused

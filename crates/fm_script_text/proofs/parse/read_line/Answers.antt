@@ -1,5 +1,4 @@
-use Rattle.std.proofs.Common.{refl}
-use Rattle.std.proofs.lemmas.Bool.{MatchBool-at_false}
+use Rattle.std.proofs.{Common.{refl}, lemmas.Bool.{MatchBool-at_false}}
 use Rattle.fm_script_text.proofs.Commands.{not_admitted}
 use Rattle.fm_script_text.proofs.parse.read_line.Goals as goal
 

@@ -1,7 +1,5 @@
 use Rattle.std.proofs.Common.{◌≡◌, ◌++◌, ◌∷◌, [], List, map, ap, subst, sym, ◌∙◌}
-use Rattle.fm_script_text.proofs.Taking.{left_more, lines_more, none_taken}
-use Rattle.fm_script_text.specs.declared.line.Line.{Line}
-use Rattle.fm_script_text.specs.Knowing.{Knows}
+use Rattle.fm_script_text.{proofs.Taking.{left_more, lines_more, none_taken}, specs.{declared.line.Line.{Line}, Knowing.{Knows}}}
 use Rattle.fm_script_text.specs.Scripts.{AreLines, Source, lines_of, numbered, source, source_of}
 use Rattle.fm_script_text.proofs.parse.read_lines.Goals as goal
 

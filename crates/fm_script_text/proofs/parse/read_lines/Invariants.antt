@@ -1,6 +1,5 @@
 use Rattle.std.proofs.Common.{◌≡◌, ◌++◌, length, map}
-use Rattle.fm_script_text.specs.Knowing.{Knows}
-use Rattle.fm_script_text.specs.Scripts.{AreLines, lines_of, numbered, source_of}
+use Rattle.fm_script_text.specs.{Knowing.{Knows}, Scripts.{AreLines, lines_of, numbered, source_of}}
 use Rattle.fm_script_text.proofs.parse.read_lines.Given as goal
 
 abbrev pub invariant-loop-source : goal.invariant-loop-source

@@ -1,5 +1,4 @@
-use Rattle.fm_script_text.proofs.Commands.{said, unsaid}
-use Rattle.fm_script_text.proofs.Plain.{line_is_text}
+use Rattle.fm_script_text.proofs.{Commands.{said, unsaid}, Plain.{line_is_text}}
 use Rattle.fm_script_text.proofs.parse.said.Goals as goal
 
 pub returns-in_default-clause-none : goal.returns-in_default-clause-none

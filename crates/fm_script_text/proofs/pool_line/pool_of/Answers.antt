@@ -1,5 +1,4 @@
-use Rattle.std.proofs.Common.{◌∙◌, sym}
-use Rattle.std.proofs.lemmas.Bool.{both_ways}
+use Rattle.std.proofs.{Common.{◌∙◌, sym}, lemmas.Bool.{both_ways}}
 use Rattle.fm_script_text.proofs.Pools.{missed, invalid, large, shape_gives}
 use Rattle.fm_script_text.proofs.pool_line.pool_of.Goals as goal
 

@@ -1,6 +1,5 @@
 use Rattle.std.proofs.Common.{ap, sym, ◌∙◌}
-use Rattle.fm_script_text.specs.Reader.{is_of_kind}
-use Rattle.fm_script_text.proofs.Numbers.{literal_found, literal_missed, held}
+use Rattle.fm_script_text.{specs.Reader.{is_of_kind}, proofs.Numbers.{literal_found, literal_missed, held}}
 use Rattle.fm_script_text.proofs.words.literal_of.Goals as goal
 
 pub returns-then-is_of_kind : goal.returns-then-is_of_kind

@@ -1,5 +1,4 @@
-use Rattle.std.proofs.Common.{refl, sym, ◌∙◌}
-use Rattle.std.proofs.lemmas.Bool.{le-leb, lt-leb}
+use Rattle.std.proofs.{Common.{refl, sym, ◌∙◌}, lemmas.Bool.{le-leb, lt-leb}}
 use Rattle.fm_script_text.proofs.Numbers.{named_number}
 use Rattle.fm_script_text.proofs.words.number_of.Goals as goal
 

@@ -1,5 +1,4 @@
-use Rattle.std.proofs.Common.{refl}
-use Rattle.std.proofs.lemmas.Nat.{and_mask}
+use Rattle.std.proofs.{Common.{refl}, lemmas.Nat.{and_mask}}
 use Rattle.fm_segment.proofs.alignment.is_aligned.Goals as goal
 
 pub returns : goal.returns

@@ -1,15 +1,8 @@
 use Rattle.std.proofs.Common.{◌≡◌, ◌+◌, ◌-◌, ◌<◌, ◌≤◌, ℕ, List, length, take, drop, arith, sym, subst, ap, ◌∙◌, length-drop, Ok}
-use Rattle.std.proofs.lemmas.Bool.{eqb-true, eqb-false}
-use Rattle.std.proofs.lemmas.List.{take_rest, nil_from_length}
-use Rattle.std.proofs.lemmas.Result.{err_from_is_err_and}
+use Rattle.std.proofs.lemmas.{Bool.{eqb-true, eqb-false}, List.{take_rest, nil_from_length}, Result.{err_from_is_err_and}}
 use Rattle.fm_base.specs.View.{Did}
-use Rattle.fm_segment_access.specs.Ranges.{putting}
-use Rattle.fm_segment_access.specs.Runs.{PutsMore, DoesPutNext}
-use Rattle.fm_segment_access.proofs.Alone.{AreBytes-slice}
-use Rattle.fm_segment_access.proofs.Learnt.{after_no_bytes, after_bytes}
-use Rattle.fm_segment_access.proofs.Putting.{put_lasts, puts_on, put_refused, puts_all}
-use Rattle.fm_segment_access.proofs.PuttingAlone.{words_put}
-use Rattle.fm_segment_access.proofs.Touching.{touch_later}
+use Rattle.fm_segment_access.{specs.{Ranges.{putting}, Runs.{PutsMore, DoesPutNext}}, proofs.{Alone.{AreBytes-slice}, Learnt.{after_no_bytes, after_bytes}}}
+use Rattle.fm_segment_access.proofs.{Putting.{put_lasts, puts_on, put_refused, puts_all}, PuttingAlone.{words_put}, Touching.{touch_later}}
 use Rattle.fm_segment_access.proofs.bytes.put_bytes.Goals as goal
 
 -- How many bytes are left.

@@ -1,6 +1,5 @@
 use Rattle.std.proofs.Common.{◌-◌}
-use Rattle.fm_segment_access.specs.Runs.{PutsMore}
-use Rattle.fm_segment_access.proofs.Putting.{IsPutting}
+use Rattle.fm_segment_access.{specs.Runs.{PutsMore}, proofs.Putting.{IsPutting}}
 use Rattle.fm_segment_access.proofs.bytes.put_bytes.Given as goal
 
 abbrev pub invariant-loop-at : goal.invariant-loop-at

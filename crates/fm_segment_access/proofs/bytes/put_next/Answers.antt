@@ -1,11 +1,8 @@
 use Rattle.std.proofs.Common.{◌≡◌, ◌/◌, ◌%◌, ◌<◌, ◌≤◌, inl, inr, length, ◌∙◌, arith, refl}
 use Rattle.fm_lanes.proofs.Reading.{little_number-number_of}
-use Rattle.fm_segment_access.proofs.Alone.{AreBytes-slice, is_part}
-use Rattle.fm_segment_access.proofs.Putting.{puts_piece}
-use Rattle.fm_segment_access.proofs.Touching.{visited_as}
-use Rattle.fm_segment_access.proofs.Writing.{puts_words}
-use Rattle.fm_segment_access.proofs.bytes.put_next.Goals as goal
+use Rattle.fm_segment_access.proofs.{Alone.{AreBytes-slice, is_part}, Putting.{puts_piece}, Touching.{visited_as}, Writing.{puts_words}}
 use Rattle.fm_segment_access.proofs.bytes.put_next.Goals.{else-at-eq0-via-then-at-eq0+else-words-gt0, else-at-eq0-via-else-at-eq0}
+use Rattle.fm_segment_access.proofs.bytes.put_next.Goals as goal
 
 pub put_piece-requires-clause-fits : goal.put_piece-requires-clause-fits
 put_piece-requires-clause-fits g c =

@@ -1,5 +1,4 @@
-use Rattle.std.proofs.Common.{◌≡◌, ◌+◌, ◌-◌, ◌%◌, arith}
-use Rattle.std.proofs.lemmas.Result.{err_from_is_err_and}
+use Rattle.std.proofs.{Common.{◌≡◌, ◌+◌, ◌-◌, ◌%◌, arith}, lemmas.Result.{err_from_is_err_and}}
 use Rattle.fm_segment_access.proofs.Getting.{got_none, got_half, pieces_placed, got_two}
 use Rattle.fm_segment_access.proofs.number.get_across.Goals as goal
 

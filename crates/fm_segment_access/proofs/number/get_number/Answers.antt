@@ -1,6 +1,5 @@
 use Rattle.std.proofs.Common.{◌+◌, ◌%◌, ◌≤◌, arith}
-use Rattle.fm_segment_access.proofs.Getting.{got_one}
-use Rattle.fm_segment_access.proofs.Learnt.{after_get}
+use Rattle.fm_segment_access.proofs.{Getting.{got_one}, Learnt.{after_get}}
 use Rattle.fm_segment_access.proofs.number.get_number.Goals as goal
 
 pub returns-then-place-from-le8 : goal.returns-then-place-from-le8

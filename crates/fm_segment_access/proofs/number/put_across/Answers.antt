@@ -1,8 +1,6 @@
-use Rattle.std.proofs.Common.{◌+◌, ◌≤◌, arith}
-use Rattle.std.proofs.lemmas.Result.{err_from_is_err_and}
+use Rattle.std.proofs.{Common.{◌+◌, ◌≤◌, arith}, lemmas.Result.{err_from_is_err_and}}
 use Rattle.fm_base_bytes.proofs.Bytes.{length-bytes_of}
-use Rattle.fm_segment_access.proofs.Putting.{put_lasts, put_refused, puts_all}
-use Rattle.fm_segment_access.proofs.Touching.{can_touch}
+use Rattle.fm_segment_access.proofs.{Putting.{put_lasts, put_refused, puts_all}, Touching.{can_touch}}
 use Rattle.fm_segment_access.proofs.number.put_across.Goals as goal
 
 pub put_piece-requires-clause-piece : goal.put_piece-requires-clause-piece

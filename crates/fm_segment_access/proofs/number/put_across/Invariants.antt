@@ -1,7 +1,6 @@
 use Rattle.std.proofs.Common.{◌-◌}
 use Rattle.fm_base_bytes.specs.Bytes.{bytes_of}
-use Rattle.fm_segment_access.specs.Ranges.{PutsOn}
-use Rattle.fm_segment_access.proofs.Putting.{IsPutting}
+use Rattle.fm_segment_access.{specs.Ranges.{PutsOn}, proofs.Putting.{IsPutting}}
 use Rattle.fm_segment_access.proofs.number.put_across.Given as goal
 
 abbrev pub invariant-loop-at : goal.invariant-loop-at

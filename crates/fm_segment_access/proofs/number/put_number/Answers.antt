@@ -1,8 +1,6 @@
 use Rattle.std.proofs.Common.{◌+◌, ◌%◌, ◌≤◌, arith}
 use Rattle.fm_base_bytes.proofs.Bytes.{AreBytes-bytes_of}
-use Rattle.fm_segment_access.proofs.Learnt.{after_put}
-use Rattle.fm_segment_access.proofs.Putting.{put_one}
-use Rattle.fm_segment_access.proofs.PuttingAlone.{pieces_put}
+use Rattle.fm_segment_access.proofs.{Learnt.{after_put}, Putting.{put_one}, PuttingAlone.{pieces_put}}
 use Rattle.fm_segment_access.proofs.number.put_number.Goals as goal
 
 pub returns-then-place-from-le8 : goal.returns-then-place-from-le8

@@ -1,12 +1,8 @@
 use Rattle.std.proofs.Common.{◌/◌, ◌%◌, [], ◌∷◌, refl, arith}
-use Rattle.fm_base.specs.declared.arena_id.ArenaId.{ArenaId}
-use Rattle.fm_base.specs.Calls.{Write, Fine}
-use Rattle.fm_base.specs.Does.{patched}
-use Rattle.fm_base.specs.Visits.{entries_of}
+use Rattle.fm_base.specs.{declared.arena_id.ArenaId.{ArenaId}, Calls.{Write, Fine}, Does.{patched}, Visits.{entries_of}}
 use Rattle.fm_base.proofs.Visiting.{act_makes, patch_makes, Tries-alike}
 use Rattle.fm_base_bytes.specs.Bytes.{replaced}
-use Rattle.fm_segment_access.specs.Pieces.{whole, narrow}
-use Rattle.fm_segment_access.proofs.Patching.{patched_is}
+use Rattle.fm_segment_access.{specs.Pieces.{whole, narrow}, proofs.Patching.{patched_is}}
 use Rattle.fm_segment_access.proofs.piece.put_inside.Goals as goal
 
 pub returns-then-width-eq8-clause-did : goal.returns-then-width-eq8-clause-did

@@ -1,12 +1,6 @@
-use Rattle.std.proofs.Common.{◌<◌, arith, ap, replicate}
-use Rattle.std.proofs.lemmas.List.{length-replicate}
-use Rattle.std.proofs.lemmas.Result.{err_from_is_err_and}
-use Rattle.fm_segment_access.specs.Ranges.{PutsOn}
-use Rattle.fm_segment_access.proofs.Filling.{AreBytes-replicate}
-use Rattle.fm_segment_access.proofs.Learnt.{after_no_bytes, after_bytes}
-use Rattle.fm_segment_access.proofs.Putting.{put_lasts, put_refused, puts_all}
-use Rattle.fm_segment_access.proofs.PuttingAlone.{pieces_put}
-use Rattle.fm_segment_access.proofs.Touching.{can_touch}
+use Rattle.std.proofs.{Common.{◌<◌, arith, ap, replicate}, lemmas.{List.{length-replicate}, Result.{err_from_is_err_and}}}
+use Rattle.fm_segment_access.{specs.Ranges.{PutsOn}, proofs.{Filling.{AreBytes-replicate}, Learnt.{after_no_bytes, after_bytes}}}
+use Rattle.fm_segment_access.proofs.{Putting.{put_lasts, put_refused, puts_all}, PuttingAlone.{pieces_put}, Touching.{can_touch}}
 use Rattle.fm_segment_access.proofs.range.fill.Goals as goal
 
 pub returns-then-size-eq0 : goal.returns-then-size-eq0

@@ -1,6 +1,5 @@
 use Rattle.std.proofs.Common.{◌-◌, replicate}
-use Rattle.fm_segment_access.specs.Ranges.{PutsOn}
-use Rattle.fm_segment_access.proofs.Putting.{IsPutting}
+use Rattle.fm_segment_access.{specs.Ranges.{PutsOn}, proofs.Putting.{IsPutting}}
 use Rattle.fm_segment_access.proofs.range.fill.Given as goal
 
 abbrev pub invariant-loop-at : goal.invariant-loop-at

@@ -1,7 +1,5 @@
 use Rattle.std.proofs.Common.{rules}
-use Rattle.fm_segment_access.proofs.Learnt.{after_get_value}
-use Rattle.fm_segment_access.proofs.Touching.{said}
-use Rattle.fm_segment_access.proofs.Values.{got_value}
+use Rattle.fm_segment_access.proofs.{Learnt.{after_get_value}, Touching.{said}, Values.{got_value}}
 use Rattle.fm_segment_access.proofs.value.get_as.Goals as goal
 
 pub returns-in_err-number : goal.returns-in_err-number

@@ -1,7 +1,6 @@
 use Rattle.std.proofs.Common.{◌∙◌, ap}
 use Rattle.fm_lanes.specs.Kind.{width_of}
-use Rattle.fm_segment_access.proofs.Learnt.{after_put_value}
-use Rattle.fm_segment_access.proofs.Values.{put_bytes}
+use Rattle.fm_segment_access.proofs.{Learnt.{after_put_value}, Values.{put_bytes}}
 use Rattle.fm_segment_access.proofs.value.put_value.Goals as goal
 
 pub returns : goal.returns

@@ -1,6 +1,5 @@
 use Rattle.std.proofs.Common.{◌+◌, ◌*◌, ◌/◌, ◌^◌, ◌≤◌, arith, ◌∙◌, refl}
-use Rattle.fm_base.specs.View.{given_in}
-use Rattle.fm_base.specs.Visits.{writes}
+use Rattle.fm_base.specs.{View.{given_in}, Visits.{writes}}
 use Rattle.fm_base_bytes.specs.Words.{words_from}
 use Rattle.fm_segment_access.proofs.Touching.{visited_inside}
 use Rattle.fm_segment_access.proofs.words.put_words.Goals as goal

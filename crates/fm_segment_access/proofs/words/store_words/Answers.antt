@@ -1,9 +1,6 @@
-use Rattle.std.proofs.Common.{arith, sym, subst, drop, ◌*◌}
-use Rattle.std.proofs.lemmas.List.{length-take}
-use Rattle.fm_base.specs.Learnt.{AfterStores}
-use Rattle.fm_base.proofs.Storing.{stores_none, stores_reach, stores_more}
-use Rattle.fm_base_bytes.specs.Words.{words_from}
-use Rattle.fm_base_bytes.proofs.Words.{length-words_from, words_from-append}
+use Rattle.std.proofs.{Common.{arith, sym, subst, drop, ◌*◌}, lemmas.List.{length-take}}
+use Rattle.fm_base.{specs.Learnt.{AfterStores}, proofs.Storing.{stores_none, stores_reach, stores_more}}
+use Rattle.fm_base_bytes.{specs.Words.{words_from}, proofs.Words.{length-words_from, words_from-append}}
 use Rattle.fm_segment_access.proofs.Reading.{words_read}
 use Rattle.fm_segment_access.proofs.words.store_words.Goals as goal
 

@@ -1,10 +1,7 @@
-use Rattle.std.proofs.Common.{List}
-use Rattle.std.proofs.lemmas.Result.{err_from_is_err_and}
+use Rattle.std.proofs.{Common.{List}, lemmas.Result.{err_from_is_err_and}}
 use Rattle.fm_base.specs.Calls.{Entry}
 use Rattle.fm_segment_access.proofs.Touching.{visited}
-use Rattle.fm_segment_copies.specs.Copies.{CopiesPiece}
-use Rattle.fm_segment_copies.proofs.Copying.{put_then}
-use Rattle.fm_segment_copies.proofs.Stopping.{stopped_first}
+use Rattle.fm_segment_copies.{specs.Copies.{CopiesPiece}, proofs.{Copying.{put_then}, Stopping.{stopped_first}}}
 use Rattle.fm_segment_copies.proofs.copy.copy_piece.Goals as goal
 
 pub returns-in_err-v : goal.returns-in_err-v

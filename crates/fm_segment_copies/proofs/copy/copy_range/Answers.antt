@@ -1,8 +1,5 @@
-use Rattle.std.proofs.Common.{arith}
-use Rattle.std.proofs.lemmas.Result.{err_from_is_err_and}
-use Rattle.fm_segment_copies.proofs.Copying.{copy_stops, copy_done}
-use Rattle.fm_segment_copies.proofs.Learning.{after_copy}
-use Rattle.fm_segment_copies.proofs.Touching.{can_touch_pieces}
+use Rattle.std.proofs.{Common.{arith}, lemmas.Result.{err_from_is_err_and}}
+use Rattle.fm_segment_copies.proofs.{Copying.{copy_stops, copy_done}, Learning.{after_copy}, Touching.{can_touch_pieces}}
 use Rattle.fm_segment_copies.proofs.copy.copy_range.Goals as goal
 
 pub copy_piece-requires : goal.copy_piece-requires

@@ -1,8 +1,6 @@
 use Rattle.std.proofs.lemmas.Result.{err_from_is_err_and}
 use Rattle.fm_segment_access.proofs.Touching.{visited}
-use Rattle.fm_segment_copies.specs.Comparisons.{ComparesPiece}
-use Rattle.fm_segment_copies.proofs.Comparing.{compared}
-use Rattle.fm_segment_copies.proofs.Stopping.{stopped_first, stopped_second}
+use Rattle.fm_segment_copies.{specs.Comparisons.{ComparesPiece}, proofs.{Comparing.{compared}, Stopping.{stopped_first, stopped_second}}}
 use Rattle.fm_segment_copies.proofs.mismatch.compare_piece.Goals as goal
 
 pub returns-in_err-v : goal.returns-in_err-v

@@ -1,7 +1,5 @@
-use Rattle.std.proofs.Common.{◌≡◌, ◌+◌, arith, ap, None}
-use Rattle.std.proofs.lemmas.Result.{err_from_is_err_and}
-use Rattle.fm_segment_copies.proofs.Comparing.{compare_goes_on, compare_differs, compare_stops, compare_done}
-use Rattle.fm_segment_copies.proofs.Learning.{after_compare}
+use Rattle.std.proofs.{Common.{◌≡◌, ◌+◌, arith, ap, None}, lemmas.Result.{err_from_is_err_and}}
+use Rattle.fm_segment_copies.proofs.{Comparing.{compare_goes_on, compare_differs, compare_stops, compare_done}, Learning.{after_compare}}
 use Rattle.fm_segment_copies.proofs.Touching.{can_touch_pieces}
 use Rattle.fm_segment_copies.proofs.mismatch.mismatch_range.Goals as goal
 

@@ -1,9 +1,6 @@
 use Rattle.std.proofs.Common.{◌≡◌, Err, refl, rules}
-use Rattle.fm_io.specs.declared.fault.Fault.TheVariants.{Memory}
-use Rattle.fm_io.proofs.Left.{leaves_none}
-use Rattle.fm_top.specs.Words.{Sum, Layout, Run}
-use Rattle.fm_top.proofs.Ends.{asked_file, other_end, shows_found, shows_wanting}
-use Rattle.fm_top.proofs.ReadFor.{no_reads}
+use Rattle.fm_io.{specs.declared.fault.Fault.TheVariants.{Memory}, proofs.Left.{leaves_none}}
+use Rattle.fm_top.{specs.Words.{Sum, Layout, Run}, proofs.{Ends.{asked_file, other_end, shows_found, shows_wanting}, ReadFor.{no_reads}}}
 use Rattle.fm_top.proofs.outcome.command_ending.Goals as goal
 
 pub returns-in-Sum : goal.returns-in-Sum

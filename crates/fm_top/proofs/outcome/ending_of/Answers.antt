@@ -1,16 +1,8 @@
-use Rattle.std.proofs.Common.{◌≡◌, Err, rules}
-use Rattle.std.proofs.lemmas.Result.{IfOk-weaker}
-use Rattle.fm_io.specs.declared.fault.Fault.TheVariants.{Memory}
+use Rattle.std.proofs.{Common.{◌≡◌, Err, rules}, lemmas.Result.{IfOk-weaker}}
+use Rattle.fm_io.{specs.declared.fault.Fault.TheVariants.{Memory}, proofs.Left.{leaves_none}}
 use Rattle.fm_top_options.specs.Options.{texts}
-use Rattle.fm_io.proofs.Left.{leaves_none}
-use Rattle.fm_top.specs.Asked.{request_of}
-use Rattle.fm_top.specs.Ending.{shown}
-use Rattle.fm_top.specs.Run.{faulty, asked}
-use Rattle.fm_top.proofs.Ends.{other_end, shows_found, shows_wanting}
-use Rattle.fm_top.proofs.ReadFor.{no_reads}
-use Rattle.fm_top.proofs.Requests.{same_request}
-use Rattle.fm_top.proofs.Runs.{can_be_asked}
-use Rattle.fm_top.proofs.Threaded.{of_none, of_some}
+use Rattle.fm_top.{specs.{Asked.{request_of}, Ending.{shown}, Run.{faulty, asked}}, proofs.{Ends.{other_end, shows_found, shows_wanting}, ReadFor.{no_reads}}}
+use Rattle.fm_top.proofs.{Requests.{same_request}, Runs.{can_be_asked}, Threaded.{of_none, of_some}}
 use Rattle.fm_top.proofs.outcome.ending_of.Goals as goal
 
 pub command_ending-requires-after_bounds : goal.command_ending-requires-after_bounds

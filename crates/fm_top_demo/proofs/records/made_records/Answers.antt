@@ -1,6 +1,5 @@
 use Rattle.std.proofs.Common.{◌++◌, ap, sym, ◌∙◌}
-use Rattle.fm_top_demo.specs.Records.{made_record, made_records}
-use Rattle.fm_top_demo.proofs.Made.{made_more}
+use Rattle.fm_top_demo.{specs.Records.{made_record, made_records}, proofs.Made.{made_more}}
 use Rattle.fm_top_demo.proofs.records.made_records.Goals as goal
 
 pub loop-k-preserved : goal.loop-k-preserved

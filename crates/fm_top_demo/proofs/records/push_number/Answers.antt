@@ -1,10 +1,6 @@
-use Rattle.std.proofs.Common.{◌≡◌, ◌+◌, ◌-◌, ◌/◌, ◌^◌, ◌++◌, ℕ, suc, zero, List, take, refl, ap, ◌∙◌, arith, Ok, Err}
-use Rattle.std.specs.Int.{bytes_low_first}
-use Rattle.std.specs.Prelude.{OnOk, is_ok, if◌then◌else◌, Result}
-use Rattle.std.specs.declared.alloc.AllocError.{AllocError}
-use Rattle.std.proofs.Math.Nat.{div-div-eq-div-mul}
-use Rattle.fm_base_bytes.specs.Bytes.{bytes_of}
-use Rattle.fm_base_bytes.proofs.Bytes.{take-bytes_of}
+use Rattle.std.{proofs.Common.{◌≡◌, ◌+◌, ◌-◌, ◌/◌, ◌^◌, ◌++◌, ℕ, suc, zero, List, take, refl, ap, ◌∙◌, arith, Ok, Err}, specs.Int.{bytes_low_first}}
+use Rattle.std.{specs.{Prelude.{OnOk, is_ok, if◌then◌else◌, Result}, declared.alloc.AllocError.{AllocError}}, proofs.Math.Nat.{div-div-eq-div-mul}}
+use Rattle.fm_base_bytes.{specs.Bytes.{bytes_of}, proofs.Bytes.{take-bytes_of}}
 use Rattle.fm_top_demo.proofs.records.push_number.Goals as goal
 
 -- The bytes of a number from one of them on, as std writes them.

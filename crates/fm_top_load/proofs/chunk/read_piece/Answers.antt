@@ -1,5 +1,4 @@
-use Rattle.std.proofs.Common.{ℕ, ◌+◌, arith}
-use Rattle.std.proofs.lemmas.List.{length-take}
+use Rattle.std.proofs.{Common.{ℕ, ◌+◌, arith}, lemmas.List.{length-take}}
 use Rattle.fm_top_load.proofs.Following.{filled_reads, filled_some, goes_by}
 use Rattle.fm_top_load.proofs.chunk.read_piece.Goals as goal
 

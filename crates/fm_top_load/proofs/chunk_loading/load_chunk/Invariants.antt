@@ -1,10 +1,7 @@
 use Rattle.std.proofs.Common.{◌+◌, ◌-◌, ◌<◌, ◌≤◌, take}
 use Rattle.fm_segment_access.specs.Alone.{bytes_of_arena}
-use Rattle.fm_io.specs.Files.{AreBytesFrom}
-use Rattle.fm_io.specs.View.{Leaves}
-use Rattle.fm_top_load.specs.Reached.{IsNextPiece, PutsWithin}
-use Rattle.fm_top_load.specs.Reading.{GoesBy, ReadsFurther}
-use Rattle.fm_top_load.specs.Whole.{CanRead}
+use Rattle.fm_io.specs.{Files.{AreBytesFrom}, View.{Leaves}}
+use Rattle.fm_top_load.specs.{Reached.{IsNextPiece, PutsWithin}, Reading.{GoesBy, ReadsFurther}, Whole.{CanRead}}
 use Rattle.fm_top_load.proofs.chunk_loading.load_chunk.Given as goal
 
 -- so many bytes of the chunk stand in the arena, and the next piece lies in the buffer

@@ -1,7 +1,6 @@
 use Rattle.std.proofs.Common.{refl, sym, ap, subst, ◌∙◌, arith}
 use Rattle.fm_segment.specs.Region.{Region, region_of}
-use Rattle.fm_top_load.specs.Held.{IsReady, loaded_in}
-use Rattle.fm_top_load.proofs.GivenBytes.{loaded_first}
+use Rattle.fm_top_load.{specs.Held.{IsReady, loaded_in}, proofs.GivenBytes.{loaded_first}}
 use Rattle.fm_top_load.proofs.held.none_loaded.Goals as goal
 
 pub returns-clause-ready : goal.returns-clause-ready

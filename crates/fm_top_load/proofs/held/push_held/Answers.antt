@@ -3,8 +3,7 @@ use Rattle.fm_base.specs.declared.arena_id.ArenaId.{ArenaId}
 use Rattle.fm_base_bytes.specs.Words.{bytes_in}
 use Rattle.fm_segment_access.specs.Alone.{bytes_of_arena}
 use Rattle.fm_segment.specs.Region.{Region, region_of}
-use Rattle.fm_top_load.specs.Held.{IsReady, loaded_in}
-use Rattle.fm_top_load.proofs.GivenBytes.{length-loaded, loaded_first, next_place, put_behind, ready_room}
+use Rattle.fm_top_load.{specs.Held.{IsReady, loaded_in}, proofs.GivenBytes.{length-loaded, loaded_first, next_place, put_behind, ready_room}}
 use Rattle.fm_top_load.proofs.Filling.{gave_and_put}
 use Rattle.fm_top_load.proofs.held.push_held.Goals as goal
 

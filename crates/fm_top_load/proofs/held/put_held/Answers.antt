@@ -1,5 +1,4 @@
-use Rattle.std.proofs.Common.{◌<◌, arith}
-use Rattle.std.proofs.lemmas.List.Elements.{All-from_get_or}
+use Rattle.std.proofs.{Common.{◌<◌, arith}, lemmas.List.Elements.{All-from_get_or}}
 use Rattle.fm_top_load.proofs.Holding.{put_only, put_still}
 use Rattle.fm_top_load.proofs.held.put_held.Goals as goal
 

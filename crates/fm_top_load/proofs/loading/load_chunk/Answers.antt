@@ -1,10 +1,5 @@
-use Rattle.std.proofs.Common.{◌≡◌, ◌+◌, ℕ, length, ap, sym, subst, arith, length-append}
-use Rattle.std.proofs.lemmas.List.{length-take}
-use Rattle.fm_top_load.specs.Held.{loaded_in}
-use Rattle.fm_top_load.specs.Reading.{GoesBy}
-use Rattle.fm_top_load.proofs.Chunks.{takes_chunk}
-use Rattle.fm_top_load.proofs.Filling.{loads_none, push_loads}
-use Rattle.fm_top_load.proofs.Following.{chunk_reads}
+use Rattle.std.proofs.{Common.{◌≡◌, ◌+◌, ℕ, length, ap, sym, subst, arith, length-append}, lemmas.List.{length-take}}
+use Rattle.fm_top_load.{specs.{Held.{loaded_in}, Reading.{GoesBy}}, proofs.{Chunks.{takes_chunk}, Filling.{loads_none, push_loads}, Following.{chunk_reads}}}
 use Rattle.fm_top_load.proofs.loading.load_chunk.Goals as goal
 
 pub returns-in-Err-clause-loads : goal.returns-in-Err-clause-loads

@@ -1,10 +1,7 @@
 use Rattle.std.proofs.Common.{◌%◌, ℕ, length, ap, subst, ◌∙◌, arith}
 use Rattle.fm_base.specs.declared.arena_id.ArenaId.{ArenaId}
-use Rattle.fm_top_load.specs.Held.{IsHeld, loaded_in}
-use Rattle.fm_top_load.proofs.Chunks.{no_bytes_from}
-use Rattle.fm_top_load.proofs.Filling.{loads_all, loads_nothing, loads_some}
-use Rattle.fm_top_load.proofs.Following.{chunk_reads}
-use Rattle.fm_top_load.proofs.GivenBytes.{length-loaded}
+use Rattle.fm_top_load.{specs.Held.{IsHeld, loaded_in}, proofs.{Chunks.{no_bytes_from}, Filling.{loads_all, loads_nothing, loads_some}}}
+use Rattle.fm_top_load.proofs.{Following.{chunk_reads}, GivenBytes.{length-loaded}}
 use Rattle.fm_top_load.proofs.loading.load_into.Goals as goal
 
 pub returns-in_default-clause-left : goal.returns-in_default-clause-left

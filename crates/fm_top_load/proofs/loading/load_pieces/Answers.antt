@@ -1,7 +1,5 @@
 use Rattle.std.proofs.Common.{arith}
-use Rattle.fm_top_load.proofs.Filling.{found_since, loads_none, loads_on}
-use Rattle.fm_top_load.proofs.Following.{reads_then}
-use Rattle.fm_top_load.proofs.Further.{none_read, read_further, read_to_end}
+use Rattle.fm_top_load.proofs.{Filling.{found_since, loads_none, loads_on}, Following.{reads_then}, Further.{none_read, read_further, read_to_end}}
 use Rattle.fm_top_load.proofs.Telling.{tells_of, tells_then}
 use Rattle.fm_top_load.proofs.loading.load_pieces.Goals as goal
 

@@ -1,8 +1,5 @@
 use Rattle.std.proofs.Common.{◌-◌, length}
-use Rattle.fm_top_load.specs.Held.{loaded_in}
-use Rattle.fm_top_load.specs.Limits.{record_file_limit}
-use Rattle.fm_top_load.specs.Loading.{CanLoadOn, LoadsOn}
-use Rattle.fm_top_load.proofs.Further.{IsReadUpTo}
+use Rattle.fm_top_load.{specs.{Held.{loaded_in}, Limits.{record_file_limit}, Loading.{CanLoadOn, LoadsOn}}, proofs.Further.{IsReadUpTo}}
 use Rattle.fm_top_load.proofs.loading.load_pieces.Given as goal
 
 -- the bytes so far are the file's first ones, whole words of them

@@ -1,16 +1,9 @@
-use Rattle.std.proofs.Common.{◌≡◌, ◌<◌, ◌+◌, ◌-◌, Option, take, refl, ap, subst, ◌∙◌, arith}
-use Rattle.std.proofs.lemmas.List.Elements.{All-from_get_or, All-take}
-use Rattle.fm_io.specs.Files.{Contents}
-use Rattle.fm_io.specs.Reads.{At}
-use Rattle.fm_io.proofs.Left.{leaves_none, leaves_then}
-use Rattle.fm_top_load.specs.Reached.{IsNextPiece}
-use Rattle.fm_top_load.specs.Reading.{GoesBy}
-use Rattle.fm_top_load.proofs.Following.{chunk_reads, reads_then}
-use Rattle.fm_top_load.proofs.Placing.{next_first, piece_fits, piece_short}
-use Rattle.fm_top_load.proofs.Putting.{part_put, piece_put, piece_refused, put_nothing, touch_still}
-use Rattle.fm_top_load.proofs.Telling.{read_quietly}
+use Rattle.std.proofs.{Common.{◌≡◌, ◌<◌, ◌+◌, ◌-◌, Option, take, refl, ap, subst, ◌∙◌, arith}, lemmas.List.Elements.{All-from_get_or, All-take}}
+use Rattle.fm_io.{specs.{Files.{Contents}, Reads.{At}}, proofs.Left.{leaves_none, leaves_then}}
+use Rattle.fm_top_load.{specs.{Reached.{IsNextPiece}, Reading.{GoesBy}}, proofs.Following.{chunk_reads, reads_then}}
+use Rattle.fm_top_load.proofs.{Placing.{next_first, piece_fits, piece_short}, Putting.{part_put, piece_put, piece_refused, put_nothing, touch_still}}
+use Rattle.fm_top_load.proofs.{Telling.{read_quietly}, part_putting.put_part.Goals.{then-piece-via-then-piece, then-piece-via-else-piece+then-size-part}}
 use Rattle.fm_top_load.proofs.part_putting.put_part.Goals as goal
-use Rattle.fm_top_load.proofs.part_putting.put_part.Goals.{then-piece-via-then-piece, then-piece-via-else-piece+then-size-part}
 
 pub pieces-init : goal.pieces-init
 pieces-init g c =

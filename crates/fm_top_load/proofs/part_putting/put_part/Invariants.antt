@@ -3,10 +3,7 @@ use Rattle.fm_base.specs.View.{Did}
 use Rattle.fm_base_bytes.specs.Bytes.{AreBytes}
 use Rattle.fm_io.specs.View.{Leaves}
 use Rattle.fm_segment_access.specs.Learnt.{CanTouch}
-use Rattle.fm_top_load.specs.Reached.{IsNextPiece}
-use Rattle.fm_top_load.specs.Reading.{GoesBy, ReadsFurther}
-use Rattle.fm_top_load.specs.Whole.{CanRead}
-use Rattle.fm_top_load.proofs.Putting.{PutSoFar}
+use Rattle.fm_top_load.{specs.{Reached.{IsNextPiece}, Reading.{GoesBy, ReadsFurther}, Whole.{CanRead}}, proofs.Putting.{PutSoFar}}
 use Rattle.fm_top_load.proofs.part_putting.put_part.Given as goal
 
 -- so many bytes of the part were put, and the next piece lies in the buffer

@@ -1,12 +1,7 @@
 use Rattle.std.proofs.Common.{◌≡◌, ◌≤◌, ◌-◌, take}
 use Rattle.fm_segment_access.specs.Alone.{bytes_of_arena}
-use Rattle.fm_io.specs.Files.{AreBytesFrom}
-use Rattle.fm_io.specs.Reads.{At}
-use Rattle.fm_io.specs.View.{Leaves}
-use Rattle.fm_top_load.specs.Limits.{record_file_limit}
-use Rattle.fm_top_load.specs.Reached.{PutsWithin}
-use Rattle.fm_top_load.specs.Reading.{ReadsUpTo}
-use Rattle.fm_top_load.specs.Whole.{CanRead}
+use Rattle.fm_io.specs.{Files.{AreBytesFrom}, Reads.{At}, View.{Leaves}}
+use Rattle.fm_top_load.specs.{Limits.{record_file_limit}, Reached.{PutsWithin}, Reading.{ReadsUpTo}, Whole.{CanRead}}
 use Rattle.fm_top_load.proofs.reaching.load_within.Given as goal
 
 -- the bytes so far are the file's first ones, and stand in the arena

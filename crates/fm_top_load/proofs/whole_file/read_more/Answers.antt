@@ -1,8 +1,5 @@
-use Rattle.std.proofs.Common.{◌≡◌, ◌+◌, ℕ, length, subst, sym, arith}
-use Rattle.std.proofs.lemmas.List.{length-take}
-use Rattle.fm_top_load.specs.Reading.{GoesBy}
-use Rattle.fm_top_load.proofs.Chunks.{takes_chunk}
-use Rattle.fm_top_load.proofs.Following.{chunk_reads}
+use Rattle.std.proofs.{Common.{◌≡◌, ◌+◌, ℕ, length, subst, sym, arith}, lemmas.List.{length-take}}
+use Rattle.fm_top_load.{specs.Reading.{GoesBy}, proofs.{Chunks.{takes_chunk}, Following.{chunk_reads}}}
 use Rattle.fm_top_load.proofs.whole_file.read_more.Goals as goal
 
 pub returns-in-Ok-extend_from_slice-clause-took : goal.returns-in-Ok-extend_from_slice-clause-took

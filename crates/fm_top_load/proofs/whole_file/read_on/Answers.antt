@@ -1,6 +1,4 @@
-use Rattle.fm_top_load.proofs.Following.{reads_then}
-use Rattle.fm_top_load.proofs.Further.{none_read, read_further, read_to_end}
-use Rattle.fm_top_load.proofs.Telling.{tells_then}
+use Rattle.fm_top_load.proofs.{Following.{reads_then}, Further.{none_read, read_further, read_to_end}, Telling.{tells_then}}
 use Rattle.fm_top_load.proofs.whole_file.read_on.Goals as goal
 
 pub loop-fault-init : goal.loop-fault-init

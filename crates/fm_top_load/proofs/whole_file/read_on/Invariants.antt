@@ -1,6 +1,5 @@
 use Rattle.std.proofs.Common.{◌-◌, length}
-use Rattle.fm_top_load.specs.Whole.{CanRead}
-use Rattle.fm_top_load.proofs.Further.{IsReadUpTo}
+use Rattle.fm_top_load.{specs.Whole.{CanRead}, proofs.Further.{IsReadUpTo}}
 use Rattle.fm_top_load.proofs.whole_file.read_on.Given as goal
 
 -- the bytes so far are the file's first ones

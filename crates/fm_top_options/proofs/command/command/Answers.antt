@@ -1,8 +1,6 @@
-use Rattle.std.proofs.Common.{◌≡◌}
-use Rattle.std.proofs.lemmas.Result.{IfOk-weaker}
+use Rattle.std.proofs.{Common.{◌≡◌}, lemmas.Result.{IfOk-weaker}}
 use Rattle.clap.specs.Words.{AddsArg, app_of}
-use Rattle.fm_top_options.specs.Command.{command_app}
-use Rattle.fm_top_options.proofs.Built.{is_command}
+use Rattle.fm_top_options.{specs.Command.{command_app}, proofs.Built.{is_command}}
 use Rattle.fm_top_options.proofs.command.command.Goals as goal
 
 pub returns : goal.returns

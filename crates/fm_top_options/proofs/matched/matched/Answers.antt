@@ -1,8 +1,6 @@
 use Rattle.std.proofs.Common.{◌∙◌, ap}
 use Rattle.clap.specs.Words.{app_of, is_simple_and_free}
-use Rattle.fm_top_options.specs.Options.{texts}
-use Rattle.fm_top_options.proofs.Built.{is_free-command}
-use Rattle.fm_top_options.proofs.Taken.{all_text, matched_words, refused_words}
+use Rattle.fm_top_options.{specs.Options.{texts}, proofs.{Built.{is_free-command}, Taken.{all_text, matched_words, refused_words}}}
 use Rattle.fm_top_options.proofs.matched.matched.Goals as goal
 
 pub returns-in-Ok-clause-found : goal.returns-in-Ok-clause-found

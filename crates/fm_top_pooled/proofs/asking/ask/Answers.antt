@@ -1,5 +1,4 @@
-use Rattle.std.proofs.Common.{subst}
-use Rattle.std.proofs.lemmas.Result.{IfOk-weaker}
+use Rattle.std.proofs.{Common.{subst}, lemmas.Result.{IfOk-weaker}}
 use Rattle.fm_workers.specs.Query.{QueriedWith}
 use Rattle.fm_top_pooled.proofs.Shows.{answers, can_ask, only_wants, was_asked}
 use Rattle.fm_top_pooled.proofs.asking.ask.Goals as goal

@@ -1,6 +1,4 @@
-use Rattle.std.proofs.Common.{subst}
-use Rattle.std.proofs.lemmas.Result.{IfOk-weaker}
-use Rattle.std.specs.Prelude.{IfOk}
+use Rattle.std.{proofs.{Common.{subst}, lemmas.Result.{IfOk-weaker}}, specs.Prelude.{IfOk}}
 use Rattle.fm_rule.specs.Finishing.{Finishes}
 use Rattle.fm_top_pooled.proofs.Shows.{keeps_history}
 use Rattle.fm_top_pooled.proofs.finishing.finish.Goals as goal

@@ -1,9 +1,7 @@
 use Rattle.std.proofs.Common.{◌≤◌, ap, ◌∙◌, sym, subst}
 use Rattle.fm_rule_facts.specs.Views.{View, limit_of}
 use Rattle.fm_words.specs.declared.shape.Shape.{Shape}
-use Rattle.fm_top_pooled.specs.Stocked.{IsMadeFor}
-use Rattle.fm_top_pooled.proofs.Filed.{one_known}
-use Rattle.fm_top_pooled.proofs.Opening.{begun, can_stock, pages_left}
+use Rattle.fm_top_pooled.{specs.Stocked.{IsMadeFor}, proofs.{Filed.{one_known}, Opening.{begun, can_stock, pages_left}}}
 use Rattle.fm_top_pooled.proofs.loading.made.Goals as goal
 
 pub opened-arena-requires-clause-lone : goal.opened-arena-requires-clause-lone

@@ -1,8 +1,6 @@
-use Rattle.std.proofs.Common.{◌≡◌, List, ℕ, true, false, ap, subst, take, ◌∙◌}
-use Rattle.std.specs.Prelude.{IfOk, IfSome, IsSome}
+use Rattle.std.{proofs.Common.{◌≡◌, List, ℕ, true, false, ap, subst, take, ◌∙◌}, specs.Prelude.{IfOk, IfSome, IsSome}}
 use Rattle.fm_base.specs.Arenas.{State, arena_of, has_arena}
-use Rattle.fm_rule.specs.Finishing.{Finishes}
-use Rattle.fm_rule.specs.GivenBytes.{given_bytes}
+use Rattle.fm_rule.specs.{Finishing.{Finishes}, GivenBytes.{given_bytes}}
 use Rattle.fm_top_pooled.proofs.Filed.{state_left, taken}
 use Rattle.fm_top_pooled.proofs.loading.taken_out.Goals as goal
 

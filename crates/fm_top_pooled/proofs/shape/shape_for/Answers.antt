@@ -1,5 +1,4 @@
-use Rattle.std.proofs.Common.{◌≤◌, ◌^◌, ℕ, sym, subst, arith}
-use Rattle.std.proofs.lemmas.Grind.{common_steps}
+use Rattle.std.proofs.{Common.{◌≤◌, ◌^◌, ℕ, sym, subst, arith}, lemmas.Grind.{common_steps}}
 use Rattle.fm_top_pooled.proofs.Shapes.{can_be, few_parts, has_room, least_power}
 use Rattle.fm_top_pooled.proofs.shape.shape_for.Goals as goal
 

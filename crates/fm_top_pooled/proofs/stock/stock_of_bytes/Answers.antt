@@ -1,9 +1,7 @@
 use Rattle.std.proofs.Common.{rules, ◌≤◌, ap, length, sym, subst}
 use Rattle.fm_rule_facts.specs.Views.{View, limit_of}
 use Rattle.fm_words.specs.declared.shape.Shape.{Shape}
-use Rattle.fm_top_pooled.specs.Stocked.{IsMadeFor}
-use Rattle.fm_top_pooled.proofs.Filed.{one_known}
-use Rattle.fm_top_pooled.proofs.Opening.{begun, can_stock}
+use Rattle.fm_top_pooled.{specs.Stocked.{IsMadeFor}, proofs.{Filed.{one_known}, Opening.{begun, can_stock}}}
 use Rattle.fm_top_pooled.proofs.stock.stock_of_bytes.Goals as goal
 
 pub stock-pass-requires-clause-can : goal.stock-pass-requires-clause-can

@@ -1,5 +1,4 @@
-use Rattle.std.proofs.Common.{◌<◌, ◌≤◌, length, sym, subst, arith}
-use Rattle.std.proofs.lemmas.List.Elements.{All-from_get_or}
+use Rattle.std.proofs.{Common.{◌<◌, ◌≤◌, length, sym, subst, arith}, lemmas.List.Elements.{All-from_get_or}}
 use Rattle.fm_base.specs.View.{given_in}
 use Rattle.fm_rule_calls.specs.Told.{view_of_pass}
 use Rattle.fm_top_load.specs.Held.{IsHeld, PutsHeld}

@@ -3,8 +3,7 @@ use Rattle.fm_segment_access.specs.Alone.{bytes_of_arena}
 use Rattle.fm_rule_facts.specs.Views.{limit_of, state_in}
 use Rattle.fm_segment.specs.Region.{Region}
 use Rattle.fm_words.specs.declared.shape.Shape.{Shape}
-use Rattle.fm_top_pooled.proofs.Filling.{bytes_stand, held_room, only_known, stocked}
-use Rattle.fm_top_pooled.proofs.Opening.{pages_left}
+use Rattle.fm_top_pooled.proofs.{Filling.{bytes_stand, held_room, only_known, stocked}, Opening.{pages_left}}
 use Rattle.fm_top_pooled.proofs.stocking.stock.Goals as goal
 
 pub allocated-requires-clause-pages : goal.allocated-requires-clause-pages

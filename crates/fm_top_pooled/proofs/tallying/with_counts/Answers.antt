@@ -2,8 +2,7 @@ use Rattle.std.proofs.Common.{ap, sym, subst}
 use Rattle.fm_base.specs.declared.arena_id.ArenaId.{ArenaId}
 use Rattle.fm_rule_facts.specs.Views.{IsKnown}
 use Rattle.fm_segment.specs.Region.{Region}
-use Rattle.fm_top_pooled.proofs.Filling.{only_keeps}
-use Rattle.fm_top_pooled.proofs.Tallies.{beside, bytes_beside, has_room, second_free, second_pages, second_room, stocked_beside}
+use Rattle.fm_top_pooled.proofs.{Filling.{only_keeps}, Tallies.{beside, bytes_beside, has_room, second_free, second_pages, second_room, stocked_beside}}
 use Rattle.fm_top_pooled.proofs.tallying.with_counts.Goals as goal
 
 pub opened-arena-requires-clause-free : goal.opened-arena-requires-clause-free

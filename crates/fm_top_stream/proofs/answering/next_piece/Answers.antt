@@ -1,5 +1,4 @@
-use Rattle.std.proofs.Common.{◌+◌, Bool, sym, subst}
-use Rattle.std.specs.Prelude.{IfOk}
+use Rattle.std.{proofs.Common.{◌+◌, Bool, sym, subst}, specs.Prelude.{IfOk}}
 use Rattle.fm_top_load.specs.Reading.{GoesBy, ReadsFurther}
 use Rattle.fm_top_stream.proofs.Chunking.{further_by}
 use Rattle.fm_top_stream.proofs.answering.next_piece.Goals as goal

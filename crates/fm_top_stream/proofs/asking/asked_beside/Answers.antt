@@ -1,12 +1,9 @@
-use Rattle.std.proofs.Common.{◌≡◌, ◌∙◌, List, Result, subst}
-use Rattle.std.specs.Prelude.{IfErr}
+use Rattle.std.{proofs.Common.{◌≡◌, ◌∙◌, List, Result, subst}, specs.Prelude.{IfErr}}
 use Rattle.fm_base.specs.declared.refusal.Refusal.{Refusal}
 use Rattle.fm_io.specs.View.{FilesView}
 use Rattle.fm_records.specs.declared.found.Found.{Found}
 use Rattle.fm_workers.specs.Beside.{AskedBeside, AsksBeside}
-use Rattle.fm_top_stream.specs.declared.putting.Putting.{Putting}
-use Rattle.fm_top_stream.specs.Ahead.{PutsAhead}
-use Rattle.fm_top_stream.proofs.Beside.{asks_ahead, follows_ahead, tells_ahead, was_let_in}
+use Rattle.fm_top_stream.{specs.{declared.putting.Putting.{Putting}, Ahead.{PutsAhead}}, proofs.Beside.{asks_ahead, follows_ahead, tells_ahead, was_let_in}}
 use Rattle.fm_top_stream.proofs.Rounds.{still_beside}
 use Rattle.fm_top_stream.proofs.asking.asked_beside.Goals as goal
 

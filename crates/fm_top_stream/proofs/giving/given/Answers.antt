@@ -1,6 +1,5 @@
 use Rattle.std.proofs.Common.{refl}
-use Rattle.fm_top_stream.proofs.Going.{goes_here}
-use Rattle.fm_top_stream.proofs.Waiting.{gives_then, waits_on}
+use Rattle.fm_top_stream.proofs.{Going.{goes_here}, Waiting.{gives_then, waits_on}}
 use Rattle.fm_top_stream.proofs.giving.given.Goals as goal
 
 pub loop-init : goal.loop-init

@@ -1,12 +1,7 @@
 use Rattle.std.proofs.Common.{Option, Some, length, ap, sym, ◌∙◌, subst}
-use Rattle.fm_io.specs.Files.{Contents}
-use Rattle.fm_io.proofs.Left.{leaves_then}
-use Rattle.fm_top_load.specs.declared.load_fault.LoadFault.{LoadFault}
-use Rattle.fm_top_load.specs.Whole.{TellsLoad}
-use Rattle.fm_top_load.proofs.Telling.{read_quietly, tells_memory, tells_then}
-use Rattle.fm_top_stream.specs.Steps.{AnswersOn}
-use Rattle.fm_top_stream.proofs.Chunking.{further_some, further_then}
-use Rattle.fm_top_stream.proofs.GoesOn.{goes_by, goes_on, next_joins}
+use Rattle.fm_io.{specs.Files.{Contents}, proofs.Left.{leaves_then}}
+use Rattle.fm_top_load.{specs.{declared.load_fault.LoadFault.{LoadFault}, Whole.{TellsLoad}}, proofs.Telling.{read_quietly, tells_memory, tells_then}}
+use Rattle.fm_top_stream.{specs.Steps.{AnswersOn}, proofs.{Chunking.{further_some, further_then}, GoesOn.{goes_by, goes_on, next_joins}}}
 use Rattle.fm_top_stream.proofs.round.round.Goals as goal
 
 pub returns-in-Err-answered-clause-reads : goal.returns-in-Err-answered-clause-reads

@@ -2,8 +2,7 @@ use Rattle.std.proofs.Common.{◌<◌, ap, sym, subst, ◌∙◌}
 use Rattle.fm_rule.specs.Views.{first_pass, numbers_of}
 use Rattle.fm_io.proofs.Left.{leaves_none}
 use Rattle.fm_top_load.proofs.Telling.{read_quietly}
-use Rattle.fm_top_stream.proofs.Ends.{can_go, some_in_chunk, streamed}
-use Rattle.fm_top_stream.proofs.Faulty.{told_memory, told_nothing}
+use Rattle.fm_top_stream.proofs.{Ends.{can_go, some_in_chunk, streamed}, Faulty.{told_memory, told_nothing}}
 use Rattle.fm_top_stream.proofs.stream.stream_with.Goals as goal
 
 pub go_through-requires-clause-can : goal.go_through-requires-clause-can

@@ -1,5 +1,4 @@
-use Rattle.std.proofs.Common.{◌≡◌, ◌++◌, length, take, drop, refl, ap, sym, ◌∙◌}
-use Rattle.std.proofs.lemmas.List.{take_at}
+use Rattle.std.proofs.{Common.{◌≡◌, ◌++◌, length, take, drop, refl, ap, sym, ◌∙◌}, lemmas.List.{take_at}}
 use Rattle.fm_top_stream.proofs.Beginning.{begins}
 use Rattle.fm_top_stream.proofs.streaming.begun.Goals as goal
 

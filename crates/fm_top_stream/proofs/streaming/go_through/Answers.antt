@@ -1,16 +1,9 @@
-use Rattle.std.proofs.Common.{◌≡◌, ℕ, List, [], ◌++◌, length, take, drop, Option, refl, ap, sym, ◌∙◌, subst, arith}
-use Rattle.std.proofs.lemmas.List.{take_at}
-use Rattle.fm_io.specs.Files.{Contents}
-use Rattle.fm_io.specs.Reads.{At}
-use Rattle.fm_io.proofs.Left.{leaves_then}
-use Rattle.fm_top_load.specs.Reached.{IsNextPiece}
-use Rattle.fm_top_load.proofs.Chunks.{no_bytes_from}
-use Rattle.fm_top_load.proofs.Telling.{read_quietly, tells_then}
-use Rattle.fm_top_stream.specs.Chunks.{stream_file_limit}
-use Rattle.fm_top_stream.specs.Gone.{GoneSoFar}
+use Rattle.std.proofs.{Common.{◌≡◌, ℕ, List, [], ◌++◌, length, take, drop, Option, refl, ap, sym, ◌∙◌, subst, arith}, lemmas.List.{take_at}}
+use Rattle.fm_io.{specs.{Files.{Contents}, Reads.{At}}, proofs.Left.{leaves_then}}
+use Rattle.fm_top_load.{specs.Reached.{IsNextPiece}, proofs.{Chunks.{no_bytes_from}, Telling.{read_quietly, tells_then}}}
+use Rattle.fm_top_stream.specs.{Chunks.{stream_file_limit}, Gone.{GoneSoFar}}
 use Rattle.fm_top_stream.proofs.Chunking.{further_says, further_some, further_then, reads_further, tells_no_memory, tells_none}
-use Rattle.fm_top_stream.proofs.GoesOn.{empty_file, gone_none}
-use Rattle.fm_top_stream.proofs.Runs.{ends_here}
+use Rattle.fm_top_stream.proofs.{GoesOn.{empty_file, gone_none}, Runs.{ends_here}}
 use Rattle.fm_top_stream.proofs.streaming.go_through.Goals as goal
 
 pub returns-then-first-eq0-clause-goes : goal.returns-then-first-eq0-clause-goes

@@ -1,15 +1,8 @@
-use Rattle.std.proofs.Common.{◌+◌, ◌%◌, Option, refl, sym, ap, subst, ◌∙◌, arith}
-use Rattle.std.specs.Prelude.{IfSome}
-use Rattle.fm_io.specs.Files.{Contents}
-use Rattle.fm_io.proofs.Left.{leaves_then}
-use Rattle.fm_top_load.specs.Reading.{GoesBy, ReadsFurther}
-use Rattle.fm_top_load.proofs.Telling.{read_quietly, tells_then}
-use Rattle.fm_top_stream.specs.Ahead.{IsFollowed}
-use Rattle.fm_top_stream.specs.Chunks.{stream_file_limit}
-use Rattle.fm_top_stream.specs.Gone.{HasNext}
-use Rattle.fm_top_stream.specs.declared.placed.Placed.{Placed}
-use Rattle.fm_top_stream.proofs.Chunking.{further_some, further_then, tells_none}
-use Rattle.fm_top_stream.proofs.GoesOn.{ends_within, through_ragged}
+use Rattle.std.{proofs.Common.{◌+◌, ◌%◌, Option, refl, sym, ap, subst, ◌∙◌, arith}, specs.Prelude.{IfSome}}
+use Rattle.fm_io.{specs.Files.{Contents}, proofs.Left.{leaves_then}}
+use Rattle.fm_top_load.{specs.Reading.{GoesBy, ReadsFurther}, proofs.Telling.{read_quietly, tells_then}}
+use Rattle.fm_top_stream.specs.{Ahead.{IsFollowed}, Chunks.{stream_file_limit}, Gone.{HasNext}, declared.placed.Placed.{Placed}}
+use Rattle.fm_top_stream.proofs.{Chunking.{further_some, further_then, tells_none}, GoesOn.{ends_within, through_ragged}}
 use Rattle.fm_top_stream.proofs.streaming.take_chunks.Goals as goal
 
 pub returns-then-rest-ne0-clause-goes : goal.returns-then-rest-ne0-clause-goes

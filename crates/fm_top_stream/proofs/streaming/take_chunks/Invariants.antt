@@ -1,8 +1,7 @@
 use Rattle.std.proofs.Common.{◌+◌, ◌-◌}
 use Rattle.fm_io.specs.View.{Leaves}
 use Rattle.fm_top_load.specs.Reading.{GoesBy, ReadsFurther}
-use Rattle.fm_top_stream.specs.Chunks.{stream_file_limit}
-use Rattle.fm_top_stream.specs.Gone.{HasNext}
+use Rattle.fm_top_stream.specs.{Chunks.{stream_file_limit}, Gone.{HasNext}}
 use Rattle.fm_top_stream.proofs.streaming.take_chunks.Given as goal
 
 -- whole chunks have gone through up to the place, where the next one stands, and the next read follows on that

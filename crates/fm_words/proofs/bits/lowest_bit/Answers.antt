@@ -1,7 +1,5 @@
-use Rattle.std.proofs.Common.{◌≡◌, ℕ, zero, suc, ◌<◌, ◌≤◌, ◌^◌, refl, arith}
+use Rattle.std.{proofs.{Common.{◌≡◌, ℕ, zero, suc, ◌<◌, ◌≤◌, ◌^◌, refl, arith}, lemmas.Nat.Bits.{bit_at-trailing_zeros, bit_at-zero}}, specs.Int.{bit_at, w64}}
 use lib.Count.{count_trailing_zeros}
-use Rattle.std.specs.Int.{bit_at, w64}
-use Rattle.std.proofs.lemmas.Nat.Bits.{bit_at-trailing_zeros, bit_at-zero}
 use Rattle.fm_words.specs.Bits.{IsLowest}
 use Rattle.fm_words.proofs.bits.lowest_bit.Goals as goal
 

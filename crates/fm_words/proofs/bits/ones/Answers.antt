@@ -1,5 +1,4 @@
-use Rattle.std.proofs.Common.{◌∙◌, ℕ, ◌-◌, ◌^◌, ◌≡◌, ap, arith}
-use Rattle.std.proofs.lemmas.Nat.Bits.{ones_shr}
+use Rattle.std.proofs.{Common.{◌∙◌, ℕ, ◌-◌, ◌^◌, ◌≡◌, ap, arith}, lemmas.Nat.Bits.{ones_shr}}
 use Rattle.fm_words.proofs.bits.ones.Goals as goal
 
 pub returns : goal.returns

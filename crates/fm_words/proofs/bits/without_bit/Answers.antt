@@ -1,6 +1,5 @@
-use Rattle.std.proofs.Common.{refl, ◌<◌, ◌^◌, ℕ, arith}
+use Rattle.std.proofs.{Common.{refl, ◌<◌, ◌^◌, ℕ, arith}, lemmas.Nat.{and_le_l}}
 use lib.Bits.{bit_and}
-use Rattle.std.proofs.lemmas.Nat.{and_le_l}
 use Rattle.fm_words.proofs.Clearing.{is_without}
 use Rattle.fm_words.proofs.bits.without_bit.Goals as goal
 

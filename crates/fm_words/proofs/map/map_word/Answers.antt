@@ -1,6 +1,5 @@
 use Rattle.std.proofs.Common.{ap, ◌∙◌}
-use Rattle.fm_words.specs.Maps.{map_word, map_of}
-use Rattle.fm_words.proofs.Maps.{map_of-map_word}
+use Rattle.fm_words.{specs.Maps.{map_word, map_of}, proofs.Maps.{map_of-map_word}}
 use Rattle.fm_words.proofs.map.map_word.Goals as goal
 
 pub returns-clause-word : goal.returns-clause-word

@@ -1,6 +1,5 @@
 use Rattle.std.proofs.Common.{ap, ◌∙◌, arith}
-use Rattle.fm_words.specs.Marks.{mark_word, mark_of}
-use Rattle.fm_words.proofs.Marks.{mark_of-mark_word}
+use Rattle.fm_words.{specs.Marks.{mark_word, mark_of}, proofs.Marks.{mark_of-mark_word}}
 use Rattle.fm_words.proofs.mark.mark_word.Goals as goal
 
 pub returns-clause-word : goal.returns-clause-word

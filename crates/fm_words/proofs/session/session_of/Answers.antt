@@ -1,7 +1,5 @@
 use Rattle.std.proofs.Common.{ap, ◌∙◌}
-use Rattle.fm_words.specs.Sessions.{session_word}
-use Rattle.fm_words.proofs.Sessions.{session_word-session_of}
-use Rattle.fm_words.proofs.Shifts.{masked_is}
+use Rattle.fm_words.{specs.Sessions.{session_word}, proofs.{Sessions.{session_word-session_of}, Shifts.{masked_is}}}
 use Rattle.fm_words.proofs.session.session_of.Goals as goal
 
 pub returns-clause-session : goal.returns-clause-session

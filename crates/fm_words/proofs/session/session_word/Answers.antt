@@ -1,7 +1,5 @@
 use Rattle.std.proofs.Common.{ap, ◌∙◌}
-use Rattle.fm_words.specs.Sessions.{session_of}
-use Rattle.fm_words.proofs.Sessions.{session_of-session_word}
-use Rattle.fm_words.proofs.Shifts.{joined_is}
+use Rattle.fm_words.{specs.Sessions.{session_of}, proofs.{Sessions.{session_of-session_word}, Shifts.{joined_is}}}
 use Rattle.fm_words.proofs.session.session_word.Goals as goal
 
 pub returns-clause-word : goal.returns-clause-word

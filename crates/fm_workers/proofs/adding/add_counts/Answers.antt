@@ -1,8 +1,6 @@
 use Rattle.std.proofs.Common.{◌++◌, [], arith}
-use Rattle.fm_base.proofs.Making.{Makes-none}
-use Rattle.fm_base.proofs.Outcomes.{Makes-lasts}
-use Rattle.fm_workers.specs.Adding.{none_yet}
-use Rattle.fm_workers.proofs.Increments.{added_all, added_more, added_stops, can_add_still}
+use Rattle.fm_base.proofs.{Making.{Makes-none}, Outcomes.{Makes-lasts}}
+use Rattle.fm_workers.{specs.Adding.{none_yet}, proofs.Increments.{added_all, added_more, added_stops, can_add_still}}
 use Rattle.fm_workers.proofs.adding.add_counts.Goals as goal
 
 pub loop-place-init : goal.loop-place-init

@@ -1,7 +1,6 @@
 use Rattle.std.proofs.Common.{List}
 use Rattle.fm_base.specs.Calls.{Entry}
-use Rattle.fm_workers.specs.Adding.{CanAdd}
-use Rattle.fm_workers.proofs.Increments.{AddedBelow}
+use Rattle.fm_workers.{specs.Adding.{CanAdd}, proofs.Increments.{AddedBelow}}
 use Rattle.fm_workers.proofs.adding.add_counts.Given as goal
 
 abbrev pub invariant-loop-place : goal.invariant-loop-place

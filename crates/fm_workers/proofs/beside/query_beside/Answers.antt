@@ -1,10 +1,7 @@
 use Rattle.std.proofs.Common.{◌≡◌, ◌/◌, ap, arith, subst, sym, ◌∙◌, inr}
 use Rattle.fm_base.specs.declared.refusal.Refusal.TheVariants.{Memory}
-use Rattle.fm_workers_shares.specs.Batches.{IsBegun}
-use Rattle.fm_workers_shares.specs.Shares.{each_of, many_of}
-use Rattle.fm_workers.specs.Beside.{AsksBeside}
-use Rattle.fm_workers.specs.Taking.{CanTakeBatch}
-use Rattle.fm_workers.proofs.Queried.{queried_none}
+use Rattle.fm_workers_shares.specs.{Batches.{IsBegun}, Shares.{each_of, many_of}}
+use Rattle.fm_workers.{specs.{Beside.{AsksBeside}, Taking.{CanTakeBatch}}, proofs.Queried.{queried_none}}
 use Rattle.fm_workers.proofs.beside.query_beside.Goals as goal
 
 pub take_batch_beside-requires-clause-can : goal.take_batch_beside-requires-clause-can

@@ -1,8 +1,6 @@
 use Rattle.std.proofs.Common.{refl, subst}
-use Rattle.fm_workers_crew.specs.Beside.{WorksBeside}
-use Rattle.fm_workers_crew.specs.Crew.{by_caller}
-use Rattle.fm_workers.specs.Taking.{Asking, Takes, asking}
-use Rattle.fm_workers.proofs.Queried.{asked_beside, can_finish_beside, queried_refused}
+use Rattle.fm_workers_crew.specs.{Beside.{WorksBeside}, Crew.{by_caller}}
+use Rattle.fm_workers.{specs.Taking.{Asking, Takes, asking}, proofs.Queried.{asked_beside, can_finish_beside, queried_refused}}
 use Rattle.fm_workers.proofs.beside.take_batch_beside.Goals as goal
 
 pub finish-answer-requires : goal.finish-answer-requires

@@ -1,10 +1,6 @@
-use Rattle.std.proofs.Common.{◌≡◌, ◌++◌, ◌∷◌, [], take, subst, sym, length-append, arith}
-use Rattle.std.proofs.lemmas.Grind.{common_steps}
-use Rattle.std.specs.Int.{w64}
-use Rattle.std.proofs.lemmas.Int.{to_z-of_z}
+use Rattle.std.{proofs.{Common.{◌≡◌, ◌++◌, ◌∷◌, [], take, subst, sym, length-append, arith}, lemmas.{Grind.{common_steps}, Int.{to_z-of_z}}}, specs.Int.{w64}}
 use Rattle.std.proofs.lemmas.List.{append-nil}
-use Rattle.fm_workers.specs.Counts.{AreCounts, number_of}
-use Rattle.fm_workers.proofs.Numbers.{how_many-most, length_take, taken_more}
+use Rattle.fm_workers.{specs.Counts.{AreCounts, number_of}, proofs.Numbers.{how_many-most, length_take, taken_more}}
 use Rattle.fm_workers.proofs.counting.count_numbers.Goals as goal
 
 pub loop-i-init : goal.loop-i-init

@@ -1,6 +1,4 @@
-use Rattle.std.proofs.Common.{◌≡◌}
-use Rattle.std.specs.List.{flat_map, range_with_len}
-use Rattle.std.specs.String.{string_bytes}
+use Rattle.std.{proofs.Common.{◌≡◌}, specs.{List.{flat_map, range_with_len}, String.{string_bytes}}}
 use Rattle.fm_workers.specs.Printed.{place_text, rising}
 use Rattle.fm_workers.proofs.printing.lines.Given as goal
 

@@ -1,11 +1,7 @@
 use Rattle.std.proofs.Common.{◌≡◌, ◌%◌, ◌/◌, arith, refl, sym, ap, ◌∙◌, subst, inr}
-use Rattle.fm_base.specs.declared.arena_id.ArenaId.{ArenaId}
-use Rattle.fm_base.specs.declared.refusal.Refusal.TheVariants.{Memory, Ragged, WrongThread}
-use Rattle.fm_workers_shares.specs.Batches.{IsBegun}
-use Rattle.fm_workers_shares.specs.Shares.{each_of, many_of}
-use Rattle.fm_workers.specs.Query.{QueriedWith}
-use Rattle.fm_workers.specs.Taking.{CanTakeBatch}
-use Rattle.fm_workers.proofs.Queried.{even_of, open_to_all, queried_none}
+use Rattle.fm_base.specs.declared.{arena_id.ArenaId.{ArenaId}, refusal.Refusal.TheVariants.{Memory, Ragged, WrongThread}}
+use Rattle.fm_workers_shares.specs.{Batches.{IsBegun}, Shares.{each_of, many_of}}
+use Rattle.fm_workers.{specs.{Query.{QueriedWith}, Taking.{CanTakeBatch}}, proofs.Queried.{even_of, open_to_all, queried_none}}
 use Rattle.fm_workers.proofs.query.query_with.Goals as goal
 
 pub returns-then-rest-ne0-clause-queried : goal.returns-then-rest-ne0-clause-queried

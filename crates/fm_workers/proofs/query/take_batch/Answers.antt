@@ -1,8 +1,5 @@
-use Rattle.std.proofs.Common.{refl}
-use Rattle.std.proofs.lemmas.List.Elements.{All-from_recursion}
-use Rattle.fm_workers.specs.Taking.{Asking, CanTakeShares, asking}
-use Rattle.fm_workers.proofs.Queried.{can_finish_batch, queried, queried_refused}
-use Rattle.fm_workers.proofs.Taking.{can_take_all}
+use Rattle.std.proofs.{Common.{refl}, lemmas.List.Elements.{All-from_recursion}}
+use Rattle.fm_workers.{specs.Taking.{Asking, CanTakeShares, asking}, proofs.{Queried.{can_finish_batch, queried, queried_refused}, Taking.{can_take_all}}}
 use Rattle.fm_workers.proofs.query.take_batch.Goals as goal
 
 pub work_crew-requires-clause-can : goal.work_crew-requires-clause-can

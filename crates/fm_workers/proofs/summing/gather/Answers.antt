@@ -1,9 +1,6 @@
 use Rattle.fm_workers_jobs.specs.Turns.{IsTaker}
-use Rattle.fm_workers_shares.proofs.Absorbing.{absorbed_none, absorbed_one, still_giver}
-use Rattle.fm_workers_shares.proofs.Popping.{middle, none_gone, one_gone}
-use Rattle.fm_workers.specs.declared.tallier.Tallier.{Tallier}
-use Rattle.fm_workers.specs.Summing.{turns_of}
-use Rattle.fm_workers.proofs.Totals.{sums_more}
+use Rattle.fm_workers_shares.proofs.{Absorbing.{absorbed_none, absorbed_one, still_giver}, Popping.{middle, none_gone, one_gone}}
+use Rattle.fm_workers.{specs.{declared.tallier.Tallier.{Tallier}, Summing.{turns_of}}, proofs.Totals.{sums_more}}
 use Rattle.fm_workers.proofs.summing.gather.Goals as goal
 
 pub loop-tallier-init : goal.loop-tallier-init

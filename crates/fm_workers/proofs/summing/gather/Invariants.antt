@@ -1,6 +1,5 @@
 use Rattle.fm_workers_jobs.specs.Turns.{HasAccount, account_of}
-use Rattle.fm_workers_shares.specs.Placing.{absorbed}
-use Rattle.fm_workers_shares.proofs.Popping.{TakenApart}
+use Rattle.fm_workers_shares.{specs.Placing.{absorbed}, proofs.Popping.{TakenApart}}
 use Rattle.fm_workers.specs.Summing.{SumsTo, turns_of}
 use Rattle.fm_workers.proofs.summing.gather.Given as goal
 

@@ -1,8 +1,6 @@
 use Rattle.std.proofs.Common.{◌≡◌, sym, ap, ◌∙◌, subst, Ok}
-use Rattle.fm_workers_jobs.specs.declared.account.Account.{Account}
-use Rattle.fm_workers_jobs.specs.Turns.{IsSettled}
-use Rattle.fm_workers.specs.Summing.{end_of}
-use Rattle.fm_workers.proofs.Totals.{can_settle, totals}
+use Rattle.fm_workers_jobs.specs.{declared.account.Account.{Account}, Turns.{IsSettled}}
+use Rattle.fm_workers.{specs.Summing.{end_of}, proofs.Totals.{can_settle, totals}}
 use Rattle.fm_workers.proofs.summing.total_of.Goals as goal
 
 pub settle-requires : goal.settle-requires

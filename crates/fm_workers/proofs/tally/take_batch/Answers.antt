@@ -1,8 +1,5 @@
-use Rattle.std.proofs.Common.{refl}
-use Rattle.std.proofs.lemmas.List.Elements.{All-from_recursion}
-use Rattle.fm_workers.specs.Tallies.{CanTally, Tallying, tallying}
-use Rattle.fm_workers.proofs.Talliers.{can_tally_all}
-use Rattle.fm_workers.proofs.Tallied.{can_total, tallied, tallied_refused}
+use Rattle.std.proofs.{Common.{refl}, lemmas.List.Elements.{All-from_recursion}}
+use Rattle.fm_workers.{specs.Tallies.{CanTally, Tallying, tallying}, proofs.{Talliers.{can_tally_all}, Tallied.{can_total, tallied, tallied_refused}}}
 use Rattle.fm_workers.proofs.tally.take_batch.Goals as goal
 
 pub work_crew-requires-clause-can : goal.work_crew-requires-clause-can

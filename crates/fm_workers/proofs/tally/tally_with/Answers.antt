@@ -1,11 +1,7 @@
 use Rattle.std.proofs.Common.{◌≡◌, ◌%◌, ◌/◌, arith, refl, sym, ap, ◌∙◌, subst, inl, inr}
-use Rattle.fm_base.specs.declared.arena_id.ArenaId.{ArenaId}
-use Rattle.fm_base.specs.declared.refusal.Refusal.TheVariants.{Memory, Ragged, Unsupported, WrongThread}
+use Rattle.fm_base.specs.declared.{arena_id.ArenaId.{ArenaId}, refusal.Refusal.TheVariants.{Memory, Ragged, Unsupported, WrongThread}}
 use Rattle.fm_workers_shares.specs.Shares.{each_of, many_of}
-use Rattle.fm_workers.specs.Summing.{CanTallyBatch, IsBegun}
-use Rattle.fm_workers.specs.Tally.{TalliedWith}
-use Rattle.fm_workers.proofs.Queried.{even_of}
-use Rattle.fm_workers.proofs.Tallied.{can_be_tallied, tallied_none}
+use Rattle.fm_workers.{specs.{Summing.{CanTallyBatch, IsBegun}, Tally.{TalliedWith}}, proofs.{Queried.{even_of}, Tallied.{can_be_tallied, tallied_none}}}
 use Rattle.fm_workers.proofs.tally.tally_with.Goals as goal
 
 pub returns-then-not-is_tally-clause-tallied : goal.returns-then-not-is_tally-clause-tallied

@@ -1,8 +1,6 @@
-use Rattle.std.proofs.Common.{rules, ◌∷◌, [], List, map, refl, sym, ap, ◌∙◌, subst}
-use Rattle.std.specs.List.{AllByRecursion}
+use Rattle.std.{proofs.Common.{rules, ◌∷◌, [], List, map, refl, sym, ap, ◌∙◌, subst}, specs.List.{AllByRecursion}}
 use Rattle.fm_base_lists.proofs.Each.{all_both}
-use Rattle.fm_workers.specs.declared.tallier.Tallier.{Tallier}
-use Rattle.fm_workers.specs.Tallies.{IsReady}
+use Rattle.fm_workers.specs.{declared.tallier.Tallier.{Tallier}, Tallies.{IsReady}}
 use Rattle.fm_workers_shares.proofs.Numbers.{numbered_more}
 use Rattle.fm_workers.proofs.tally_batch.call_talliers.Goals as goal
 

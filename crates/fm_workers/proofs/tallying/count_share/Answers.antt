@@ -1,8 +1,7 @@
 use Rattle.std.proofs.Common.{sym, subst, Ok}
 use Rattle.fm_base.specs.View.{Did}
 use Rattle.fm_segment.specs.Region.{Region}
-use Rattle.fm_workers.specs.Tallies.{CanCount, DoesCount}
-use Rattle.fm_workers.proofs.Talliers.{can_count_share, counted_share}
+use Rattle.fm_workers.{specs.Tallies.{CanCount, DoesCount}, proofs.Talliers.{can_count_share, counted_share}}
 use Rattle.fm_workers.proofs.tallying.count_share.Goals as goal
 
 pub count_records-requires : goal.count_records-requires

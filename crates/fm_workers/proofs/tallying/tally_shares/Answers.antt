@@ -1,6 +1,5 @@
 use Rattle.fm_base.proofs.Outcomes.{Did-lasts}
-use Rattle.fm_workers.proofs.Increments.{can_add_still}
-use Rattle.fm_workers.proofs.Talliers.{counts_added, none_added}
+use Rattle.fm_workers.proofs.{Increments.{can_add_still}, Talliers.{counts_added, none_added}}
 use Rattle.fm_workers.proofs.tallying.tally_shares.Goals as goal
 
 pub add_counts-tallier-requires : goal.add_counts-tallier-requires

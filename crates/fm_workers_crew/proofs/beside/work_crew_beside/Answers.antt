@@ -1,15 +1,9 @@
-use Rattle.std.proofs.Common.{◌≡◌, ◌++◌, List, length, take, drop, sym, ap, ◌∙◌, subst, None}
-use Rattle.std.specs.List.{AllByRecursion}
-use Rattle.std.proofs.lemmas.List.{take_at}
+use Rattle.std.{proofs.{Common.{◌≡◌, ◌++◌, List, length, take, drop, sym, ap, ◌∙◌, subst, None}, lemmas.List.{take_at}}, specs.List.{AllByRecursion}}
 use Rattle.std.proofs.lemmas.List.Elements.{All-same, All-from_recursion, recursion_from_All}
-use Rattle.fm_rule_calls.specs.Kept.{Lasts}
-use Rattle.fm_rule_calls.proofs.Going.{lasts_by, reached_by}
+use Rattle.fm_rule_calls.{specs.Kept.{Lasts}, proofs.Going.{lasts_by, reached_by}}
 use Rattle.fm_rule_facts.specs.Views.{View}
-use Rattle.fm_workers_crew.specs.declared.worker.Worker.{Worker}
-use Rattle.fm_workers_crew.specs.Rounds.{IsSpare, GatheredCrew, tasks_of}
-use Rattle.fm_workers_crew.proofs.Besides.{acted_as, outside_acted, worked_beside}
-use Rattle.fm_workers_crew.proofs.Turning.{tasks_called}
-use Rattle.fm_workers_crew.proofs.Workers.{ready_all, spare_all, spare_after}
+use Rattle.fm_workers_crew.specs.{declared.worker.Worker.{Worker}, Rounds.{IsSpare, GatheredCrew, tasks_of}}
+use Rattle.fm_workers_crew.proofs.{Besides.{acted_as, outside_acted, worked_beside}, Turning.{tasks_called}, Workers.{ready_all, spare_all, spare_after}}
 use Rattle.fm_workers_crew.proofs.Working.{refused_by, zip_worked}
 use Rattle.fm_workers_crew.proofs.beside.work_crew_beside.Goals as goal
 

@@ -1,8 +1,5 @@
 use Rattle.std.proofs.Common.{◌++◌, List, reverse, ap, ◌∙◌}
-use Rattle.fm_workers_crew.specs.declared.worker.Worker.{Worker}
-use Rattle.fm_workers_crew.specs.Rounds.{tasks_of}
-use Rattle.fm_workers_crew.proofs.Turning.{called_all}
-use Rattle.fm_workers_crew.proofs.Workers.{spare_all}
+use Rattle.fm_workers_crew.{specs.{declared.worker.Worker.{Worker}, Rounds.{tasks_of}}, proofs.{Turning.{called_all}, Workers.{spare_all}}}
 use Rattle.fm_workers_crew.proofs.Working.{crew_none, crew_refused}
 use Rattle.fm_workers_crew.proofs.crew.call_all.Goals as goal
 

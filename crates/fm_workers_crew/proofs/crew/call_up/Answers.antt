@@ -1,7 +1,5 @@
-use Rattle.std.proofs.Common.{◌≡◌, ◌++◌, List, length, reverse, take, drop, ap, ◌∙◌}
-use Rattle.std.proofs.lemmas.List.{take_at}
-use Rattle.fm_workers_crew.specs.declared.worker.Worker.{Worker}
-use Rattle.fm_workers_crew.proofs.Turning.{called_up}
+use Rattle.std.proofs.{Common.{◌≡◌, ◌++◌, List, length, reverse, take, drop, ap, ◌∙◌}, lemmas.List.{take_at}}
+use Rattle.fm_workers_crew.{specs.declared.worker.Worker.{Worker}, proofs.Turning.{called_up}}
 use Rattle.fm_workers_crew.proofs.crew.call_up.Goals as goal
 
 pub returns-clause-called : goal.returns-clause-called

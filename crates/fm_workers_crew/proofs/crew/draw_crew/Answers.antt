@@ -1,8 +1,6 @@
-use Rattle.std.proofs.Common.{rules, ◌≡◌, ◌++◌, List, refl, replicate, sym, ap, ◌∙◌, subst}
-use Rattle.std.proofs.lemmas.List.{append-nil}
+use Rattle.std.proofs.{Common.{rules, ◌≡◌, ◌++◌, List, refl, replicate, sym, ap, ◌∙◌, subst}, lemmas.List.{append-nil}}
 use Rattle.fm_rule.specs.Draws.{Drawn}
-use Rattle.fm_workers_crew.specs.declared.worker.Worker.{Worker}
-use Rattle.fm_workers_crew.specs.Rounds.{DrewCrew, tasks_of}
+use Rattle.fm_workers_crew.specs.{declared.worker.Worker.{Worker}, Rounds.{DrewCrew, tasks_of}}
 use Rattle.fm_workers_crew.proofs.Drawing.{drew_nobody, drew_more, refused_draws, tasks_moved, outside_drew, shares_new}
 use Rattle.fm_workers_crew.proofs.crew.draw_crew.Goals as goal
 

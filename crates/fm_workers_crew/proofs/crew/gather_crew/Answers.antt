@@ -1,10 +1,7 @@
-use Rattle.std.proofs.Common.{rules, refl, ◌++◌, List, [], ◌∷◌, sym, ap, ◌∙◌, subst, append_assoc}
-use Rattle.std.proofs.lemmas.List.{append-nil}
-use Rattle.fm_rule_facts.specs.Hands.{no_number}
-use Rattle.fm_rule_facts.specs.Views.{View}
+use Rattle.std.proofs.{Common.{rules, refl, ◌++◌, List, [], ◌∷◌, sym, ap, ◌∙◌, subst, append_assoc}, lemmas.List.{append-nil}}
+use Rattle.fm_rule_facts.specs.{Hands.{no_number}, Views.{View}}
 use Rattle.fm_rule.specs.Draws.{Gathers}
-use Rattle.fm_workers_crew.specs.declared.worker.Worker.{Worker}
-use Rattle.fm_workers_crew.specs.Rounds.{IsSpare, tasks_of}
+use Rattle.fm_workers_crew.specs.{declared.worker.Worker.{Worker}, Rounds.{IsSpare, tasks_of}}
 use Rattle.fm_workers_crew.proofs.Gathering.{gathered_none, gathered_more, can_gather, outside_gathered, middle, split_more}
 use Rattle.fm_workers_crew.proofs.crew.gather_crew.Goals as goal
 

@@ -1,7 +1,6 @@
 use Rattle.std.proofs.Common.{◌≡◌, ◌+◌, ◌++◌, List, vec_len, vec_capacity}
 use Rattle.fm_gate.specs.Needs.{IsOutside}
-use Rattle.fm_workers_crew.specs.declared.worker.Worker.{Worker}
-use Rattle.fm_workers_crew.specs.Rounds.{GatheredCrew, tasks_of}
+use Rattle.fm_workers_crew.specs.{declared.worker.Worker.{Worker}, Rounds.{GatheredCrew, tasks_of}}
 use Rattle.fm_workers_crew.proofs.crew.gather_crew.Given as goal
 
 abbrev pub invariant-loop-worker : goal.invariant-loop-worker

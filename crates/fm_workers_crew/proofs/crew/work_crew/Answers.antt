@@ -1,13 +1,8 @@
-use Rattle.std.proofs.Common.{◌≡◌, ◌++◌, List, length, take, drop, sym, ap, ◌∙◌, subst, None}
-use Rattle.std.specs.List.{AllByRecursion}
-use Rattle.std.proofs.lemmas.List.{take_at}
+use Rattle.std.{proofs.{Common.{◌≡◌, ◌++◌, List, length, take, drop, sym, ap, ◌∙◌, subst, None}, lemmas.List.{take_at}}, specs.List.{AllByRecursion}}
 use Rattle.std.proofs.lemmas.List.Elements.{All-same, All-from_recursion, recursion_from_All}
 use Rattle.fm_rule_facts.specs.Views.{View}
-use Rattle.fm_workers_crew.specs.declared.worker.Worker.{Worker}
-use Rattle.fm_workers_crew.specs.Rounds.{IsSpare, GatheredCrew, tasks_of}
-use Rattle.fm_workers_crew.proofs.Turning.{tasks_called}
-use Rattle.fm_workers_crew.proofs.Workers.{ready_all, spare_all, spare_after}
-use Rattle.fm_workers_crew.proofs.Working.{crew_worked, refused_by, zip_worked}
+use Rattle.fm_workers_crew.{specs.{declared.worker.Worker.{Worker}, Rounds.{IsSpare, GatheredCrew, tasks_of}}, proofs.Turning.{tasks_called}}
+use Rattle.fm_workers_crew.proofs.{Workers.{ready_all, spare_all, spare_after}, Working.{crew_worked, refused_by, zip_worked}}
 use Rattle.fm_workers_crew.proofs.crew.work_crew.Goals as goal
 
 pub returns-in-Err-clause-worked : goal.returns-in-Err-clause-worked

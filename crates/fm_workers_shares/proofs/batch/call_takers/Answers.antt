@@ -1,9 +1,6 @@
-use Rattle.std.proofs.Common.{rules, ◌∷◌, [], List, map, refl, sym, ap, ◌∙◌, subst}
-use Rattle.std.specs.List.{AllByRecursion}
+use Rattle.std.{proofs.Common.{rules, ◌∷◌, [], List, map, refl, sym, ap, ◌∙◌, subst}, specs.List.{AllByRecursion}}
 use Rattle.fm_base_lists.proofs.Each.{all_both}
-use Rattle.fm_workers_shares.specs.declared.taker.Taker.{Taker}
-use Rattle.fm_workers_shares.specs.Taking.{IsReady}
-use Rattle.fm_workers_shares.proofs.Numbers.{numbered_more}
+use Rattle.fm_workers_shares.{specs.{declared.taker.Taker.{Taker}, Taking.{IsReady}}, proofs.Numbers.{numbered_more}}
 use Rattle.fm_workers_shares.proofs.batch.call_takers.Goals as goal
 
 pub loop-k-preserved : goal.loop-k-preserved

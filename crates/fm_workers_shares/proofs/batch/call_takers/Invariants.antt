@@ -1,8 +1,6 @@
-use Rattle.std.proofs.Common.{◌≡◌, ◌≤◌, length, map, vec_capacity}
-use Rattle.std.specs.List.{AllByRecursion, range_with_len}
+use Rattle.std.{proofs.Common.{◌≡◌, ◌≤◌, length, map, vec_capacity}, specs.List.{AllByRecursion, range_with_len}}
 use Rattle.fm_workers_jobs.specs.Turns.{HasAccount, account_of}
-use Rattle.fm_workers_shares.specs.Batches.{after_turns}
-use Rattle.fm_workers_shares.specs.Taking.{IsReady}
+use Rattle.fm_workers_shares.specs.{Batches.{after_turns}, Taking.{IsReady}}
 use Rattle.fm_workers_shares.proofs.batch.call_takers.Given as goal
 
 abbrev pub invariant-loop-k : goal.invariant-loop-k

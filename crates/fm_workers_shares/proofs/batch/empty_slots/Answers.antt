@@ -1,6 +1,5 @@
 use Rattle.std.proofs.Common.{rules, List, [], ◌∷◌, ◌++◌, None, ap, ◌∙◌}
-use Rattle.fm_workers_shares.specs.Placing.{Slot}
-use Rattle.fm_workers_shares.proofs.Places.{nones-more}
+use Rattle.fm_workers_shares.{specs.Placing.{Slot}, proofs.Places.{nones-more}}
 use Rattle.fm_workers_shares.proofs.batch.empty_slots.Goals as goal
 
 pub loop-preserved : goal.loop-preserved

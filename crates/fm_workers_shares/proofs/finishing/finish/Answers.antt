@@ -1,7 +1,5 @@
 use Rattle.std.proofs.Common.{◌≡◌, ◌++◌, length, take, drop, sym, ap, ◌∙◌, subst, Ok}
-use Rattle.fm_workers_shares.specs.Joining.{CanJoinAll}
-use Rattle.fm_workers_shares.specs.Placing.{end_of}
-use Rattle.fm_workers_shares.proofs.Ends.{all_can_join, are_takers, can_settle, ended, finished, slots_after}
+use Rattle.fm_workers_shares.{specs.{Joining.{CanJoinAll}, Placing.{end_of}}, proofs.Ends.{all_can_join, are_takers, can_settle, ended, finished, slots_after}}
 use Rattle.fm_workers_shares.proofs.finishing.finish.Goals as goal
 
 pub gather-requires-clause-takers : goal.gather-requires-clause-takers

@@ -1,9 +1,5 @@
-use Rattle.std.proofs.Common.{[], ◌∷◌, sym, subst}
-use Rattle.std.proofs.lemmas.List.{append-nil}
-use Rattle.fm_workers_shares.specs.Joining.{CanJoinAll}
-use Rattle.fm_workers_shares.specs.Placing.{Slot}
-use Rattle.fm_workers_shares.proofs.Joins.{can_one, can_slot, joins_more}
-use Rattle.fm_workers_shares.proofs.Popping.{split_more}
+use Rattle.std.proofs.{Common.{[], ◌∷◌, sym, subst}, lemmas.List.{append-nil}}
+use Rattle.fm_workers_shares.{specs.{Joining.{CanJoinAll}, Placing.{Slot}}, proofs.{Joins.{can_one, can_slot, joins_more}, Popping.{split_more}}}
 use Rattle.fm_workers_shares.proofs.joining.join_all.Goals as goal
 
 pub loop-slot-init : goal.loop-slot-init

@@ -1,7 +1,6 @@
 use Rattle.std.proofs.Common.{◌≡◌, ◌++◌, List, IfOk, IfErr}
 use Rattle.fm_base.specs.declared.refusal.Refusal.TheVariants.{Memory}
-use Rattle.fm_workers_shares.specs.Joining.{joined_all}
-use Rattle.fm_workers_shares.specs.Placing.{Slot}
+use Rattle.fm_workers_shares.specs.{Joining.{joined_all}, Placing.{Slot}}
 use Rattle.fm_workers_shares.proofs.joining.join_all.Given as goal
 
 abbrev pub invariant-loop-slot : goal.invariant-loop-slot

@@ -1,10 +1,7 @@
 use Rattle.std.proofs.Common.{List, refl, sym, ap, ◌∙◌}
 use Rattle.fm_workers_jobs.specs.Turns.{IsTaker}
-use Rattle.fm_workers_shares.specs.declared.taker.Taker.{Taker}
-use Rattle.fm_workers_shares.specs.Placing.{Slot, all_done, placed, turns_of}
-use Rattle.fm_workers_shares.proofs.Absorbing.{absorbed_none, absorbed_one, still_giver}
-use Rattle.fm_workers_shares.proofs.Places.{placed-append}
-use Rattle.fm_workers_shares.proofs.Popping.{middle, none_gone, one_gone}
+use Rattle.fm_workers_shares.specs.{declared.taker.Taker.{Taker}, Placing.{Slot, all_done, placed, turns_of}}
+use Rattle.fm_workers_shares.proofs.{Absorbing.{absorbed_none, absorbed_one, still_giver}, Places.{placed-append}, Popping.{middle, none_gone, one_gone}}
 use Rattle.fm_workers_shares.proofs.placing.gather.Goals as goal
 
 pub loop-taker-init : goal.loop-taker-init

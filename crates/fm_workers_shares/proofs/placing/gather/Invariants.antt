@@ -1,7 +1,6 @@
 use Rattle.std.proofs.Common.{◌≡◌}
 use Rattle.fm_workers_jobs.specs.Turns.{HasAccount, account_of}
-use Rattle.fm_workers_shares.specs.Placing.{absorbed, all_done, placed, turns_of}
-use Rattle.fm_workers_shares.proofs.Popping.{TakenApart}
+use Rattle.fm_workers_shares.{specs.Placing.{absorbed, all_done, placed, turns_of}, proofs.Popping.{TakenApart}}
 use Rattle.fm_workers_shares.proofs.placing.gather.Given as goal
 
 abbrev pub invariant-loop-taker : goal.invariant-loop-taker

@@ -1,6 +1,5 @@
 use Rattle.std.proofs.Common.{List, refl, ap, ◌∙◌, set, Some}
-use Rattle.fm_workers_shares.specs.Placing.{Slot}
-use Rattle.fm_workers_shares.proofs.Popping.{none_gone, one_gone}
+use Rattle.fm_workers_shares.{specs.Placing.{Slot}, proofs.Popping.{none_gone, one_gone}}
 use Rattle.fm_workers_shares.proofs.placing.put_all.Goals as goal
 
 pub loop-one-init : goal.loop-one-init

@@ -1,6 +1,5 @@
 use Rattle.std.proofs.Common.{◌≡◌}
-use Rattle.fm_workers_shares.specs.Placing.{placed}
-use Rattle.fm_workers_shares.proofs.Popping.{TakenApart}
+use Rattle.fm_workers_shares.{specs.Placing.{placed}, proofs.Popping.{TakenApart}}
 use Rattle.fm_workers_shares.proofs.placing.put_all.Given as goal
 
 abbrev pub invariant-loop-one : goal.invariant-loop-one

@@ -1,8 +1,6 @@
-use Rattle.std.proofs.Common.{sym, subst}
-use Rattle.std.proofs.lemmas.Result.{err_from_is_err_and}
+use Rattle.std.proofs.{Common.{sym, subst}, lemmas.Result.{err_from_is_err_and}}
 use Rattle.fm_rule_facts.specs.Views.{View}
-use Rattle.fm_arena.specs.Handles.{HasHandle}
-use Rattle.fm_arena.proofs.Opening.{takes_again, takes_none}
+use Rattle.fm_arena.{specs.Handles.{HasHandle}, proofs.Opening.{takes_again, takes_none}}
 use Rattle.fm_arena.proofs.handle.AutoHandle.again.Goals as goal
 
 pub returns : goal.returns

@@ -1,5 +1,4 @@
-use Rattle.fm_arena.proofs.Allocating.{allocates_exactly}
-use Rattle.fm_arena.proofs.Calls.{allocates}
+use Rattle.fm_arena.proofs.{Allocating.{allocates_exactly}, Calls.{allocates}}
 use Rattle.fm_arena.proofs.shared.SharedMemory.allocate.Goals as goal
 
 pub returns-clause-allocates : goal.returns-clause-allocates

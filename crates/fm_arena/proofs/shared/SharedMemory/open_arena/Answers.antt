@@ -1,5 +1,4 @@
-use Rattle.fm_arena.proofs.Calls.{opens}
-use Rattle.fm_arena.proofs.Opening.{opens_exactly}
+use Rattle.fm_arena.proofs.{Calls.{opens}, Opening.{opens_exactly}}
 use Rattle.fm_arena.proofs.shared.SharedMemory.open_arena.Goals as goal
 
 pub returns-clause-opens : goal.returns-clause-opens

@@ -1,7 +1,6 @@
 use Rattle.std.proofs.Common.{List, ap, subst, arith}
 use Rattle.fm_base.specs.Calls.{Entry}
-use Rattle.fm_rule.specs.Views.{NoteView}
-use Rattle.fm_rule.specs.Passes.{GoesOnFrom}
+use Rattle.fm_rule.specs.{Views.{NoteView}, Passes.{GoesOnFrom}}
 use Rattle.fm_arena_braided_tests.proofs.tests.scene.told.Goals as goal
 
 pub returns-clause-can : goal.returns-clause-can

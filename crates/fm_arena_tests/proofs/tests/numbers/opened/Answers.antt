@@ -1,9 +1,5 @@
-use Rattle.std.proofs.Common.{◌≡◌, ◌≢◌, ◌∙◌, List, refl, ap}
-use Rattle.std.specs.Prelude.{Result, Ok}
-use Rattle.fm_base.specs.declared.arena_id.ArenaId.{ArenaId}
-use Rattle.fm_base.specs.declared.kind.Kind.{Kind}
-use Rattle.fm_base.specs.declared.kind.Kind.TheVariants.{Automatic}
-use Rattle.fm_base.specs.declared.refusal.Refusal.{Refusal}
+use Rattle.std.{proofs.Common.{◌≡◌, ◌≢◌, ◌∙◌, List, refl, ap}, specs.Prelude.{Result, Ok}}
+use Rattle.fm_base.specs.declared.{arena_id.ArenaId.{ArenaId}, kind.Kind.{Kind, TheVariants.{Automatic}}, refusal.Refusal.{Refusal}}
 use Rattle.fm_rule_calls.specs.Kept.{rest_of}
 use Rattle.fm_gate.specs.Learnt.{handles_opened}
 use Rattle.fm_arena_tests.proofs.tests.numbers.opened.Goals as goal

@@ -1,5 +1,4 @@
-use Rattle.std.proofs.Common.{ap, subst}
-use Rattle.std.specs.Prelude.{Result, IfOk}
+use Rattle.std.{proofs.Common.{ap, subst}, specs.Prelude.{Result, IfOk}}
 use Rattle.fm_base.specs.declared.refusal.Refusal.{Refusal}
 use Rattle.fm_rule_facts.specs.Views.{View}
 use Rattle.fm_rule.specs.Draws.{Drawn}

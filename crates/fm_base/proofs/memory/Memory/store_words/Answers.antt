@@ -1,7 +1,5 @@
-use Rattle.std.proofs.Common.{arith, sym, subst, length}
-use Rattle.std.proofs.lemmas.List.{length-take-le, take_all, take_more}
-use Rattle.fm_base.specs.Learnt.{AfterStores}
-use Rattle.fm_base.proofs.Storing.{stores_none, stores_one, store_reaches, stores_more}
+use Rattle.std.proofs.{Common.{arith, sym, subst, length}, lemmas.List.{length-take-le, take_all, take_more}}
+use Rattle.fm_base.{specs.Learnt.{AfterStores}, proofs.Storing.{stores_none, stores_one, store_reaches, stores_more}}
 use Rattle.fm_base.proofs.memory.Memory.store_words.Goals as goal
 
 pub loop-k-init : goal.loop-k-init

@@ -1,6 +1,5 @@
 use Rattle.std.proofs.Common.{◌∙◌, ap}
-use Rattle.fm_layout.specs.declared.form.Form.TheVariants.{Struct, Union}
-use Rattle.fm_layout.proofs.Indexed.{count_of-trees}
+use Rattle.fm_layout.{specs.declared.form.Form.TheVariants.{Struct, Union}, proofs.Indexed.{count_of-trees}}
 use Rattle.fm_layout.proofs.layout.Layout.form.Goals as goal
 
 pub returns-in-Struct-clause-form : goal.returns-in-Struct-clause-form

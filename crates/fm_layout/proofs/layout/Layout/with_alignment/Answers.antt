@@ -1,10 +1,5 @@
 use Rattle.std.proofs.Common.{refl, sym, ap, subst, ◌∙◌, arith}
-use Rattle.fm_layout.specs.Tree.{Tree}
-use Rattle.fm_layout.specs.Size.{least_of}
-use Rattle.fm_layout.specs.Sound.{IsSound}
-use Rattle.fm_layout.specs.Parts.{IsPadding}
-use Rattle.fm_layout.specs.Views.{label, tree_of}
-use Rattle.fm_layout.proofs.Nodes.{realigned_node}
+use Rattle.fm_layout.{specs.{Tree.{Tree}, Size.{least_of}, Sound.{IsSound}, Parts.{IsPadding}, Views.{label, tree_of}}, proofs.Nodes.{realigned_node}}
 use Rattle.fm_layout.proofs.layout.Layout.with_alignment.Goals as goal
 
 -- The layout with the new alignment is sound.

@@ -1,9 +1,5 @@
 use Rattle.std.proofs.Common.{sym, ap, ◌∙◌, arith}
-use Rattle.fm_layout.specs.Depth.{deepest}
-use Rattle.fm_layout.specs.Parts.{children_of}
-use Rattle.fm_layout.specs.Views.{trees}
-use Rattle.fm_layout.proofs.Deep.{deep_at}
-use Rattle.fm_layout.proofs.Whole.{children_less_deep, whole}
+use Rattle.fm_layout.{specs.{Depth.{deepest}, Parts.{children_of}, Views.{trees}}, proofs.{Deep.{deep_at}, Whole.{children_less_deep, whole}}}
 use Rattle.fm_layout.proofs.layout.equality.+same.Goals as goal
 
 pub same-same_all-requires : goal.same-same_all-requires

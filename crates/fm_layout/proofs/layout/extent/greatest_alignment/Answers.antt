@@ -1,6 +1,5 @@
 use Rattle.std.proofs.Common.{arith}
-use Rattle.fm_layout.specs.Views.{trees}
-use Rattle.fm_layout.proofs.Groups.{greatest_positive, greatest_more, greatest_end}
+use Rattle.fm_layout.{specs.Views.{trees}, proofs.Groups.{greatest_positive, greatest_more, greatest_end}}
 use Rattle.fm_layout.proofs.layout.extent.greatest_alignment.Goals as goal
 
 pub loop-member-init : goal.loop-member-init

@@ -1,6 +1,5 @@
 use Rattle.std.proofs.Common.{◌≡◌, ◌≤◌, drop, max}
-use Rattle.fm_layout.specs.Size.{greatest_alignment}
-use Rattle.fm_layout.specs.Views.{trees}
+use Rattle.fm_layout.specs.{Size.{greatest_alignment}, Views.{trees}}
 use Rattle.fm_layout.proofs.layout.extent.greatest_alignment.Given as goal
 
 abbrev pub invariant-loop-member : goal.invariant-loop-member

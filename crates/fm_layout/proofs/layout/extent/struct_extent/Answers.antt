@@ -1,6 +1,4 @@
-use Rattle.fm_layout.specs.Views.{trees}
-use Rattle.fm_layout.proofs.Groups.{laying_more, laying_end, laying_start}
-use Rattle.fm_layout.proofs.Sound.{ord_max_is}
+use Rattle.fm_layout.{specs.Views.{trees}, proofs.{Groups.{laying_more, laying_end, laying_start}, Sound.{ord_max_is}}}
 use Rattle.std.proofs.Common.{◌∙◌}
 use Rattle.fm_layout.proofs.layout.extent.struct_extent.Goals as goal
 

@@ -1,6 +1,5 @@
 use Rattle.std.proofs.Common.{drop}
-use Rattle.fm_layout.specs.Extent.{IsLaying}
-use Rattle.fm_layout.specs.Views.{trees}
+use Rattle.fm_layout.specs.{Extent.{IsLaying}, Views.{trees}}
 use Rattle.fm_layout.proofs.layout.extent.struct_extent.Given as goal
 
 abbrev pub invariant-loop-i : goal.invariant-loop-i

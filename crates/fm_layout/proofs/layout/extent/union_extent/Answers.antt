@@ -1,5 +1,4 @@
-use Rattle.fm_layout.specs.Views.{trees}
-use Rattle.fm_layout.proofs.Groups.{stacking_more, stacking_end, stacking_start}
+use Rattle.fm_layout.{specs.Views.{trees}, proofs.Groups.{stacking_more, stacking_end, stacking_start}}
 use Rattle.std.proofs.Common.{arith}
 use Rattle.fm_layout.proofs.layout.extent.union_extent.Goals as goal
 

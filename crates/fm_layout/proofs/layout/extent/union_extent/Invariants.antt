@@ -1,6 +1,5 @@
 use Rattle.std.proofs.Common.{drop}
-use Rattle.fm_layout.specs.Extent.{IsStacking}
-use Rattle.fm_layout.specs.Views.{trees}
+use Rattle.fm_layout.specs.{Extent.{IsStacking}, Views.{trees}}
 use Rattle.fm_layout.proofs.layout.extent.union_extent.Given as goal
 
 abbrev pub invariant-loop-member : goal.invariant-loop-member

@@ -1,6 +1,5 @@
 use Rattle.fm_base.proofs.Learning.{after_enter}
-use Rattle.fm_memory_tests.proofs.Calling.{enters}
-use Rattle.fm_memory_tests.proofs.Beside.{enter_after}
+use Rattle.fm_memory_tests.proofs.{Calling.{enters}, Beside.{enter_after}}
 use Rattle.fm_memory_tests.proofs.double.DoubleMemory.enter.Goals as goal
 
 pub invariant_of-self : goal.invariant_of-self

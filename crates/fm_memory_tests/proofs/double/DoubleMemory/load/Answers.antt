@@ -1,8 +1,6 @@
 use Rattle.std.proofs.Common.{refl}
-use Rattle.fm_base.specs.Calls.{Read, Found}
-use Rattle.fm_base.proofs.Learning.{after_act}
-use Rattle.fm_memory_tests.proofs.Calling.{loads}
-use Rattle.fm_memory_tests.proofs.Beside.{act_after}
+use Rattle.fm_base.{specs.Calls.{Read, Found}, proofs.Learning.{after_act}}
+use Rattle.fm_memory_tests.proofs.{Calling.{loads}, Beside.{act_after}}
 use Rattle.fm_memory_tests.proofs.double.DoubleMemory.load.Goals as goal
 
 pub invariant_of-self : goal.invariant_of-self

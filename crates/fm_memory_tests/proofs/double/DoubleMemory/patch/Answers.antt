@@ -1,7 +1,5 @@
-use Rattle.fm_base.specs.Does.{patched}
-use Rattle.fm_base.proofs.Learning.{after_patch}
-use Rattle.fm_memory_tests.proofs.Calling.{patches}
-use Rattle.fm_memory_tests.proofs.Beside.{patch_after}
+use Rattle.fm_base.{specs.Does.{patched}, proofs.Learning.{after_patch}}
+use Rattle.fm_memory_tests.proofs.{Calling.{patches}, Beside.{patch_after}}
 use Rattle.fm_memory_tests.proofs.double.DoubleMemory.patch.Goals as goal
 
 pub invariant_of-self : goal.invariant_of-self

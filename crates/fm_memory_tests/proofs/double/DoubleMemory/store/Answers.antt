@@ -1,8 +1,6 @@
 use Rattle.std.proofs.Common.{refl}
-use Rattle.fm_base.specs.Calls.{Write, Fine}
-use Rattle.fm_base.proofs.Learning.{after_act}
-use Rattle.fm_memory_tests.proofs.Calling.{stores}
-use Rattle.fm_memory_tests.proofs.Beside.{act_after}
+use Rattle.fm_base.{specs.Calls.{Write, Fine}, proofs.Learning.{after_act}}
+use Rattle.fm_memory_tests.proofs.{Calling.{stores}, Beside.{act_after}}
 use Rattle.fm_memory_tests.proofs.double.DoubleMemory.store.Goals as goal
 
 pub invariant_of-self : goal.invariant_of-self

@@ -1,8 +1,6 @@
 use Rattle.std.proofs.Common.{refl}
-use Rattle.fm_base.specs.Calls.{SwapIf, Found}
-use Rattle.fm_base.proofs.Learning.{after_act}
-use Rattle.fm_memory_tests.proofs.Calling.{swaps}
-use Rattle.fm_memory_tests.proofs.Beside.{act_after}
+use Rattle.fm_base.{specs.Calls.{SwapIf, Found}, proofs.Learning.{after_act}}
+use Rattle.fm_memory_tests.proofs.{Calling.{swaps}, Beside.{act_after}}
 use Rattle.fm_memory_tests.proofs.double.DoubleMemory.swap_if.Goals as goal
 
 pub invariant_of-self : goal.invariant_of-self

@@ -1,10 +1,6 @@
 use Rattle.std.proofs.Common.{sym, ap, ◌∙◌, refl, rules, Bool, if◌then◌else◌}
-use Rattle.fm_base.specs.Arenas.{only_caller, Alive, Ended}
-use Rattle.fm_base.specs.Machine.{IsPower}
-use Rattle.fm_base.specs.Visits.{refused_visit}
-use Rattle.fm_base.proofs.Learning.{after_allocate}
-use Rattle.fm_mono.proofs.Alone.{sound_of}
-use Rattle.fm_mono.proofs.Visits.{enter_closed, allocates}
+use Rattle.fm_base.{specs.{Arenas.{only_caller, Alive, Ended}, Machine.{IsPower}, Visits.{refused_visit}}, proofs.Learning.{after_allocate}}
+use Rattle.fm_mono.proofs.{Alone.{sound_of}, Visits.{enter_closed, allocates}}
 use Rattle.fm_mono.proofs.mono.Mono.allot.Goals as goal
 
 pub returns-then-not-alive-clause-got : goal.returns-then-not-alive-clause-got

@@ -1,8 +1,6 @@
 use Rattle.std.proofs.Common.{◌≡◌, ap, ◌∙◌, Some, refl}
 use Rattle.fm_base.specs.Arenas.{State}
-use Rattle.fm_mono.specs.Shown.{name_at}
-use Rattle.fm_mono.proofs.Inside.{entered_of, name_at_is}
-use Rattle.fm_mono.proofs.Steps.{enters_shown}
+use Rattle.fm_mono.{specs.Shown.{name_at}, proofs.{Inside.{entered_of, name_at_is}, Steps.{enters_shown}}}
 use Rattle.fm_mono.proofs.mono.Mono.come_in.Goals as goal
 
 pub invariant_of-self : goal.invariant_of-self

@@ -1,10 +1,6 @@
 use Rattle.std.proofs.Common.{ap, ◌∙◌, ◌∷◌, [], refl, Bool, if◌then◌else◌}
-use Rattle.fm_base.specs.Arenas.{only_caller, Alive, Ended}
-use Rattle.fm_base.specs.Calls.{Shut, End, Fine, Closed, entry_of}
-use Rattle.fm_base.specs.Does.{IsClosable}
-use Rattle.fm_base.proofs.Learning.{after_close}
-use Rattle.fm_mono.proofs.Alone.{sound_of}
-use Rattle.fm_mono.proofs.Visits.{closes, shut_closed}
+use Rattle.fm_base.{specs.{Arenas.{only_caller, Alive, Ended}, Calls.{Shut, End, Fine, Closed, entry_of}, Does.{IsClosable}}, proofs.Learning.{after_close}}
+use Rattle.fm_mono.proofs.{Alone.{sound_of}, Visits.{closes, shut_closed}}
 use Rattle.fm_mono.proofs.mono.Mono.end.Goals as goal
 
 pub returns-then-not-alive : goal.returns-then-not-alive

@@ -1,8 +1,6 @@
 use Rattle.std.proofs.Common.{arith, ap, refl, false}
 use Rattle.fm_base.specs.Arenas.{State, Arena}
-use Rattle.fm_mono.specs.declared.arena.MonoArena.{MonoArena}
-use Rattle.fm_mono.proofs.Inside.{entered_of, inside_of-set}
-use Rattle.fm_mono.proofs.Allotting.{placed_for, read_for, ended_shown}
+use Rattle.fm_mono.{specs.declared.arena.MonoArena.{MonoArena}, proofs.{Inside.{entered_of, inside_of-set}, Allotting.{placed_for, read_for, ended_shown}}}
 use Rattle.fm_mono.proofs.mono.Mono.finish.Goals as goal
 
 pub index_mut-arena-requires : goal.index_mut-arena-requires

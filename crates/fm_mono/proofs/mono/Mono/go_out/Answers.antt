@@ -1,5 +1,4 @@
-use Rattle.fm_mono.proofs.Inside.{entered_of}
-use Rattle.fm_mono.proofs.Steps.{goes_out}
+use Rattle.fm_mono.proofs.{Inside.{entered_of}, Steps.{goes_out}}
 use Rattle.fm_mono.proofs.mono.Mono.go_out.Goals as goal
 
 pub invariant_of-self : goal.invariant_of-self

@@ -1,15 +1,10 @@
-use Rattle.std.proofs.Common.{arith, ◌∙◌, ap, ◌≡◌, ℕ, set, ◌+◌, ◌-◌, ◌≤◌, ◌<◌, ◌++◌, refl, replicate, take, length, vec_len}
-use Rattle.std.specs.Prelude.{vec_capacity}
+use Rattle.std.{proofs.Common.{arith, ◌∙◌, ap, ◌≡◌, ℕ, set, ◌+◌, ◌-◌, ◌≤◌, ◌<◌, ◌++◌, refl, replicate, take, length, vec_len}, specs.Prelude.{vec_capacity}}
 use Rattle.std.proofs.lemmas.Result.{err_from_is_err_and}
-use Rattle.fm_base.specs.Arenas.{State, changed}
-use Rattle.fm_base.specs.Calls.{Given}
-use Rattle.fm_base.specs.Machine.{rounded_up, words_within, given_up_to}
-use Rattle.fm_base.proofs.Growing.{power_pos}
-use Rattle.fm_mono.specs.Shown.{shown_all, IsSoundMono}
-use Rattle.fm_mono.proofs.Inside.{entered_of, inside_of-set}
+use Rattle.fm_base.{specs.{Arenas.{State, changed}, Calls.{Given}, Machine.{rounded_up, words_within, given_up_to}}, proofs.Growing.{power_pos}}
+use Rattle.fm_mono.{specs.Shown.{shown_all, IsSoundMono}, proofs.Inside.{entered_of, inside_of-set}}
 use Rattle.fm_mono.proofs.Allotting.{IsRead, placed_for, read_for, no_room, gives_place, grows, unchanged, same_shown, allotted_shown, wants_words, is_grown}
-use Rattle.fm_mono.proofs.mono.Mono.grow.Goals as goal
 use Rattle.fm_mono.proofs.mono.Mono.grow.Goals.{After-index_mut-arena, In_ok-resize}
+use Rattle.fm_mono.proofs.mono.Mono.grow.Goals as goal
 
 here : (c : After-index_mut-arena) → IsRead c.self.inside.limit (entered_of c.self.inside) c.self.inside.arenas.items c.args.id c.index_mut-arena.result.now
 here c =

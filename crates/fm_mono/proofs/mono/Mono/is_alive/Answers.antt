@@ -1,9 +1,6 @@
 use Rattle.std.proofs.Common.{arith, ap}
 use Rattle.fm_base.specs.Arenas.{Arena}
-use Rattle.fm_mono.proofs.Inside.{entered_of}
-use Rattle.fm_mono.proofs.Showing.{nobody}
-use Rattle.fm_mono.proofs.Allotting.{placed_for}
-use Rattle.fm_mono.proofs.Steps.{placed_read, nobody_shown}
+use Rattle.fm_mono.proofs.{Inside.{entered_of}, Showing.{nobody}, Allotting.{placed_for}, Steps.{placed_read, nobody_shown}}
 use Rattle.fm_mono.proofs.mono.Mono.is_alive.Goals as goal
 
 pub index-requires : goal.index-requires

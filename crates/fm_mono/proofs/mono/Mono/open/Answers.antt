@@ -1,15 +1,8 @@
 use Rattle.std.proofs.Common.{◌∙◌, ◌∷◌, [], ◌≡◌, length, true, refl, arith}
-use Rattle.fm_base.specs.Arenas.{only_caller}
-use Rattle.fm_base.specs.declared.arena_id.ArenaId.{ArenaId}
-use Rattle.fm_base.specs.Calls.{Open, Fine, entry_of}
-use Rattle.fm_base.proofs.Learning.{after_open}
-use Rattle.fm_mono.proofs.Inside.{entered_of, inside_of-none}
-use Rattle.fm_mono.proofs.Alone.{sound_of}
-use Rattle.fm_mono.specs.declared.arena.MonoArena.{MonoArena}
-use Rattle.fm_mono.specs.Shown.{shown_all, seen_of, most_arenas}
-use Rattle.fm_mono.proofs.Opening.{sound_push, length-shown_all, opens}
+use Rattle.fm_base.{specs.{Arenas.{only_caller}, declared.arena_id.ArenaId.{ArenaId}, Calls.{Open, Fine, entry_of}}, proofs.Learning.{after_open}}
+use Rattle.fm_mono.{proofs.{Inside.{entered_of, inside_of-none}, Alone.{sound_of}}, specs.declared.arena.MonoArena.{MonoArena}}
+use Rattle.fm_mono.{specs.Shown.{shown_all, seen_of, most_arenas}, proofs.{Opening.{sound_push, length-shown_all, opens}, mono.Mono.open.Goals.{In-Ok}}}
 use Rattle.fm_mono.proofs.mono.Mono.open.Goals as goal
-use Rattle.fm_mono.proofs.mono.Mono.open.Goals.{In-Ok}
 
 pub returns-then-slot-eq-MOST_ARENAS-clause-full : goal.returns-then-slot-eq-MOST_ARENAS-clause-full
 returns-then-slot-eq-MOST_ARENAS-clause-full c =

@@ -1,8 +1,6 @@
 use Rattle.std.proofs.Common.{arith, refl, ◌<◌, ◌∷◌, [], length}
-use Rattle.fm_mono.proofs.Inside.{entered_of}
-use Rattle.fm_mono.proofs.Steps.{IsActed, acts_at, reach_shown, put_kept}
+use Rattle.fm_mono.proofs.{Inside.{entered_of}, Steps.{IsActed, acts_at, reach_shown, put_kept}, mono.Mono.put.Goals.{After-index_mut-arena}}
 use Rattle.fm_mono.proofs.mono.Mono.put.Goals as goal
-use Rattle.fm_mono.proofs.mono.Mono.put.Goals.{After-index_mut-arena}
 
 here : (c : After-index_mut-arena)
     → (let f = c.self.inside in let o = c.index_mut-arena.result.now in

@@ -1,11 +1,6 @@
 use Rattle.std.proofs.Common.{ap, ◌∙◌, ◌∷◌, [], refl}
-use Rattle.fm_base.specs.Arenas.{only_caller}
-use Rattle.fm_base.specs.Calls.{SwapIf, Found, entry_of}
-use Rattle.fm_base.specs.Does.{patched}
-use Rattle.fm_base.specs.Visits.{hit}
-use Rattle.fm_base.proofs.Learning.{after_patch}
-use Rattle.fm_mono.specs.Shown.{Arenas}
-use Rattle.fm_mono.proofs.Alone.{sound_of, makes_one, found_at, swaps}
+use Rattle.fm_base.{specs.{Arenas.{only_caller}, Calls.{SwapIf, Found, entry_of}, Does.{patched}, Visits.{hit}}, proofs.Learning.{after_patch}}
+use Rattle.fm_mono.{specs.Shown.{Arenas}, proofs.Alone.{sound_of, makes_one, found_at, swaps}}
 use Rattle.fm_mono.proofs.mono.Mono.put_bits.Goals as goal
 
 pub returns : goal.returns

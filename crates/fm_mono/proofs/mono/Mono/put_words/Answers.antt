@@ -1,15 +1,9 @@
 use Rattle.std.proofs.Common.{ℕ, List, arith, refl, sym, ap, ◌∙◌, ◌≡◌, ◌+◌, ◌-◌, ◌≤◌, ◌++◌, take, drop, length}
-use Rattle.std.proofs.lemmas.List.{append_assoc, drop-drop, with_items_is}
-use Rattle.std.proofs.lemmas.List.Edits.{sets, sets-eq}
-use Rattle.std.proofs.Math.Seq.{length-sets}
-use Rattle.std.specs.Vec.{with_items}
-use Rattle.fm_mono.specs.declared.arena.MonoArena.{MonoArena}
-use Rattle.fm_mono.specs.Shown.{seen_of}
-use Rattle.fm_mono.proofs.Inside.{entered_of}
-use Rattle.fm_mono.proofs.Steps.{IsActed, acts_on, put_kept, way_shown, within_shown, known_shown}
-use Rattle.fm_mono.proofs.Storing.{after_stores}
-use Rattle.fm_mono.proofs.mono.Mono.put_words.Goals as goal
+use Rattle.std.{proofs.{lemmas.List.{append_assoc, drop-drop, with_items_is, Edits.{sets, sets-eq}}, Math.Seq.{length-sets}}, specs.Vec.{with_items}}
+use Rattle.fm_mono.{specs.{declared.arena.MonoArena.{MonoArena}, Shown.{seen_of}}, proofs.Inside.{entered_of}}
+use Rattle.fm_mono.proofs.{Steps.{IsActed, acts_on, put_kept, way_shown, within_shown, known_shown}, Storing.{after_stores}}
 use Rattle.fm_mono.proofs.mono.Mono.put_words.Goals.{After-index_mut-arena}
+use Rattle.fm_mono.proofs.mono.Mono.put_words.Goals as goal
 
 here : (c : After-index_mut-arena)
     → (let f = c.self.inside in let o = c.index_mut-arena.result.now in

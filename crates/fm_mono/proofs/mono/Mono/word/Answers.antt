@@ -1,9 +1,6 @@
-use Rattle.std.proofs.Common.{arith, ◌∙◌, ◌<◌, length}
-use Rattle.std.proofs.lemmas.List.{get_or_read}
-use Rattle.fm_mono.proofs.Inside.{entered_of}
-use Rattle.fm_mono.proofs.Steps.{IsActed, acts_at, reach_shown, word_shown}
+use Rattle.std.proofs.{Common.{arith, ◌∙◌, ◌<◌, length}, lemmas.List.{get_or_read}}
+use Rattle.fm_mono.proofs.{Inside.{entered_of}, Steps.{IsActed, acts_at, reach_shown, word_shown}, mono.Mono.word.Goals.{After-index}}
 use Rattle.fm_mono.proofs.mono.Mono.word.Goals as goal
-use Rattle.fm_mono.proofs.mono.Mono.word.Goals.{After-index}
 
 here : (c : After-index)
     → (let f = c.self.inside in let o = c.index.result.now in

@@ -1,6 +1,5 @@
 -- One more byte leaves a name.
-use Rattle.std.proofs.Common.{◌<◌, ap, length, arith}
-use Rattle.std.proofs.lemmas.List.{length-take}
+use Rattle.std.proofs.{Common.{◌<◌, ap, length, arith}, lemmas.List.{length-take}}
 use Rattle.fm_path_text.proofs.Names.{name_written}
 use Rattle.fm_path_text.proofs.name_text.NameText.push.Goals as goal
 

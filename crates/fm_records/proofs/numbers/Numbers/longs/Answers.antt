@@ -1,8 +1,6 @@
 -- The numbers are taken one by one.
-use Rattle.std.proofs.Common.{◌≡◌, ◌++◌, ◌∷◌, [], ◌∙◌, ap, sym, take, pos, of_z, to_z, w64, arith, rules}
-use Rattle.std.proofs.lemmas.Int.{to_z-of_z}
-use Rattle.std.proofs.lemmas.List.{take_all, take_more}
-use Rattle.std.proofs.lemmas.Result.{IfOk-from_err}
+use Rattle.std.proofs.{Common.{◌≡◌, ◌++◌, ◌∷◌, [], ◌∙◌, ap, sym, take, pos, of_z, to_z, w64, arith, rules}, lemmas.Int.{to_z-of_z}}
+use Rattle.std.proofs.lemmas.{List.{take_all, take_more}, Result.{IfOk-from_err}}
 use Rattle.fm_records.proofs.numbers.Numbers.longs.Goals as goal
 
 pub loop-k-preserved : goal.loop-k-preserved

@@ -1,6 +1,5 @@
 -- The casts change no number, since 63 bits hold each.
-use Rattle.std.proofs.Common.{◌≡◌, ◌∙◌, ℕ, ◌<◌, ◌≤◌, ◌-◌, ◌^◌, ap, sym, subst, pos, ◌-ℤ◌, of_z, to_z, w64, arith}
-use Rattle.std.specs.Prelude.{neg_ℤ}
+use Rattle.std.{proofs.Common.{◌≡◌, ◌∙◌, ℕ, ◌<◌, ◌≤◌, ◌-◌, ◌^◌, ap, sym, subst, pos, ◌-ℤ◌, of_z, to_z, w64, arith}, specs.Prelude.{neg_ℤ}}
 use Rattle.std.proofs.lemmas.Int.{ints, to_z_pos}
 use Rattle.fm_records_query.specs.Reader.{IsNumber, value_of}
 use Rattle.fm_records_query.proofs.number.Number.value.Goals as goal

@@ -1,7 +1,6 @@
 -- The path's own refusal comes first; an open step only where there is none.
 use Rattle.std.proofs.Common.{◌∙◌, ap, inl, sym}
-use Rattle.fm_records_query.specs.Parsed.{first_open, at_path, left_open}
-use Rattle.fm_records_query.proofs.Plans.{passed_on}
+use Rattle.fm_records_query.{specs.Parsed.{first_open, at_path, left_open}, proofs.Plans.{passed_on}}
 use Rattle.fm_records_query.proofs.resolving.ConditionSyntaxWrittenCondition.resolved.Goals as goal
 
 pub returns-in_err-path-clause-refused : goal.returns-in_err-path-clause-refused

@@ -1,12 +1,9 @@
 use Rattle.std.proofs.Common.{◌≡◌, ◌⊎◌, inl, inr, refl, zero, suc, ◌+◌, ◌/◌, ◌%◌, ◌<◌, List, ◌++◌, ◌∷◌, [], ℕ, Bool, true, not, if◌then◌else◌, ap, ◌∙◌, subst, arith}
 use Rattle.std.specs.Prelude.{is_ok}
-use Rattle.fm_words.specs.declared.shape.Shape.{Shape}
+use Rattle.fm_words.specs.{declared.shape.Shape.{Shape}, Places.{at, given as given_place}}
 use Rattle.fm_base_bytes.specs.Words.{byte_of}
-use Rattle.fm_base.specs.Arenas.{State, word_in}
-use Rattle.fm_base.specs.declared.arena_id.ArenaId.{ArenaId}
-use Rattle.fm_words.specs.Places.{at, given as given_place}
-use Rattle.fm_rule.proofs.Knowing.{place_below}
-use Rattle.fm_rule.proofs.GivenBytes.{shape_in, finished_in, given_now, one_byte}
+use Rattle.fm_base.specs.{Arenas.{State, word_in}, declared.arena_id.ArenaId.{ArenaId}}
+use Rattle.fm_rule.proofs.{Knowing.{place_below}, GivenBytes.{shape_in, finished_in, given_now, one_byte}}
 use Rattle.fm_rule.proofs.finishing.Finished.collect.Goals as goal
 
 pub word-given-requires : goal.word-given-requires

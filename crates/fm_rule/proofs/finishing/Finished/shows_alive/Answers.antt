@@ -1,9 +1,7 @@
 use Rattle.std.proofs.Common.{sym, ap, ◌∙◌, get_or, ℕ, subst}
-use Rattle.fm_words.specs.declared.shape.Shape.{Shape}
-use Rattle.fm_words.specs.Places.{at, session}
+use Rattle.fm_words.specs.{declared.shape.Shape.{Shape}, Places.{at, session}}
 use Rattle.fm_rule_facts.specs.Views.{Fits}
-use Rattle.fm_rule.proofs.Knowing.{place_below}
-use Rattle.fm_rule.proofs.GivenBytes.{shape_in, finished_in, alive_by, unalive_by, unfit_by}
+use Rattle.fm_rule.proofs.{Knowing.{place_below}, GivenBytes.{shape_in, finished_in, alive_by, unalive_by, unfit_by}}
 use Rattle.fm_rule.proofs.finishing.Finished.shows_alive.Goals as goal
 
 pub returns-then-not-can_have : goal.returns-then-not-can_have

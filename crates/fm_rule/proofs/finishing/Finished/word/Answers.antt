@@ -1,7 +1,5 @@
-use Rattle.std.proofs.Common.{ap, ◌∙◌, get_or}
-use Rattle.std.specs.Mem.Slots.{slots_items}
-use Rattle.fm_rule.specs.Finishing.{FinishedView}
-use Rattle.fm_rule.proofs.Resting.{read_at}
+use Rattle.std.{proofs.Common.{ap, ◌∙◌, get_or}, specs.Mem.Slots.{slots_items}}
+use Rattle.fm_rule.{specs.Finishing.{FinishedView}, proofs.Resting.{read_at}}
 use Rattle.fm_rule.proofs.finishing.Finished.word.Goals as goal
 
 pub returns : goal.returns

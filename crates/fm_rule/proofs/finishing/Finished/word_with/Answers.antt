@@ -1,9 +1,7 @@
 use Rattle.std.proofs.Common.{◌≡◌, ◌<◌, ◌-◌, ◌/◌, ◌%◌, ℕ, ap, ◌∙◌, arith}
-use Rattle.fm_words.specs.Places.{at, page_word}
-use Rattle.fm_words.specs.Maps.{map_word}
-use Rattle.fm_rule.proofs.GivenBytes.{Stands, stands, shape_in, finished_in}
+use Rattle.fm_words.specs.{Places.{at, page_word}, Maps.{map_word}}
+use Rattle.fm_rule.proofs.{GivenBytes.{Stands, stands, shape_in, finished_in}, finishing.Finished.word_with.Goals.{After-from-size}}
 use Rattle.fm_rule.proofs.finishing.Finished.word_with.Goals as goal
-use Rattle.fm_rule.proofs.finishing.Finished.word_with.Goals.{After-from-size}
 
 here : (c : After-from-size) → Stands c.args.self.now c.args.id c.args.k c.self.inside.shape c.from-size.result
 here c = stands c.args.self.now (finished_in _ _ c.self.view_is c.self.invariant) c.args.id c.requires.has c.args.k c.requires.low c.self.inside.shape

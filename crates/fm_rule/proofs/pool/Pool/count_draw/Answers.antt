@@ -1,6 +1,5 @@
 use Rattle.std.proofs.Common.{ap, refl}
-use Rattle.fm_rule_facts.specs.Views.{View}
-use Rattle.fm_rule_facts.specs.Steps.{can_draw}
+use Rattle.fm_rule_facts.specs.{Views.{View}, Steps.{can_draw}}
 use Rattle.fm_rule.proofs.Counting.{counting_begins, counts_on, counts_one, counts_none}
 use Rattle.fm_rule.proofs.pool.Pool.count_draw.Goals as goal
 

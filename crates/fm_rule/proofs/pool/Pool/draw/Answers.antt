@@ -1,8 +1,6 @@
-use Rattle.std.proofs.Common.{sym, subst}
-use Rattle.std.proofs.lemmas.Result.{err_from_is_err_and}
+use Rattle.std.proofs.{Common.{sym, subst}, lemmas.Result.{err_from_is_err_and}}
 use Rattle.fm_rule_facts.specs.Views.{View}
-use Rattle.fm_rule.specs.Draws.{Drawn}
-use Rattle.fm_rule.proofs.Counting.{learnt_then, none_after, drawn_of}
+use Rattle.fm_rule.{specs.Draws.{Drawn}, proofs.Counting.{learnt_then, none_after, drawn_of}}
 use Rattle.fm_rule.proofs.pool.Pool.draw.Goals as goal
 
 pub returns-clause-drawn : goal.returns-clause-drawn

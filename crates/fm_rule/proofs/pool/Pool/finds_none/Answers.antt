@@ -1,7 +1,5 @@
 use Rattle.std.proofs.Common.{◌<◌, ◌≤◌, arith}
-use Rattle.fm_words.specs.declared.shape.Shape.{Shape}
-use Rattle.fm_words.specs.Shapes.{IsValid}
-use Rattle.fm_words.specs.Places.{groups}
+use Rattle.fm_words.specs.{declared.shape.Shape.{Shape}, Shapes.{IsValid}, Places.{groups}}
 use Rattle.fm_rule.proofs.Seeking.{seeks_none, look_asks, look_on}
 use Rattle.fm_rule.proofs.pool.Pool.finds_none.Goals as goal
 

@@ -1,6 +1,5 @@
 use Rattle.std.specs.Prelude.{◌<◌}
-use Rattle.fm_rule_facts.specs.Hands.{no_number}
-use Rattle.fm_rule_facts.specs.Views.{IsSound}
+use Rattle.fm_rule_facts.specs.{Hands.{no_number}, Views.{IsSound}}
 use Rattle.fm_rule.specs.Draws.{Seeks, FoundZero}
 use Rattle.fm_rule.proofs.pool.Pool.finds_none.Given as goal
 

@@ -1,9 +1,6 @@
-use Rattle.fm_rule.proofs.Knowing.{one_table}
-use Rattle.std.proofs.Common.{refl, ap, sym, ◌∙◌}
-use Rattle.std.specs.Mem.Slots.{slots_items}
+use Rattle.fm_rule.{proofs.{Knowing.{one_table}, Resting.{finished}}, specs.Views.{NoteView}}
+use Rattle.std.{proofs.Common.{refl, ap, sym, ◌∙◌}, specs.Mem.Slots.{slots_items}}
 use Rattle.fm_rule_facts.specs.Views.{View}
-use Rattle.fm_rule.specs.Views.{NoteView}
-use Rattle.fm_rule.proofs.Resting.{finished}
 use Rattle.fm_rule.proofs.pool.Pool.finish.Goals as goal
 
 pub close_with-closed-requires : goal.close_with-closed-requires

@@ -1,10 +1,7 @@
 use Rattle.std.proofs.Common.{ap, ◌∙◌, arith}
 use Rattle.fm_rule_facts.specs.Views.{View}
 use Rattle.fm_rule_steps.proofs.Gathering.{gather_joins}
-use Rattle.fm_rule.specs.Views.{numbers_of}
-use Rattle.fm_rule.proofs.Knowing.{one_table, in_pool}
-use Rattle.fm_rule.proofs.Making.{can_look}
-use Rattle.fm_rule.proofs.Noting.{some_words}
+use Rattle.fm_rule.{specs.Views.{numbers_of}, proofs.{Knowing.{one_table, in_pool}, Making.{can_look}, Noting.{some_words}}}
 use Rattle.fm_rule.proofs.Halves.{at_rest, gathers, gather_keeps, few_after}
 use Rattle.fm_rule.proofs.pool.Pool.join_in.Goals as goal
 

@@ -1,17 +1,10 @@
 use Rattle.std.proofs.Common.{rules, arith, ap, sym, ◌∙◌, subst, ◌≡◌, ◌<◌, ◌≤◌, ℕ, List, [], ◌∷◌, replicate, length, None}
 use lib.ListN.{set, length-replicate}
-use Rattle.fm_words.specs.declared.shape.Shape.{Shape}
-use Rattle.fm_words.specs.Places.{at, draw, slot_bits, words}
-use Rattle.fm_words.specs.Bits.{ones}
+use Rattle.fm_words.specs.{declared.shape.Shape.{Shape}, Places.{at, draw, slot_bits, words}, Bits.{ones}}
 use Rattle.fm_base.specs.Arenas.{only_caller}
-use Rattle.fm_rule_facts.specs.Views.{IsSound}
-use Rattle.fm_rule_facts.specs.Splits.{first_view}
-use Rattle.fm_rule_facts.specs.Facts.{Rule}
+use Rattle.fm_rule_facts.specs.{Views.{IsSound}, Splits.{first_view}, Facts.{Rule}}
 use Rattle.fm_rule_steps.proofs.First.{two_words}
-use Rattle.fm_rule.specs.Beginning.{IsBegun}
-use Rattle.fm_rule.proofs.Beginning.{begun_none, begun_rule, begun_sound}
-use Rattle.fm_rule.specs.Views.{Keeps}
-use Rattle.fm_rule.proofs.Allowed.{sound_homed}
+use Rattle.fm_rule.{specs.{Beginning.{IsBegun}, Views.{Keeps}}, proofs.{Beginning.{begun_none, begun_rule, begun_sound}, Allowed.{sound_homed}}}
 use Rattle.fm_rule.proofs.Keeping.{first_keeps}
 use Rattle.fm_rule.proofs.pool.Pool.make.Goals as goal
 

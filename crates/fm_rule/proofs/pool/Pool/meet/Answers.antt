@@ -1,10 +1,7 @@
 use Rattle.std.proofs.Common.{ap, ◌∙◌, subst}
 use Rattle.fm_rule_facts.specs.Views.{View}
 use Rattle.fm_rule_steps.proofs.Splitting.{meet_joins}
-use Rattle.fm_rule.specs.Passes.{GoesOnFrom}
-use Rattle.fm_rule.specs.Views.{NoteView, numbers_of}
-use Rattle.fm_rule.proofs.Knowing.{one_table, in_pool}
-use Rattle.fm_rule.proofs.Making.{can_look}
+use Rattle.fm_rule.{specs.{Passes.{GoesOnFrom}, Views.{NoteView, numbers_of}}, proofs.{Knowing.{one_table, in_pool}, Making.{can_look}}}
 use Rattle.fm_rule.proofs.Noting.{some_words, meet_met, meet_stepped, meet_keeps}
 use Rattle.fm_rule.proofs.pool.Pool.meet.Goals as goal
 

@@ -1,8 +1,7 @@
-use Rattle.fm_rule.proofs.Knowing.{one_table}
+use Rattle.fm_rule.proofs.{Knowing.{one_table}, Noting.{some_words}}
 use Rattle.std.proofs.Common.{ap, ◌∙◌}
 use Rattle.fm_rule_facts.specs.Views.{View}
 use Rattle.fm_rule_steps.proofs.Splitting.{note_splits}
-use Rattle.fm_rule.proofs.Noting.{some_words}
 use Rattle.fm_rule.proofs.pool.Pool.note.Goals as goal
 
 pub split_seat-seat-requires : goal.split_seat-seat-requires

@@ -1,7 +1,5 @@
 use Rattle.std.proofs.Common.{◌≡◌, ◌*◌, ◌<◌, ◌≤◌, ℕ, Some, None, ap, ◌∙◌, arith}
-use Rattle.fm_words.specs.Places.{at, page_word}
-use Rattle.fm_words.specs.Maps.{map_word, map_of}
-use Rattle.fm_words.proofs.Maps.{map_of-map_word, map_word-injective}
+use Rattle.fm_words.{specs.{Places.{at, page_word}, Maps.{map_word, map_of}}, proofs.Maps.{map_of-map_word, map_word-injective}}
 use Rattle.fm_rule.proofs.pool.Pool.part_of.Goals as goal
 
 low_page : (p x n : ℕ) → map_word p ≡ x → x ≤ n → p < n

@@ -1,11 +1,8 @@
-use Rattle.fm_rule.proofs.Knowing.{one_table}
+use Rattle.fm_rule.{proofs.{Knowing.{one_table}, Allowed.{sound_homed}, Noting.{some_words}}, specs.Views.{inside_of, Keeps}}
+use Rattle.fm_rule.proofs.Halves.{left_keeps, right_keeps, right_sound}
 use Rattle.std.proofs.Common.{ap, sym, ◌∙◌, subst, None}
 use Rattle.fm_rule_facts.specs.Views.{View, IsSound}
 use Rattle.fm_rule_steps.proofs.Halving.{draw_splits}
-use Rattle.fm_rule.specs.Views.{inside_of, Keeps}
-use Rattle.fm_rule.proofs.Allowed.{sound_homed}
-use Rattle.fm_rule.proofs.Noting.{some_words}
-use Rattle.fm_rule.proofs.Halves.{left_keeps, right_keeps, right_sound}
 use Rattle.fm_rule.proofs.pool.Pool.split_off.Goals as goal
 
 pub split_seat-seat-requires : goal.split_seat-seat-requires

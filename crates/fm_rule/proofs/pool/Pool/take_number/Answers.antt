@@ -1,6 +1,5 @@
 use Rattle.std.proofs.Common.{ap, refl}
-use Rattle.fm_words.specs.declared.shape.Shape.{Shape}
-use Rattle.fm_words.specs.Places.{groups}
+use Rattle.fm_words.specs.{declared.shape.Shape.{Shape}, Places.{groups}}
 use Rattle.fm_rule.proofs.Seeking.{seeks_none, seeks_both, took_then, none_then}
 use Rattle.fm_rule.proofs.pool.Pool.take_number.Goals as goal
 

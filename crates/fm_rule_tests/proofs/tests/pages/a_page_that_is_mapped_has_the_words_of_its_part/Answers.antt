@@ -1,9 +1,7 @@
 use Rattle.std.proofs.Common.{◌≡◌, ◌/◌, ℕ, ap, sym, ◌∙◌, subst, inr}
 use Rattle.fm_words.specs.declared.shape.Shape.{Shape}
 use Rattle.fm_base.specs.declared.arena_id.ArenaId.{ArenaId}
-use Rattle.fm_rule_facts.specs.Loans.{HasPart, loans_of}
-use Rattle.fm_rule_facts.specs.Parts.{mapping_of}
-use Rattle.fm_rule_facts.specs.Views.{View}
+use Rattle.fm_rule_facts.specs.{Loans.{HasPart, loans_of}, Parts.{mapping_of}, Views.{View}}
 use Rattle.fm_rule_tests.proofs.tests.pages.a_page_that_is_mapped_has_the_words_of_its_part.Goals as goal
 
 pub place_of-place-requires-clause-find : goal.place_of-place-requires-clause-find

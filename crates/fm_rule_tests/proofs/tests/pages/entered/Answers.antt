@@ -1,13 +1,7 @@
 use Rattle.std.proofs.Common.{ℕ, List, [], ◌∷◌, ◌++◌, refl, ap, ◌∙◌}
-use Rattle.fm_base.specs.declared.arena_id.ArenaId.{ArenaId}
-use Rattle.fm_base.specs.Arenas.{State, has_arena}
-use Rattle.fm_base.specs.Calls.{Entry, Open, Fine, entry_of}
-use Rattle.fm_base.specs.Histories.{state_after}
-use Rattle.fm_base.specs.Machine.{opened}
-use Rattle.fm_base.proofs.Lookup.{has_arena-opened}
-use Rattle.fm_base.proofs.Making.{state_after-append}
-use Rattle.fm_rule_facts.specs.Steps.{Stepped, none_noted}
-use Rattle.fm_rule_facts.specs.Views.{View, IsKnown, limit_of}
+use Rattle.fm_base.specs.{declared.arena_id.ArenaId.{ArenaId}, Arenas.{State, has_arena}, Calls.{Entry, Open, Fine, entry_of}, Histories.{state_after}}
+use Rattle.fm_base.{specs.Machine.{opened}, proofs.{Lookup.{has_arena-opened}, Making.{state_after-append}}}
+use Rattle.fm_rule_facts.specs.{Steps.{Stepped, none_noted}, Views.{View, IsKnown, limit_of}}
 use Rattle.fm_rule_calls.proofs.Going.{goes_step, known_on, no_draws}
 use Rattle.fm_rule_tests.proofs.tests.pages.entered.Goals as goal
 

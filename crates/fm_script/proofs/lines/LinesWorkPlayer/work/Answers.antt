@@ -1,8 +1,5 @@
-use Rattle.std.specs.Result.{result_err}
-use Rattle.std.proofs.Common.{◌≡◌, ◌∙◌, None, Ok, Err, Result, refl, sym}
-use Rattle.fm_script.specs.declared.player.Player.{Player}
-use Rattle.fm_script.specs.Players.{playing}
-use Rattle.fm_script.proofs.Worker.{did}
+use Rattle.std.{specs.Result.{result_err}, proofs.Common.{◌≡◌, ◌∙◌, None, Ok, Err, Result, refl, sym}}
+use Rattle.fm_script.{specs.{declared.player.Player.{Player}, Players.{playing}}, proofs.Worker.{did}}
 use Rattle.fm_script.proofs.lines.LinesWorkPlayer.work.Goals as goal
 
 not_cut : {E : Type 0} (r : Result (Unit {0}) E) → result_err r ≡ None → r ≡ Ok tt

@@ -1,11 +1,6 @@
-use Rattle.std.proofs.Common.{sym, ap, ◌∙◌, ℕ, if◌then◌else◌, List, Option, Some}
-use Rattle.std.proofs.lemmas.List.{take_all}
-use Rattle.std.specs.Borrow.{Bor}
-use Rattle.fm_script_text.specs.declared.line.Line.{Line}
-use Rattle.fm_script_text.specs.Rules.{made}
-use Rattle.fm_script_lines.specs.Numbers.{is_made, number_from}
-use Rattle.fm_script_lines.specs.Ordering.{lines_at}
-use Rattle.fm_script_lines.proofs.Numbering.{number_from-next}
+use Rattle.std.{proofs.{Common.{sym, ap, ◌∙◌, ℕ, if◌then◌else◌, List, Option, Some}, lemmas.List.{take_all}}, specs.Borrow.{Bor}}
+use Rattle.fm_script_text.specs.{declared.line.Line.{Line}, Rules.{made}}
+use Rattle.fm_script_lines.{specs.{Numbers.{is_made, number_from}, Ordering.{lines_at}}, proofs.Numbering.{number_from-next}}
 use Rattle.fm_script_lines.proofs.numbers.Numbers.of_lines.Goals as goal
 
 pub loop-number-preserved : goal.loop-number-preserved

@@ -1,5 +1,4 @@
-use Rattle.std.proofs.Common.{◌∙◌, ap, sym}
-use Rattle.std.specs.Option.{option_map}
+use Rattle.std.{proofs.Common.{◌∙◌, ap, sym}, specs.Option.{option_map}}
 use Rattle.fm_script_lines.proofs.Taking.{no_handle}
 use Rattle.fm_script_lines.proofs.table.Table.handle.Goals as goal
 

@@ -1,7 +1,5 @@
 use Rattle.std.proofs.Common.{List, refl, subst, sym}
-use Rattle.fm_script_lines.specs.declared.standing.Standing.{Standing}
-use Rattle.fm_script_lines.specs.Tokens.{Backs}
-use Rattle.fm_script_lines.proofs.Ending.{backs_none}
+use Rattle.fm_script_lines.{specs.{declared.standing.Standing.{Standing}, Tokens.{Backs}}, proofs.Ending.{backs_none}}
 use Rattle.fm_script_lines.proofs.table.Table.new.Goals as goal
 
 pub returns : goal.returns

@@ -1,9 +1,6 @@
 use Rattle.std.proofs.Common.{◌≡◌, ◌∷◌, ◌++◌, ℕ, ◌-◌, take, ap, All, arith, length, length-append, List, [], refl, subst, sym, ◌∙◌, map, reverse}
 use Rattle.std.proofs.lemmas.List.{append-nil}
-use Rattle.fm_script_lines.specs.declared.bound.Bound.{Bound}
-use Rattle.fm_script_lines.specs.declared.standing.Standing.{Standing}
-use Rattle.fm_script_lines.specs.Standings.{IsSpent, lent, standing_as}
-use Rattle.fm_script_lines.specs.Tokens.{Backs}
+use Rattle.fm_script_lines.specs.{declared.{bound.Bound.{Bound}, standing.Standing.{Standing}}, Standings.{IsSpent, lent, standing_as}, Tokens.{Backs}}
 use Rattle.fm_script_lines.proofs.Ending.{all_popped, backs_gone, backs_popped, can_spend, others_popped, turned}
 use Rattle.fm_script_lines.proofs.Going.{went_made, went_on_none, went_on_then}
 use Rattle.fm_script_lines.proofs.table.Table.settle.Goals as goal

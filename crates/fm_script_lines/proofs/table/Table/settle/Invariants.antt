@@ -1,8 +1,6 @@
 use Rattle.std.proofs.Common.{◌≡◌, ◌+◌, ◌≤◌, ◌++◌, All, List, length, map, reverse, vec_capacity}
 use Rattle.fm_base.specs.declared.arena_id.ArenaId.{ArenaId}
-use Rattle.fm_script_lines.specs.Runs.{WentOn}
-use Rattle.fm_script_lines.specs.Standings.{IsSpent, lent, standing_as}
-use Rattle.fm_script_lines.specs.Tokens.{Backs, IsReady}
+use Rattle.fm_script_lines.specs.{Runs.{WentOn}, Standings.{IsSpent, lent, standing_as}, Tokens.{Backs, IsReady}}
 use Rattle.fm_script_lines.proofs.table.Table.settle.Given as goal
 
 abbrev pub invariant-loop-standing : goal.invariant-loop-standing

@@ -1,5 +1,4 @@
-use Rattle.fm_script_lines.specs.Standings.{handed_back, handle_in}
-use Rattle.fm_script_lines.proofs.Taking.{no_handle, none_taken}
+use Rattle.fm_script_lines.{specs.Standings.{handed_back, handle_in}, proofs.Taking.{no_handle, none_taken}}
 use Rattle.fm_script_lines.proofs.table.Table.take_handle.Goals as goal
 
 pub returns-in_err-at-clause-took : goal.returns-in_err-at-clause-took

@@ -1,5 +1,4 @@
-use Rattle.fm_script_lines.specs.Standings.{hold_in, unheld}
-use Rattle.fm_script_lines.proofs.Taking.{no_hold, none_taken}
+use Rattle.fm_script_lines.{specs.Standings.{hold_in, unheld}, proofs.Taking.{no_hold, none_taken}}
 use Rattle.fm_script_lines.proofs.table.Table.take_hold.Goals as goal
 
 pub returns-in_err-at-clause-took : goal.returns-in_err-at-clause-took

@@ -1,11 +1,7 @@
 use Rattle.std.proofs.Common.{◌≡◌, ◌+◌, ◌∷◌, ◌++◌, All, List, [], length, length-append, map, take, append_assoc, ap, sym, ◌∙◌, subst, arith}
 use Rattle.std.proofs.lemmas.List.{map-append, take_all, take_more}
-use Rattle.fm_script_lines.specs.declared.bound.Bound.{Bound}
-use Rattle.fm_script_lines.specs.declared.standing.Standing.{Standing}
-use Rattle.fm_script_lines.specs.Standings.{IsBacked, standing_as}
-use Rattle.fm_script_lines.specs.Tokens.{Backs}
-use Rattle.fm_script_lines.proofs.Backing.{backs_lent}
-use Rattle.fm_script_lines.proofs.Ending.{all_popped}
+use Rattle.fm_script_lines.specs.{declared.{bound.Bound.{Bound}, standing.Standing.{Standing}}, Standings.{IsBacked, standing_as}, Tokens.{Backs}}
+use Rattle.fm_script_lines.proofs.{Backing.{backs_lent}, Ending.{all_popped}}
 use Rattle.fm_script_lines.proofs.table.Table.take_over.Goals as goal
 
 pub loop-other-preserved : goal.loop-other-preserved

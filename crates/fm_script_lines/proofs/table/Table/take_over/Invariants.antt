@@ -1,9 +1,7 @@
 use Rattle.std.proofs.Common.{◌≡◌, ◌+◌, ◌-◌, ◌≤◌, ◌++◌, All, List, length, map, take, vec_capacity}
 use Rattle.fm_base.specs.declared.arena_id.ArenaId.{ArenaId}
 use Rattle.fm_rule_facts.specs.Views.{View}
-use Rattle.fm_script_lines.specs.Learnt.{KeepsTable}
-use Rattle.fm_script_lines.specs.Standings.{IsBacked, standing_as}
-use Rattle.fm_script_lines.specs.Tokens.{Backs}
+use Rattle.fm_script_lines.specs.{Learnt.{KeepsTable}, Standings.{IsBacked, standing_as}, Tokens.{Backs}}
 use Rattle.fm_script_lines.proofs.table.Table.take_over.Given as goal
 
 abbrev pub invariant-loop-other : goal.invariant-loop-other

@@ -1,5 +1,4 @@
-use Rattle.std.proofs.Common.{List, ap, length, rules, arith}
-use Rattle.std.proofs.lemmas.Result.{IfOk-at_ok}
+use Rattle.std.proofs.{Common.{List, ap, length, rules, arith}, lemmas.Result.{IfOk-at_ok}}
 use Rattle.fm_script_lines.specs.declared.standing.Standing.{Standing}
 use Rattle.fm_script.proofs.Fresh.{fresh_ready, played_ready}
 use Rattle.fm_script_tests.proofs.tests.lines.run.Goals as goal

@@ -1,6 +1,5 @@
 use Rattle.std.proofs.Common.{◌∙◌}
-use Rattle.fm_script_text.specs.Rules.{given_back}
-use Rattle.fm_script_text.proofs.Keeping.{given_more}
+use Rattle.fm_script_text.{specs.Rules.{given_back}, proofs.Keeping.{given_more}}
 use Rattle.fm_script_text.proofs.names.Names.give_back.Goals as goal
 
 pub returns-clause-given_back : goal.returns-clause-given_back

@@ -1,6 +1,5 @@
 use Rattle.std.proofs.Common.{◌∙◌}
-use Rattle.fm_script_text.specs.Rules.{made}
-use Rattle.fm_script_text.proofs.Keeping.{made_more}
+use Rattle.fm_script_text.{specs.Rules.{made}, proofs.Keeping.{made_more}}
 use Rattle.fm_script_text.proofs.names.Names.make.Goals as goal
 
 pub returns-clause-made : goal.returns-clause-made

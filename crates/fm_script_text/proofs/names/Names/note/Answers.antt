@@ -1,9 +1,5 @@
-use Rattle.std.proofs.Common.{◌∙◌, ℕ, ap, max, ◌+◌}
-use Rattle.std.specs.BTreeMap.{get_by_text as maker_of_map}
-use Rattle.std.specs.BTreeSet.{contains_text as is_in}
-use Rattle.fm_script_text.specs.Knowing.{spent_more}
-use Rattle.fm_script_text.specs.Rules.{given_back}
-use Rattle.fm_script_text.proofs.Keeping.{knows_more}
+use Rattle.std.{proofs.Common.{◌∙◌, ℕ, ap, max, ◌+◌}, specs.{BTreeMap.{get_by_text as maker_of_map}, BTreeSet.{contains_text as is_in}}}
+use Rattle.fm_script_text.{specs.{Knowing.{spent_more}, Rules.{given_back}}, proofs.Keeping.{knows_more}}
 use Rattle.fm_script_text.proofs.names.Names.note.Goals as goal
 
 pub returns : goal.returns

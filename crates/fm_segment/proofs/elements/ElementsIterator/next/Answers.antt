@@ -1,5 +1,4 @@
-use Rattle.std.proofs.Common.{◌+◌, arith}
-use Rattle.std.proofs.Math.Nat.{mul-le-mul_left}
+use Rattle.std.proofs.{Common.{◌+◌, arith}, Math.Nat.{mul-le-mul_left}}
 use Rattle.fm_segment.proofs.elements.ElementsIterator.next.Goals as goal
 
 -- An element has a byte, so there are no more of them than bytes.

@@ -1,5 +1,4 @@
-use Rattle.fm_segment.proofs.Checking.{refused_before, passed, copy_refused, copy_cause}
-use Rattle.fm_segment.proofs.Learning.{both_known}
+use Rattle.fm_segment.proofs.{Checking.{refused_before, passed, copy_refused, copy_cause}, Learning.{both_known}}
 use Rattle.fm_segment.proofs.segment.Segment.copy.Goals as goal
 
 pub returns-in_err-check_copy : goal.returns-in_err-check_copy

@@ -1,5 +1,4 @@
-use Rattle.fm_segment.proofs.Access.{known_still}
-use Rattle.fm_segment.proofs.Checking.{refused_before, passed, fill_refused, fill_cause}
+use Rattle.fm_segment.proofs.{Access.{known_still}, Checking.{refused_before, passed, fill_refused, fill_cause}}
 use Rattle.fm_segment.proofs.segment.Segment.fill.Goals as goal
 
 pub returns-in_err-check_write : goal.returns-in_err-check_write

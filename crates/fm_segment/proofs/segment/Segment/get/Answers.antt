@@ -1,9 +1,5 @@
 use Rattle.std.proofs.Common.{sym, ap, ◌∙◌}
-use Rattle.fm_segment.specs.Access.{DoesGetHere}
-use Rattle.fm_segment.specs.Region.{Region}
-use Rattle.fm_segment.proofs.Access.{at_value}
-use Rattle.fm_segment.proofs.Exits.{not_placed}
-use Rattle.fm_segment.proofs.Learning.{after_get}
+use Rattle.fm_segment.{specs.{Access.{DoesGetHere}, Region.{Region}}, proofs.{Access.{at_value}, Exits.{not_placed}, Learning.{after_get}}}
 use Rattle.fm_segment.proofs.segment.Segment.get.Goals as goal
 
 pub returns-in_err-place : goal.returns-in_err-place

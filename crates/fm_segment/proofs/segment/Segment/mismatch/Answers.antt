@@ -1,7 +1,5 @@
-use Rattle.std.proofs.Common.{rules, w64}
-use Rattle.std.proofs.lemmas.Int.{to_z-of_z}
-use Rattle.fm_segment.proofs.Exits.{gave}
-use Rattle.fm_segment.proofs.Learning.{after_mismatch, after_no_mismatch}
+use Rattle.std.proofs.{Common.{rules, w64}, lemmas.Int.{to_z-of_z}}
+use Rattle.fm_segment.proofs.{Exits.{gave}, Learning.{after_mismatch, after_no_mismatch}}
 use Rattle.fm_segment.proofs.segment.Segment.mismatch.Goals as goal
 
 pub returns-in_err-found : goal.returns-in_err-found

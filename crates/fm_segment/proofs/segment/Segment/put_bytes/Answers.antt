@@ -1,6 +1,5 @@
 use Rattle.std.proofs.Common.{length}
-use Rattle.fm_segment.proofs.Access.{known_still}
-use Rattle.fm_segment.proofs.Checking.{refused_before, passed, put_refused, put_cause}
+use Rattle.fm_segment.proofs.{Access.{known_still}, Checking.{refused_before, passed, put_refused, put_cause}}
 use Rattle.fm_segment.proofs.segment.Segment.put_bytes.Goals as goal
 
 pub returns-in_err-check_put : goal.returns-in_err-check_put

@@ -1,10 +1,6 @@
 use Rattle.std.proofs.Common.{sym, ap, ◌∙◌}
 use Rattle.fm_lanes.specs.Value.{kind_of}
-use Rattle.fm_segment.specs.Access.{DoesSetHere}
-use Rattle.fm_segment.specs.Region.{Region}
-use Rattle.fm_segment.proofs.Access.{at_value, is_value}
-use Rattle.fm_segment.proofs.Exits.{not_placed}
-use Rattle.fm_segment.proofs.Learning.{after_set}
+use Rattle.fm_segment.{specs.{Access.{DoesSetHere}, Region.{Region}}, proofs.{Access.{at_value, is_value}, Exits.{not_placed}, Learning.{after_set}}}
 use Rattle.fm_segment.proofs.segment.Segment.set.Goals as goal
 
 pub coding_of-order-requires : goal.coding_of-order-requires

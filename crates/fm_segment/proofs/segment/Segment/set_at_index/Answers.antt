@@ -1,6 +1,4 @@
-use Rattle.fm_segment.proofs.Access.{at_found}
-use Rattle.fm_segment.proofs.Exits.{not_placed}
-use Rattle.fm_segment.proofs.Learning.{after_set_index}
+use Rattle.fm_segment.proofs.{Access.{at_found}, Exits.{not_placed}, Learning.{after_set_index}}
 use Rattle.fm_segment.proofs.segment.Segment.set_at_index.Goals as goal
 
 pub returns-in_err-offset : goal.returns-in_err-offset

@@ -1,9 +1,6 @@
 use Rattle.std.proofs.Common.{ℕ, List, subst, sym}
 use Rattle.fm_top_options.specs.Options.{texts}
-use Rattle.fm_top.specs.Words.{IsThreaded, three}
-use Rattle.fm_top.proofs.Numbers.{on_none}
-use Rattle.fm_top.proofs.Requests.{no_ask}
-use Rattle.fm_top.proofs.Threaded.{of_none, of_some}
+use Rattle.fm_top.{specs.Words.{IsThreaded, three}, proofs.{Numbers.{on_none}, Requests.{no_ask}, Threaded.{of_none, of_some}}}
 use Rattle.fm_top.proofs.command.ask.ask_words.Goals as goal
 
 pub returns-in-Some-clause-none : goal.returns-in-Some-clause-none

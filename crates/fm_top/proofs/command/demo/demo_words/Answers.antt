@@ -1,8 +1,5 @@
-use Rattle.std.proofs.Common.{[], ◌∷◌}
-use Rattle.std.specs.Fmt.{decimal}
-use Rattle.fm_top.proofs.Numbers.{on_none}
-use Rattle.fm_top.proofs.Requests.{no_demo}
-use Rattle.fm_top.proofs.Threaded.{of_none, of_some}
+use Rattle.std.{proofs.Common.{[], ◌∷◌}, specs.Fmt.{decimal}}
+use Rattle.fm_top.proofs.{Numbers.{on_none}, Requests.{no_demo}, Threaded.{of_none, of_some}}
 use Rattle.fm_top.proofs.command.demo.demo_words.Goals as goal
 
 pub returns-in-Some-clause-none : goal.returns-in-Some-clause-none

@@ -1,7 +1,6 @@
 use Rattle.std.proofs.Common.{arith, rules}
-use Rattle.fm_top.proofs.Numbers.{no_number_to}
+use Rattle.fm_top.proofs.{Numbers.{no_number_to}, command.number.number_up_to.Goals.{else-n-ge1-via-then-n-ge1+else-n-most, else-n-ge1-via-else-n-ge1}}
 use Rattle.fm_top.proofs.command.number.number_up_to.Goals as goal
-use Rattle.fm_top.proofs.command.number.number_up_to.Goals.{else-n-ge1-via-then-n-ge1+else-n-most, else-n-ge1-via-else-n-ge1}
 
 pub returns-else-n-ge1-clause-none : goal.returns-else-n-ge1-clause-none
 returns-else-n-ge1-clause-none c =

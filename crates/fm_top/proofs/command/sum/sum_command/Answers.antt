@@ -1,7 +1,6 @@
 use Rattle.std.proofs.Common.{◌≡◌, codes, rules}
 use Rattle.fm_lanes.specs.Named.{kind_text}
-use Rattle.fm_top.proofs.NamedKinds.{kind_is_named, kind_isnt_named}
-use Rattle.fm_top.proofs.Numbers.{no_sum, no_true}
+use Rattle.fm_top.proofs.{NamedKinds.{kind_is_named, kind_isnt_named}, Numbers.{no_sum, no_true}}
 use Rattle.fm_top.proofs.command.sum.sum_command.Goals as goal
 
 pub returns-in_default-named-clause-none : goal.returns-in_default-named-clause-none

@@ -1,6 +1,5 @@
 use Rattle.fm_top_options.specs.Options.{texts}
-use Rattle.fm_top.specs.Words.{five}
-use Rattle.fm_top.proofs.Numbers.{five_texts, none_summed, on_none}
+use Rattle.fm_top.{specs.Words.{five}, proofs.Numbers.{five_texts, none_summed, on_none}}
 use Rattle.fm_top.proofs.command.sum.sum_words.Goals as goal
 
 pub returns-clause-none : goal.returns-clause-none

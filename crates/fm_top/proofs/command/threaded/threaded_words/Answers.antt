@@ -1,6 +1,5 @@
 use Rattle.std.proofs.lemmas.Option.{IfSome_then}
-use Rattle.fm_top.proofs.Threaded.{is_threaded, is_same, none_by, of_some, texts_cut}
-use Rattle.fm_top.proofs.Numbers.{on_none}
+use Rattle.fm_top.proofs.{Threaded.{is_threaded, is_same, none_by, of_some, texts_cut}, Numbers.{on_none}}
 use Rattle.fm_top.proofs.command.threaded.threaded_words.Goals as goal
 
 pub returns-in-Some-clause-found : goal.returns-in-Some-clause-found

@@ -1,13 +1,7 @@
-use Rattle.std.proofs.Common.{refl}
-use Rattle.std.proofs.lemmas.Result.{IfOk-weaker}
-use Rattle.fm_top.specs.Ending.{shown}
-use Rattle.fm_top.specs.Queries.{no_layout, long_layout}
-use Rattle.fm_top.specs.Words.{Ask}
+use Rattle.std.proofs.{Common.{refl}, lemmas.Result.{IfOk-weaker}}
+use Rattle.fm_top.{specs.{Ending.{shown}, Queries.{no_layout, long_layout}, Words.{Ask}}, proofs.Ends.{asked_file, shows_since}}
+use Rattle.fm_top.proofs.{Outcomes.{ask-whole, some_end}, ReadFor.{ask_both}, Unloaded.{unloaded_ends}}
 use Rattle.fm_top_load.proofs.Telling.{read_quietly}
-use Rattle.fm_top.proofs.Ends.{asked_file, shows_since}
-use Rattle.fm_top.proofs.Outcomes.{ask-whole, some_end}
-use Rattle.fm_top.proofs.ReadFor.{ask_both}
-use Rattle.fm_top.proofs.Unloaded.{unloaded_ends}
 use Rattle.fm_top.proofs.outcome.ask.ask_ending.Goals as goal
 
 pub returns-in-Ok : goal.returns-in-Ok

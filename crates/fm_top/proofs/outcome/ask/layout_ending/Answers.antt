@@ -1,8 +1,5 @@
 use Rattle.std.proofs.Common.{Err, ap, ◌∙◌}
-use Rattle.fm_top.specs.Ending.{shown}
-use Rattle.fm_top.specs.Queries.{over_layout}
-use Rattle.fm_top.proofs.Ends.{ends_as, other_end, unread_ends}
-use Rattle.fm_top.proofs.Outcomes.{refused-layout}
+use Rattle.fm_top.{specs.{Ending.{shown}, Queries.{over_layout}}, proofs.{Ends.{ends_as, other_end, unread_ends}, Outcomes.{refused-layout}}}
 use Rattle.fm_top.proofs.Planned.{of_err, of_ok}
 use Rattle.fm_top.proofs.outcome.ask.layout_ending.Goals as goal
 

@@ -1,8 +1,5 @@
 use Rattle.std.proofs.Common.{rules, Some, refl}
-use Rattle.fm_top.specs.Ending.{shown}
-use Rattle.fm_top.specs.Outcome.{no_file, too_many}
-use Rattle.fm_top.specs.declared.command.question.Question.TheVariants.{Query, Tally}
-use Rattle.fm_top.proofs.Ends.{plan_found}
+use Rattle.fm_top.{specs.{Ending.{shown}, Outcome.{no_file, too_many}, declared.command.question.Question.TheVariants.{Query, Tally}}, proofs.Ends.{plan_found}}
 use Rattle.fm_top.proofs.Unloaded.{found_ends, unloaded_ends, wanting_ends}
 use Rattle.fm_top.proofs.outcome.ask.plan_ending.Goals as goal
 

@@ -1,8 +1,5 @@
 use Rattle.std.proofs.Common.{Err, ap, ◌∙◌}
-use Rattle.fm_top.specs.Ending.{shown}
-use Rattle.fm_top.specs.Queries.{planned}
-use Rattle.fm_top.proofs.Ends.{ends_as, other_end, unread_ends}
-use Rattle.fm_top.proofs.Outcomes.{refused-text}
+use Rattle.fm_top.{specs.{Ending.{shown}, Queries.{planned}}, proofs.{Ends.{ends_as, other_end, unread_ends}, Outcomes.{refused-text}}}
 use Rattle.fm_top.proofs.Planned.{of_err, of_ok, stream_planned, tally_planned}
 use Rattle.fm_top.proofs.outcome.ask.text_ending.Goals as goal
 

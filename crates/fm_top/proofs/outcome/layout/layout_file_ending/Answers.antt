@@ -1,9 +1,5 @@
 use Rattle.std.proofs.Common.{rules, None, refl, sym, ap, ◌∙◌}
-use Rattle.fm_top.specs.Ending.{shown}
-use Rattle.fm_top.specs.Outcome.{layout_of_file}
-use Rattle.fm_top.specs.Words.{Layout}
-use Rattle.fm_top.proofs.Ends.{first_found}
-use Rattle.fm_top.proofs.Outcomes.{long_layout_ends}
+use Rattle.fm_top.{specs.{Ending.{shown}, Outcome.{layout_of_file}, Words.{Layout}}, proofs.{Ends.{first_found}, Outcomes.{long_layout_ends}}}
 use Rattle.fm_top.proofs.Unloaded.{found_ends, unloaded_ends, wanting_ends}
 use Rattle.fm_top.proofs.outcome.layout.layout_file_ending.Goals as goal
 

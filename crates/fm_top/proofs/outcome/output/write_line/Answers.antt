@@ -1,6 +1,5 @@
 use Rattle.std.proofs.Common.{ℕ, List, ◌∷◌, [], subst}
-use Rattle.fm_io.proofs.Sent.{prefix-after}
-use Rattle.fm_io.specs.Sink.{Appends}
+use Rattle.fm_io.{proofs.Sent.{prefix-after}, specs.Sink.{Appends}}
 use Rattle.fm_top.proofs.outcome.output.write_line.Goals as goal
 
 pub returns-clause-prefix : goal.returns-clause-prefix

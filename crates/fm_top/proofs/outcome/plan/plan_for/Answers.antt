@@ -1,5 +1,4 @@
-use Rattle.std.proofs.Common.{⊎_elim}
-use Rattle.std.proofs.lemmas.Result.{IfErr-weaker}
+use Rattle.std.proofs.{Common.{⊎_elim}, lemmas.Result.{IfErr-weaker}}
 use Rattle.fm_top.proofs.outcome.plan.plan_for.Goals as goal
 
 pub returns-in-Query-clause-refused : goal.returns-in-Query-clause-refused

@@ -1,8 +1,6 @@
 use Rattle.std.proofs.Common.{◌%◌, ℕ, Ok, ap, sym, ◌∙◌}
 use Rattle.fm_top_load.specs.Limits.{record_file_limit}
-use Rattle.fm_top.specs.Queries.{IsAnswered}
-use Rattle.fm_top.specs.declared.command.question.Question.TheVariants.{Query}
-use Rattle.fm_top.proofs.Counted.{queried}
+use Rattle.fm_top.{specs.{Queries.{IsAnswered}, declared.command.question.Question.TheVariants.{Query}}, proofs.Counted.{queried}}
 use Rattle.fm_top.proofs.Outcomes.{even_ends, ragged_ends}
 use Rattle.fm_top.proofs.outcome.query.queried_ending.Goals as goal
 

@@ -1,8 +1,6 @@
-use Rattle.std.proofs.Common.{Some, subst, sym}
-use Rattle.std.proofs.lemmas.Result.{IfOk-weaker}
+use Rattle.std.proofs.{Common.{Some, subst, sym}, lemmas.Result.{IfOk-weaker}}
 use Rattle.fm_script_text.specs.Scripts.{IsNoScript}
-use Rattle.fm_top.specs.Outcome.{Outcome}
-use Rattle.fm_top.specs.Scripts.{ScriptEnds, bad_script}
+use Rattle.fm_top.specs.{Outcome.{Outcome}, Scripts.{ScriptEnds, bad_script}}
 use Rattle.fm_top.proofs.outcome.script.bytes_ending.Goals as goal
 
 pub returns-in-Err-BadScript : goal.returns-in-Err-BadScript

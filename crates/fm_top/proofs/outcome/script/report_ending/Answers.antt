@@ -1,6 +1,5 @@
 use Rattle.std.proofs.Common.{Some, subst, sym}
-use Rattle.fm_top.specs.Outcome.{Outcome}
-use Rattle.fm_top.specs.Scripts.{ScriptEnds, ran}
+use Rattle.fm_top.specs.{Outcome.{Outcome}, Scripts.{ScriptEnds, ran}}
 use Rattle.fm_top.proofs.outcome.script.report_ending.Goals as goal
 
 pub returns-in-Ok-print_report : goal.returns-in-Ok-print_report

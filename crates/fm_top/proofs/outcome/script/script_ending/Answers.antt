@@ -1,8 +1,5 @@
 use Rattle.std.proofs.Common.{rules, ℕ, List, None, Some, subst}
-use Rattle.fm_top.specs.Ending.{shown}
-use Rattle.fm_top.specs.Scripts.{ScriptEnds, no_script, long_script}
-use Rattle.fm_top.specs.Words.{Run}
-use Rattle.fm_top.proofs.Ends.{first_found}
+use Rattle.fm_top.{specs.{Ending.{shown}, Scripts.{ScriptEnds, no_script, long_script}, Words.{Run}}, proofs.Ends.{first_found}}
 use Rattle.fm_top.proofs.Unloaded.{found_ends, unloaded_ends, wanting_ends}
 use Rattle.fm_top.proofs.outcome.script.script_ending.Goals as goal
 

@@ -1,7 +1,6 @@
 use Rattle.std.proofs.Common.{refl, rules}
 use Rattle.fm_top_load.specs.Limits.{record_file_limit}
-use Rattle.fm_top.specs.Outcome.{IsSummed}
-use Rattle.fm_top.proofs.Outcomes.{even_ends, ragged_ends}
+use Rattle.fm_top.{specs.Outcome.{IsSummed}, proofs.Outcomes.{even_ends, ragged_ends}}
 use Rattle.fm_top.proofs.outcome.sum.loaded_ending.Goals as goal
 
 pub returns-then-rest-eq0 : goal.returns-then-rest-eq0

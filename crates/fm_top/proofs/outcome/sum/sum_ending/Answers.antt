@@ -1,8 +1,5 @@
 use Rattle.std.proofs.Common.{rules, None}
-use Rattle.fm_top.specs.Ending.{shown}
-use Rattle.fm_top.specs.Outcome.{no_file, too_many}
-use Rattle.fm_top.specs.Words.{Sum}
-use Rattle.fm_top.proofs.Ends.{first_found}
+use Rattle.fm_top.{specs.{Ending.{shown}, Outcome.{no_file, too_many}, Words.{Sum}}, proofs.Ends.{first_found}}
 use Rattle.fm_top.proofs.Unloaded.{found_ends, unloaded_ends, wanting_ends}
 use Rattle.fm_top.proofs.outcome.sum.sum_ending.Goals as goal
 

@@ -1,10 +1,6 @@
-use Rattle.std.proofs.Common.{◌≡◌, ◌+◌, ◌*◌, length, ap, ◌∙◌, w64, rules}
-use Rattle.std.specs.Int.{w128}
-use Rattle.std.specs.Prelude.{◌+ℤ◌}
-use Rattle.std.proofs.lemmas.Int.{to_z-of_z}
+use Rattle.std.{proofs.{Common.{◌≡◌, ◌+◌, ◌*◌, length, ap, ◌∙◌, w64, rules}, lemmas.Int.{to_z-of_z}}, specs.{Int.{w128}, Prelude.{◌+ℤ◌}}}
 use mir.Val.{to_z, of_z}
-use Rattle.fm_top.proofs.Sums.{whole_place, ends_in_file, number_got, next_sum, IsWithin-more}
-use Rattle.fm_top.specs.Records.{number_at, sum_of_values}
+use Rattle.fm_top.{proofs.Sums.{whole_place, ends_in_file, number_got, next_sum, IsWithin-more}, specs.Records.{number_at, sum_of_values}}
 use Rattle.fm_lanes.specs.Kind.{width_of}
 use Rattle.fm_top.proofs.outcome.sum_values.sum_as.Goals as goal
 

@@ -1,9 +1,6 @@
-use Rattle.std.proofs.Common.{◌≡◌, ◌-◌, ◌*◌, ◌/◌, length, drop, map}
-use Rattle.std.specs.Prelude.{◌+ℤ◌}
-use Rattle.fm_records.specs.Answers.{sum_of}
-use Rattle.fm_records.specs.Records.{pieces}
-use Rattle.fm_top.specs.Records.{number_at, sum_of_values}
-use Rattle.fm_top.proofs.Sums.{IsWithin}
+use Rattle.std.{proofs.Common.{◌≡◌, ◌-◌, ◌*◌, ◌/◌, length, drop, map}, specs.Prelude.{◌+ℤ◌}}
+use Rattle.fm_records.specs.{Answers.{sum_of}, Records.{pieces}}
+use Rattle.fm_top.{specs.Records.{number_at, sum_of_values}, proofs.Sums.{IsWithin}}
 use Rattle.fm_top.proofs.outcome.sum_values.sum_as.Given as goal
 
 -- the sum so far and that of the records that are left are the whole sum

@@ -1,8 +1,7 @@
 use Rattle.std.proofs.Common.{IfOk, Option, arith, subst}
 use Rattle.fm_io.specs.Files.{Contents}
 use Rattle.fm_top_load.proofs.Telling.{read_quietly, tells_memory, tells_then}
-use Rattle.fm_top_pooled.specs.Stocked.{HoldsWhole}
-use Rattle.fm_top_pooled.proofs.Filed.{all_room, ended, filled, next_taken, reads_longer, reads_some, whole_stands}
+use Rattle.fm_top_pooled.{specs.Stocked.{HoldsWhole}, proofs.Filed.{all_room, ended, filled, next_taken, reads_longer, reads_some, whole_stands}}
 use Rattle.fm_top_pooled.proofs.loading.Room.load.Goals as goal
 
 pub returns-in-Err : goal.returns-in-Err

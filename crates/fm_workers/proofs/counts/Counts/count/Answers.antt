@@ -1,8 +1,5 @@
-use Rattle.std.proofs.Common.{◌≡◌, ◌∙◌, None, sym, subst}
-use Rattle.std.specs.Int.{w64}
-use Rattle.std.proofs.lemmas.Int.{to_z-of_z}
-use Rattle.fm_workers.specs.Counts.{AreCounts}
-use Rattle.fm_workers.proofs.Numbers.{none_more, one_counted}
+use Rattle.std.{proofs.{Common.{◌≡◌, ◌∙◌, None, sym, subst}, lemmas.Int.{to_z-of_z}}, specs.Int.{w64}}
+use Rattle.fm_workers.{specs.Counts.{AreCounts}, proofs.Numbers.{none_more, one_counted}}
 use Rattle.fm_workers.proofs.counts.Counts.count.Goals as goal
 
 pub returns-in_default : goal.returns-in_default

@@ -1,5 +1,4 @@
-use Rattle.std.proofs.Common.{◌≡◌, take}
-use Rattle.std.specs.List.{sum}
+use Rattle.std.{proofs.Common.{◌≡◌, take}, specs.List.{sum}}
 use Rattle.fm_workers.proofs.counts.Counts.total.Given as goal
 
 abbrev pub invariant-loop-k : goal.invariant-loop-k

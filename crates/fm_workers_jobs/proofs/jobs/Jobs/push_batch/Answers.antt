@@ -1,7 +1,5 @@
 use Rattle.std.proofs.Common.{◌+◌, ap, ◌∙◌, length, arith}
-use Rattle.fm_workers_jobs.specs.declared.account.Account.{Account}
-use Rattle.fm_workers_jobs.specs.Turns.{account_of}
-use Rattle.fm_workers_jobs.proofs.Batches.{length-after_jobs}
+use Rattle.fm_workers_jobs.{specs.{declared.account.Account.{Account}, Turns.{account_of}}, proofs.Batches.{length-after_jobs}}
 use Rattle.fm_workers_jobs.proofs.jobs.Jobs.push_batch.Goals as goal
 
 pub push_stops-requires : goal.push_stops-requires

@@ -1,8 +1,5 @@
 use Rattle.std.proofs.Common.{◌+◌, ap, ◌∙◌, length, arith}
-use Rattle.fm_workers_jobs.specs.declared.account.Account.{Account}
-use Rattle.fm_workers_jobs.specs.Accounts.{after_push}
-use Rattle.fm_workers_jobs.specs.declared.item.Item.TheVariants.{Job}
-use Rattle.fm_workers_jobs.specs.Turns.{account_of}
+use Rattle.fm_workers_jobs.specs.{declared.{account.Account.{Account}, item.Item.TheVariants.{Job}}, Accounts.{after_push}, Turns.{account_of}}
 use Rattle.fm_workers_jobs.proofs.Batches.{after_jobs-more, length-after_jobs}
 use Rattle.fm_workers_jobs.proofs.jobs.Jobs.push_jobs.Goals as goal
 

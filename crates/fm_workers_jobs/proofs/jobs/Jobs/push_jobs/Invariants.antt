@@ -1,6 +1,5 @@
 use Rattle.std.proofs.Common.{◌-◌, ◌≤◌}
-use Rattle.fm_workers_jobs.specs.Accounts.{after_jobs}
-use Rattle.fm_workers_jobs.specs.Turns.{account_of, HasAccount}
+use Rattle.fm_workers_jobs.specs.{Accounts.{after_jobs}, Turns.{account_of, HasAccount}}
 use Rattle.fm_workers_jobs.proofs.jobs.Jobs.push_jobs.Given as goal
 
 -- A range that ends before it begins has no job.

@@ -1,5 +1,4 @@
-use Rattle.fm_workers_jobs.specs.Accounts.{after_stops}
-use Rattle.fm_workers_jobs.specs.Turns.{account_of, HasAccount}
+use Rattle.fm_workers_jobs.specs.{Accounts.{after_stops}, Turns.{account_of, HasAccount}}
 use Rattle.fm_workers_jobs.proofs.jobs.Jobs.push_stops.Given as goal
 
 abbrev pub invariant-loop : goal.invariant-loop

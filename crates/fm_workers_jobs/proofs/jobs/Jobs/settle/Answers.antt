@@ -1,5 +1,4 @@
-use Rattle.fm_workers_jobs.proofs.Moves.{knows_all}
-use Rattle.fm_workers_jobs.proofs.Settled.{settles}
+use Rattle.fm_workers_jobs.proofs.{Moves.{knows_all}, Settled.{settles}}
 use Rattle.fm_workers_jobs.proofs.jobs.Jobs.settle.Goals as goal
 
 pub learn_as-requires-clause-rule : goal.learn_as-requires-clause-rule

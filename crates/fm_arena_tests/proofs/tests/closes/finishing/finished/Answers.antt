@@ -1,5 +1,4 @@
-use Rattle.std.proofs.Common.{◌∙◌, subst}
-use Rattle.std.specs.Prelude.{Result, IfOk}
+use Rattle.std.{proofs.Common.{◌∙◌, subst}, specs.Prelude.{Result, IfOk}}
 use Rattle.fm_base.specs.declared.refusal.Refusal.{Refusal}
 use Rattle.fm_rule.specs.Finishing.{FinishedView, Finishes}
 use Rattle.fm_arena_tests.proofs.Finishing.{is_known}

@@ -1,9 +1,6 @@
-use Rattle.std.proofs.Common.{refl, subst}
-use Rattle.std.specs.Prelude.{Result, IfOk}
-use Rattle.fm_base.specs.declared.arena_id.ArenaId.{ArenaId}
-use Rattle.fm_base.specs.declared.refusal.Refusal.{Refusal}
-use Rattle.fm_gate.specs.Needs.{HasHandle}
-use Rattle.fm_gate.specs.Learnt.{AfterAgain}
+use Rattle.std.{proofs.Common.{refl, subst}, specs.Prelude.{Result, IfOk}}
+use Rattle.fm_base.specs.declared.{arena_id.ArenaId.{ArenaId}, refusal.Refusal.{Refusal}}
+use Rattle.fm_gate.specs.{Needs.{HasHandle}, Learnt.{AfterAgain}}
 use Rattle.fm_arena_tests.proofs.tests.closes.kinds.with_two_handles.Goals as goal
 
 pub returns-clause-two : goal.returns-clause-two

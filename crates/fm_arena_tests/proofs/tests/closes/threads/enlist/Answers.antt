@@ -1,5 +1,4 @@
-use Rattle.std.proofs.Common.{◌≡◌, ◌∙◌, ◌≤◌, List, [], ◌∷◌, ◌++◌, ap, if◌then◌else◌, arith}
-use Rattle.std.specs.Prelude.{is_ok}
+use Rattle.std.{proofs.Common.{◌≡◌, ◌∙◌, ◌≤◌, List, [], ◌∷◌, ◌++◌, ap, if◌then◌else◌, arith}, specs.Prelude.{is_ok}}
 use Rattle.std.proofs.lemmas.List.Elements.{All-same, All-push}
 use Rattle.fm_rule_facts.specs.Views.{View}
 use Rattle.fm_gate.specs.Needs.{CanVisit}

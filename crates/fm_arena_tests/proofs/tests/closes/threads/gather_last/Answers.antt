@@ -1,13 +1,8 @@
-use Rattle.std.proofs.Common.{◌≤◌, Option, subst, arith}
-use Rattle.std.specs.Prelude.{IfSome}
-use Rattle.std.proofs.lemmas.List.Elements.{All-pop}
+use Rattle.std.{proofs.{Common.{◌≤◌, Option, subst, arith}, lemmas.List.Elements.{All-pop}}, specs.Prelude.{IfSome}}
 use Rattle.fm_base.specs.declared.arena_id.ArenaId.{ArenaId}
-use Rattle.fm_rule_facts.specs.Views.{View, given_of}
-use Rattle.fm_rule_facts.specs.Hands.{no_number}
-use Rattle.fm_rule.specs.declared.pool.Pool.{Pool}
-use Rattle.fm_rule.specs.Draws.{Gathers}
-use Rattle.fm_gate.specs.Crews.{CrewStands}
-use Rattle.fm_gate.specs.Needs.{CanVisit}
+use Rattle.fm_rule_facts.specs.{Views.{View, given_of}, Hands.{no_number}}
+use Rattle.fm_rule.specs.{declared.pool.Pool.{Pool}, Draws.{Gathers}}
+use Rattle.fm_gate.specs.{Crews.{CrewStands}, Needs.{CanVisit}}
 use Rattle.fm_arena_tests.specs.Ready.{CanWork}
 use Rattle.fm_arena_tests.proofs.tests.closes.threads.gather_last.Goals as goal
 

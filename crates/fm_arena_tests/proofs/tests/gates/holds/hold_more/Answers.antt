@@ -1,7 +1,6 @@
 use Rattle.std.proofs.Common.{List, sym, subst}
 use Rattle.fm_gate.specs.declared.held.Hold.{Hold}
-use Rattle.fm_arena_tests.specs.Holds.{AreHeld}
-use Rattle.fm_arena_tests.proofs.Holds.{taken}
+use Rattle.fm_arena_tests.{specs.Holds.{AreHeld}, proofs.Holds.{taken}}
 use Rattle.fm_arena_tests.proofs.tests.gates.holds.hold_more.Goals as goal
 
 pub returns : goal.returns

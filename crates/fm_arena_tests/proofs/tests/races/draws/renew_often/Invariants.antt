@@ -1,5 +1,4 @@
-use Rattle.fm_gate.specs.Crews.{HasNothing}
-use Rattle.fm_gate.specs.Needs.{IsOutside}
+use Rattle.fm_gate.specs.{Crews.{HasNothing}, Needs.{IsOutside}}
 use Rattle.fm_arena_tests.proofs.tests.races.draws.renew_often.Given as goal
 
 abbrev pub invariant-loop : goal.invariant-loop

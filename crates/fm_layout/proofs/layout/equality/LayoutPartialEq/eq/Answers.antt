@@ -1,6 +1,5 @@
 use Rattle.std.specs.Bool.{one_answer}
-use Rattle.fm_layout.specs.Same.{same_tree}
-use Rattle.fm_layout.specs.Alike.{same_tree-Decides}
+use Rattle.fm_layout.specs.{Same.{same_tree}, Alike.{same_tree-Decides}}
 use Rattle.fm_layout.proofs.layout.equality.LayoutPartialEq.eq.Goals as goal
 
 pub returns-clause-tested : goal.returns-clause-tested

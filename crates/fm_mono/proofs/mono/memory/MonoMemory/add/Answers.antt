@@ -1,8 +1,6 @@
 use Rattle.std.proofs.Common.{ap, ◌∙◌, refl}
-use Rattle.fm_base.specs.Calls.{Add, Found}
-use Rattle.fm_base.proofs.Learning.{after_act}
-use Rattle.fm_mono.specs.Shown.{Arenas}
-use Rattle.fm_mono.proofs.Alone.{sound_of, did_act, found_at}
+use Rattle.fm_base.{specs.Calls.{Add, Found}, proofs.Learning.{after_act}}
+use Rattle.fm_mono.{specs.Shown.{Arenas}, proofs.Alone.{sound_of, did_act, found_at}}
 use Rattle.fm_mono.proofs.mono.memory.MonoMemory.add.Goals as goal
 
 pub returns : goal.returns

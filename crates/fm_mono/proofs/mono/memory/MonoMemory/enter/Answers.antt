@@ -1,12 +1,7 @@
 use Rattle.std.proofs.Common.{sym, ap, ◌∙◌, ◌∷◌, [], refl, if◌then◌else◌, Bool}
-use Rattle.fm_base.specs.Arenas.{only_caller, Alive, Ended}
-use Rattle.fm_base.specs.Calls.{Enter, Fine, entry_of}
-use Rattle.fm_base.specs.Machine.{enter_reply}
-use Rattle.fm_base.specs.Visits.{refused_visit}
+use Rattle.fm_base.specs.{Arenas.{only_caller, Alive, Ended}, Calls.{Enter, Fine, entry_of}, Machine.{enter_reply}, Visits.{refused_visit}}
 use Rattle.fm_base.proofs.Learning.{after_enter}
-use Rattle.fm_mono.specs.Shown.{Arenas}
-use Rattle.fm_mono.proofs.Alone.{sound_of, makes_one}
-use Rattle.fm_mono.proofs.Visits.{enter_closed}
+use Rattle.fm_mono.{specs.Shown.{Arenas}, proofs.{Alone.{sound_of, makes_one}, Visits.{enter_closed}}}
 use Rattle.fm_mono.proofs.mono.memory.MonoMemory.enter.Goals as goal
 
 pub returns-then-is_alive : goal.returns-then-is_alive

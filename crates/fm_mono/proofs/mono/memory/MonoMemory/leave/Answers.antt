@@ -1,8 +1,6 @@
 use Rattle.std.proofs.Common.{ap, refl}
-use Rattle.fm_base.specs.Calls.{Leave, Fine}
-use Rattle.fm_base.proofs.Learning.{after_leave}
-use Rattle.fm_mono.specs.Shown.{Arenas}
-use Rattle.fm_mono.proofs.Alone.{sound_of, did_act}
+use Rattle.fm_base.{specs.Calls.{Leave, Fine}, proofs.Learning.{after_leave}}
+use Rattle.fm_mono.{specs.Shown.{Arenas}, proofs.Alone.{sound_of, did_act}}
 use Rattle.fm_mono.proofs.mono.memory.MonoMemory.leave.Goals as goal
 
 pub returns : goal.returns

@@ -1,6 +1,5 @@
 use Rattle.std.proofs.Common.{ap, refl}
-use Rattle.fm_base.specs.Calls.{Read, Found}
-use Rattle.fm_base.proofs.Learning.{after_act}
+use Rattle.fm_base.{specs.Calls.{Read, Found}, proofs.Learning.{after_act}}
 use Rattle.fm_mono.proofs.Alone.{sound_of, did_act}
 use Rattle.fm_mono.proofs.mono.memory.MonoMemory.load.Goals as goal
 

@@ -1,8 +1,6 @@
 use Rattle.std.proofs.Common.{ap, ◌∙◌, refl, arith}
-use Rattle.fm_base.specs.Calls.{SwapIf, Found}
-use Rattle.fm_base.proofs.Learning.{after_act}
-use Rattle.fm_mono.specs.Shown.{Arenas}
-use Rattle.fm_mono.proofs.Alone.{sound_of, did_act, found_at, swaps, swaps_not}
+use Rattle.fm_base.{specs.Calls.{SwapIf, Found}, proofs.Learning.{after_act}}
+use Rattle.fm_mono.{specs.Shown.{Arenas}, proofs.Alone.{sound_of, did_act, found_at, swaps, swaps_not}}
 use Rattle.fm_mono.proofs.mono.memory.MonoMemory.swap_if.Goals as goal
 
 pub returns-then-found-old : goal.returns-then-found-old
