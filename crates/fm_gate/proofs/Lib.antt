@@ -15,6 +15,7 @@ pub mod Holds
 pub mod Handles
 pub mod Lasting
 pub mod Living
+mod Aliveness
 pub mod Outliving
 pub mod Crews
 pub mod Counted
