@@ -66,24 +66,14 @@ fn an_update_is_cut_off_at_each_call(rt: HostRuntime) {
     }
 }
 
-/// Before the last call the new value stands.
+/// Cuts an update off before its last call, where this number stands in place of the 1.
+fn stands<R: Abort + AllocGlobal + Wait, A: Access>(rt: &R, update: &A, number: i64) {
+    let walk = Walk::to(Visit::Inside(1), [number, 2, 3]);
+    cut_off(rt, update, 3, walk, true, [0, 0, 0]);
+}
+
 #[test]
 fn an_update_stands_before_it_leaves(rt: HostRuntime) {
-    let inside = Visit::Inside(1);
-    cut_off(
-        &rt,
-        &Adding,
-        3,
-        Walk::to(inside, [6, 2, 3]),
-        true,
-        [0, 0, 0],
-    );
-    cut_off(
-        &rt,
-        &Setting,
-        3,
-        Walk::to(inside, [9, 2, 3]),
-        true,
-        [0, 0, 0],
-    );
+    stands(&rt, &Adding, 6);
+    stands(&rt, &Setting, 9);
 }

@@ -130,12 +130,8 @@ fn empty(alloc: Global) -> Result<Layout, Refusal> {
 #[test]
 fn structs_put_in_no_padding(rt: HostRuntime) {
     let alloc = rt.alloc();
-    makes(
-        &rt,
-        alloc,
-        pair(alloc, ValueKind::Int, ValueKind::Long),
-        "21 1 4",
-    );
+    let int_and_long = pair(alloc, ValueKind::Int, ValueKind::Long);
+    makes(&rt, alloc, int_and_long, "21 1 4");
     makes(&rt, alloc, padded(alloc, 4), "Struct(3) 16 8 .");
     makes(&rt, alloc, empty(alloc), "Struct(0) 0 1 .");
 }
@@ -170,18 +166,10 @@ fn either(alloc: Global, first: ValueKind, second: ValueKind) -> Result<Layout, 
 #[test]
 fn unions_are_as_large_as_the_greatest(rt: HostRuntime) {
     let alloc = rt.alloc();
-    makes(
-        &rt,
-        alloc,
-        either(alloc, ValueKind::Byte, ValueKind::Long),
-        "Union(2) 8 8 .",
-    );
-    makes(
-        &rt,
-        alloc,
-        Ok(Layout::union_of(Vec::new(alloc))),
-        "Union(0) 0 1 .",
-    );
+    let none = union_of(Ok(Vec::new(alloc)));
+    makes(&rt, alloc, none, "Union(0) 0 1 .");
+    let byte_or_long = either(alloc, ValueKind::Byte, ValueKind::Long);
+    makes(&rt, alloc, byte_or_long, "Union(2) 8 8 .");
 }
 
 /// So many longs.

@@ -193,23 +193,30 @@ fn nested_type(alloc: Global, inner: usize, outer: usize) -> Result<String, Allo
     document(alloc, &t, &nested_t(alloc, outer)?)
 }
 
+/// Stops where a text that was made of these two counts isn't read so.
+fn is_read<R: Abort>(
+    rt: &R,
+    alloc: Global,
+    text: Result<String, AllocError>,
+    counts: (usize, usize),
+    wanted: &str,
+) {
+    let found = read_told(alloc, &whole(alloc, text));
+    same(rt, (found.as_str(), counts), (wanted, counts));
+}
+
 /// Stops where t isn't read so, in so many sequences of one.
 fn is_nested<R: Abort>(rt: &R, alloc: Global, inner: usize, outer: usize, wanted: &str) {
-    let text = whole(alloc, nested_type(alloc, inner, outer));
-    same(
-        rt,
-        (read_told(alloc, &text).as_str(), (inner, outer)),
-        (wanted, (inner, outer)),
-    );
+    let text = nested_type(alloc, inner, outer);
+    is_read(rt, alloc, text, (inner, outer), wanted);
 }
 
 #[test]
 fn levels_are_counted_through_refs(rt: HostRuntime) {
     let alloc = rt.alloc();
-    is_nested(&rt, alloc, 39, 0, "Sequence(1) 4 4 .");
-    is_nested(&rt, alloc, 0, 39, "Sequence(1) 4 4 .");
-    is_nested(&rt, alloc, 20, 19, "Sequence(1) 4 4 .");
-    is_nested(&rt, alloc, 1, 38, "Sequence(1) 4 4 .");
+    for (inner, outer) in [(39, 0), (0, 39), (20, 19), (1, 38)] {
+        is_nested(&rt, alloc, inner, outer, "Sequence(1) 4 4 .");
+    }
     // The root of t is node 2, and that of `layout` stands behind t's int, which is node 2 + inner.
     is_nested(&rt, alloc, 40, 0, "41 2");
     is_nested(&rt, alloc, 40, 1, "41 2");
@@ -234,12 +241,7 @@ fn wide_type(alloc: Global, refs: usize, bytes: usize) -> Result<String, AllocEr
 
 /// Stops where a struct of t, so many more of it, and of so many bytes isn't read so.
 fn is_wide<R: Abort>(rt: &R, alloc: Global, refs: usize, bytes: usize, wanted: &str) {
-    let text = whole(alloc, wide_type(alloc, refs, bytes));
-    same(
-        rt,
-        (read_told(alloc, &text).as_str(), (refs, bytes)),
-        (wanted, (refs, bytes)),
-    );
+    is_read(rt, alloc, wide_type(alloc, refs, bytes), (refs, bytes), wanted);
 }
 
 #[test]

@@ -70,13 +70,32 @@ fn size_of(texts: &str) -> u64 {
     first.len() as u64
 }
 
+/// How many reads a run makes, its words, and how it ends where none of its calls fails.
+struct Run<'a> {
+    reads: u64,
+    words: &'a str,
+    status: u8,
+    texts: String,
+}
+
+fn run_of<'a, R: AllocGlobal + Abort>(rt: &R, row: &'a str) -> Run<'a> {
+    let (line, status, texts) = parts_of(rt, row);
+    let (reads, words) = line.split_once(' ').unwrap_or((line, ""));
+    Run {
+        reads: reads.parse().unwrap_or(u64::MAX),
+        words,
+        status,
+        texts,
+    }
+}
+
 /// Compares the status of a run and how many bytes of its texts it writes with what is wanted, where of its calls the
 /// read and the write of these numbers fail.
-fn ends_at<R>(rt: &R, run: (&str, &str), failing: (u64, u64), wanted: (u8, u64))
+fn ends_at<R>(rt: &R, run: &Run, failing: (u64, u64), wanted: (u8, u64))
 where
     R: Threads + Wait + Sync + RandomSource + AllocGlobal + Abort,
 {
-    let (words, texts) = run;
+    let (words, texts) = (run.words, run.texts.as_str());
     let (read, write) = failing;
     let (status, count) = wanted;
     let mut files = files(rt.alloc(), read).expect(rt, "memory");
@@ -102,45 +121,39 @@ where
 
 /// Compares how a run ends where each byte is read by a call of its own, and each of these calls fails in turn: nothing
 /// is written then. Where none fails all is written.
-fn ends_at_each_read<R>(rt: &R, row: &str)
+fn ends_at_each_read<R>(rt: &R, run: &Run)
 where
     R: Threads + Wait + Sync + RandomSource + AllocGlobal + Abort,
 {
-    let (line, status, texts) = parts_of(rt, row);
-    let (reads, words) = line.split_once(' ').unwrap_or((line, ""));
-    let reads: u64 = reads.parse().unwrap_or(u64::MAX);
-    let run = (words, texts.as_str());
-    for read in 0..reads {
+    for read in 0..run.reads {
         ends_at(rt, run, (read, u64::MAX), (3, 0));
     }
-    ends_at(rt, run, (reads, u64::MAX), (status, size_of(&texts)));
-}
-
-/// The same for writes: the bytes before the one that fails are written.
-fn ends_at_each_write<R>(rt: &R, row: &str)
-where
-    R: Threads + Wait + Sync + RandomSource + AllocGlobal + Abort,
-{
-    let (line, status, texts) = parts_of(rt, row);
-    let (_, words) = line.split_once(' ').unwrap_or((line, ""));
-    let run = (words, texts.as_str());
-    let size = size_of(&texts);
-    for write in 0..size {
-        ends_at(rt, run, (u64::MAX, write), (8, write));
-    }
-    ends_at(rt, run, (u64::MAX, size), (status, size));
+    let size = size_of(&run.texts);
+    ends_at(rt, run, (run.reads, u64::MAX), (run.status, size));
 }
 
 #[test]
 fn each_read_that_fails_ends_its_run(rt: HostRuntime) {
     for row in RUNS.lines() {
-        ends_at_each_read(&rt, row);
+        ends_at_each_read(&rt, &run_of(&rt, row));
     }
+}
+
+/// The same for writes: the bytes before the one that fails are written.
+fn ends_at_each_write<R>(rt: &R, run: &Run)
+where
+    R: Threads + Wait + Sync + RandomSource + AllocGlobal + Abort,
+{
+    let size = size_of(&run.texts);
+    for write in 0..size {
+        ends_at(rt, run, (u64::MAX, write), (8, write));
+    }
+    ends_at(rt, run, (u64::MAX, size), (run.status, size));
 }
 
 #[test]
 fn each_write_that_fails_leaves_the_bytes_before_it(rt: HostRuntime) {
     for row in RUNS.lines() {
-        ends_at_each_write(&rt, row);
+        ends_at_each_write(&rt, &run_of(&rt, row));
     }
 }

@@ -81,6 +81,18 @@ fn records_of<R: AllocGlobal + Abort>(rt: &R, (size, count): (usize, usize)) -> 
     SureFiles::new(with_records(rt, layout.as_bytes(), repeating(rt, count)))
 }
 
+#[test]
+fn a_list_goes_across_chunks_in_the_order_of_the_file(rt: HostRuntime) {
+    let mut files = records_of(&rt, (700_000, 3_500_000));
+    let text = "list(.a) 0 -44 -83 -122 95\n";
+    line_ends(&rt, &mut files, "stream --threads 1 L list(.a) R", 0, text);
+    line_ends(&rt, &mut files, "stream --threads 3 L list(.a) R", 0, text);
+    // Each chunk has a crew of its own, whose calls are counted from 0.
+    let row =
+        "stream L list(.a) R -> 0 list(.a) 0 -44 -83 -122 95| by 1: +0 -0 +0 -0 +0 -0 +0 -0 +0 -0|";
+    row_passes(&rt, &mut files, row);
+}
+
 /// How many bytes a record and the file have, and what a stream of it ends with. A chunk has as many records as fit in
 /// 1,048,576 bytes: the files end before, at, and behind a chunk's end.
 const SIZES: &str = "\
@@ -97,15 +109,15 @@ const SIZES: &str = "\
 700000 3499999 -> 6 ragged 699999|";
 
 /// The size of a record and that of the file.
-fn sizes_of(line: &str) -> (usize, usize) {
-    let (size, count) = line.split_once(' ').unwrap_or((line, ""));
-    (size.parse().unwrap_or(0), count.parse().unwrap_or(0))
+fn sizes_of(line: &str) -> Option<(usize, usize)> {
+    let (size, count) = line.split_once(' ')?;
+    Some((size.parse().ok()?, count.parse().ok()?))
 }
 
 /// Compares how a stream of a row's sizes ends with what the row tells.
 fn size_ends<R: Threads + Wait + Sync + RandomSource + AllocGlobal + Abort>(rt: &R, row: &str) {
     let (line, status, text) = parts_of(rt, row);
-    let mut files = records_of(rt, sizes_of(line));
+    let mut files = records_of(rt, sizes_of(line).expect(rt, "two sizes"));
     let words = ["stream", "L", "count,sum(.a),min(.a),max(.a)", "R"];
     ends(rt, &mut files, &words, status, &text);
 }
@@ -115,18 +127,6 @@ fn records_of_any_size_fill_chunks(rt: HostRuntime) {
     for row in SIZES.lines() {
         size_ends(&rt, row);
     }
-}
-
-#[test]
-fn a_list_goes_across_chunks_in_the_order_of_the_file(rt: HostRuntime) {
-    let mut files = records_of(&rt, (700_000, 3_500_000));
-    let text = "list(.a) 0 -44 -83 -122 95\n";
-    line_ends(&rt, &mut files, "stream --threads 1 L list(.a) R", 0, text);
-    line_ends(&rt, &mut files, "stream --threads 3 L list(.a) R", 0, text);
-    // Each chunk has a crew of its own, whose calls are counted from 0.
-    let row =
-        "stream L list(.a) R -> 0 list(.a) 0 -44 -83 -122 95| by 1: +0 -0 +0 -0 +0 -0 +0 -0 +0 -0|";
-    row_passes(&rt, &mut files, row);
 }
 
 /// A layout of so many bytes in one sequence, and a record file of so many.
