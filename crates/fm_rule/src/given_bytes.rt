@@ -11,7 +11,7 @@ use crate::finishing::Finished;
 use crate::words::alive_holds;
 use fm_base::{ArenaId, Refusal};
 use fm_words::Shape;
-use std::alloc::Global;
+use std::alloc::{AllocError, Global};
 
 impl Finished {
     /// The bytes that the arena, which was opened in the history, has given; None exactly where it isn't alive. Words tell
@@ -82,11 +82,10 @@ impl Finished {
         }
     }
 
-    /// The bytes that an arena has given that is alive. Refused: `Memory`.
-    fn collect(&self, alloc: Global, id: ArenaId) -> Result<Vec<u8>, Refusal>
+    /// The bytes that an arena has given that is alive.
+    fn collect(&self, alloc: Global, id: ArenaId) -> Result<Vec<u8>, AllocError>
         requires { HasBytes self.now id }
-        ensures bytes { IfOk result (λ bytes. bytes.items ≡ given_bytes self.now id) }
-        ensures memory { IfErr result (λ e. e ≡ Memory) }
+        ensures { IfOk result (λ bytes. bytes.items ≡ given_bytes self.now id) }
     {
         let given = self.word(self.shape.given_place(id.slot));
         let mut bytes = Vec::new(alloc);
@@ -94,9 +93,7 @@ impl Finished {
         for k in 0..given {
             word = self.word_after(id, k, word);
             let byte = ((word >> (8 * (k % 8))) % 256) as u8;
-            if bytes.push(byte).is_err() {
-                return Err(Refusal::Memory);
-            }
+            bytes.push(byte)?;
         }
         Ok(bytes)
     }

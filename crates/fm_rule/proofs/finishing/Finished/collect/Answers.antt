@@ -1,5 +1,4 @@
-use Rattle.std.proofs.Common.{◌≡◌, ◌⊎◌, inl, inr, refl, zero, suc, ◌+◌, ◌/◌, ◌%◌, ◌<◌, List, ◌++◌, ◌∷◌, [], ℕ, Bool, true, not, if◌then◌else◌, ap, ◌∙◌, subst, arith}
-use Rattle.std.specs.Prelude.{is_ok}
+use Rattle.std.proofs.Common.{◌≡◌, ◌⊎◌, inl, inr, refl, zero, suc, ◌+◌, ◌/◌, ◌%◌, ◌<◌, List, ◌++◌, ◌∷◌, [], ℕ, ap, ◌∙◌, subst, arith}
 use Rattle.fm_words.specs.{declared.shape.Shape.{Shape}, Places.{at, given as given_place}}
 use Rattle.fm_base_bytes.specs.Words.{byte_of}
 use Rattle.fm_base.specs.{Arenas.{State, word_in}, declared.arena_id.ArenaId.{ArenaId}}
@@ -24,14 +23,12 @@ next s a k word (suc r) e is = inr (is ∙ ap (word_in s a) (let same : k / 8 �
 
 pub loop-k-preserved : goal.loop-k-preserved
 loop-k-preserved c =
-    let old : List ℕ = c.loop-k.bytes.items in
     let value : ℕ = byte_of c.word_after-word.result (c.loop-k.k % 8) in
-    let ok : is_ok c.push.result ≡ true = c.is_err.ensures.negation ∙ ap not c.if-is_err.false in
     let low = subst (λ (n : ℕ). c.loop-k.k < n) (given_now c.args.self.now c.args.id c.requires c.self.inside.shape (shape_in _ _ c.self.view_is)
     c.given_place.result c.word-given.result c.given_place.ensures c.word-given.ensures) c.loop-k-test.true in (
-      c.push.ensures.items ∙ (ap (λ (b : Bool). if b then old ++ value ∷ [] else old) ok
+      (c.in_ok-push.ensures {u = tt}).items
           ∙ (ap (λ (bs : List ℕ). bs ++ value ∷ []) c.loop-k.invariant.0
           ∙ one_byte c.args.self.now (finished_in _ _ c.self.view_is c.self.invariant) c.args.id c.requires c.loop-k.k value low
-          (ap (λ (w : ℕ). byte_of w (c.loop-k.k % 8)) c.word_after-word.ensures))),
+          (ap (λ (w : ℕ). byte_of w (c.loop-k.k % 8)) c.word_after-word.ensures)),
       next _ _ c.loop-k.k _ _ refl c.word_after-word.ensures,
     )
