@@ -11,6 +11,10 @@ use Rattle.fm_records.specs.Reads.{AreReadsUpTo, FindsItems, FindsRecord, LiesIn
 use Rattle.fm_records.{specs.{Words.{Seen}, Records.{pieces}}, proofs.{Behind.{length-record_places, places_split}, Few.{records_few}}}
 use Rattle.fm_records.proofs.{Ordered.{adds_one, added_cut, added_none, added_on}, Seeing.{seen_reads, sees_err, sees_ok, sees_on}, Visiting.{AreReads-none}}
 
+-- The records up to the next one.
+pub one_on : (k size : ℕ) → suc k * size ≡ k * size + size
+one_on k size = grind arith
+
 -- ---- one record
 
 abbrev Tested : Region → ℕ → List Condition → List Seen → View → View → Result Bool Refusal → List Seen → Type 0

@@ -1,15 +1,12 @@
 -- The values of a column are gone through one by one.
-use Rattle.std.proofs.Common.{◌≡◌, ℕ, ◌∷◌, [], Ok, Err, ◌+◌, ◌*◌, ◌/◌, ◌<◌, ◌∙◌, ap, suc, subst, arith}
+use Rattle.std.proofs.Common.{◌≡◌, ℕ, ◌∷◌, [], Ok, Err, ◌/◌, ◌<◌, ◌∙◌, ap, subst, arith}
 use Rattle.fm_records.proofs.Columns.{column_can, column_recorded}
-use Rattle.fm_records.proofs.{Recording.{next_lies, next_room, recorded_all, recorded_more, recorded_none, recorded_stops}, Visiting.{can_still}}
+use Rattle.fm_records.proofs.{Recording.{next_lies, next_room, one_on, recorded_all, recorded_more, recorded_none, recorded_stops}, Visiting.{can_still}}
 use Rattle.fm_records.proofs.column.add_column_as.Goals as goal
 
 pub loop-init : goal.loop-init
 loop-init g c =
     (recorded_none (g.M.Memory.view c.args.m.now) c.args.s.now c.args.q.now (g.A.Adder.found c.args.adder.now ∷ []), omega (arith, c.first-place.ensures.first))
-
-one_on : (k size : ℕ) → suc k * size ≡ k * size + size
-one_on k size = grind arith
 
 below : {n k size : ℕ} (j : ℕ) → n ≡ size → (m : ℕ) → k ≡ m → j < n / k → j < size / m
 below {n} {k} {size} j is m same h = subst (λ (i : ℕ). j < i) (ap (λ i. i / k) is ∙ ap (λ i. size / i) same) h

@@ -1,10 +1,7 @@
 -- Records are gone through one by one.
-use Rattle.std.proofs.Common.{◌≡◌, ℕ, ◌+◌, ◌*◌, ◌/◌, ◌<◌, ◌∙◌, ap, suc, subst, arith}
-use Rattle.fm_records.proofs.{Recording.{next_lies, next_room, recorded_all, recorded_more, recorded_none, recorded_stops}, Visiting.{can_still}}
+use Rattle.std.proofs.Common.{◌/◌, ◌<◌, ◌∙◌, ap, subst, arith}
+use Rattle.fm_records.proofs.{Recording.{next_lies, next_room, one_on, recorded_all, recorded_more, recorded_none, recorded_stops}, Visiting.{can_still}}
 use Rattle.fm_records.proofs.query.add_each.Goals as goal
-
-one_on : (k size : ℕ) → suc k * size ≡ k * size + size
-one_on k size = grind arith
 
 pub loop-init : goal.loop-init
 loop-init g c =
