@@ -1,4 +1,5 @@
 pub mod Appended
+pub mod Asked
 pub mod Counting
 pub mod Filled
 pub mod Listed
