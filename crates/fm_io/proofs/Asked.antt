@@ -1,8 +1,8 @@
 -- What one question to the system comes to.
-use Rattle.std.proofs.Common.{◌≡◌, ◌≢◌, ℕ, List, Option, None, Result, Ok, Err, IsErrAnd, ap, subst}
+use Rattle.std.proofs.Common.{◌≡◌, ◌≢◌, ℕ, List, Option, Result, Ok, Err, subst}
 use Rattle.std.specs.declared.io.Error.{Error}
 use Rattle.fm_io.specs.{Host.{AsksOnce, AsksOn, ComesTo, EndsAt, Question, question, way_to}}
-use Rattle.fm_io.specs.declared.{fault.Fault.{Fault, TheVariants.{Memory}}, files.Piece.{Piece}, system.Way.{Way, TheVariants.{Open}}}
+use Rattle.fm_io.specs.declared.{fault.Fault.{Fault, TheVariants.{Memory}}, files.Piece.{Piece}, system.Way.{Way}}
 
 -- an answer is never that memory ran out
 never_memory : (answer : Result ℕ Error) (result : Result Piece Fault) → ComesTo answer result → result ≢ Err Memory
@@ -14,26 +14,18 @@ pub asked_once : {S : Type 0} {told : S → Option (List Question)} {old mid new
     {way : Way} {result : Result Piece Fault} (answer : Result ℕ Error) → mid ≡ old → way ≡ way_to next had name place → has ≡ name
     → AsksOn (told mid) (told new) (question way name place room answer) → ComesTo answer result → EndsAt place answer after
     → AsksOnce told old new next had has name place room result after
-asked_once {S = S} {told = told} {old = old} {new = new} {name = name} {place = place} {room = room} {way = way} {result = result} answer same is kept noted comes left =
+asked_once {S} {told} {old} {mid} {new} {next} {after} {had} {has} {name} {place} {room} {way} {result} answer same is kept noted comes left =
     let never = never_memory answer result comes in
     record {
-      asked = λ no. record { answer = answer; noted = subst (λ (w : Way). AsksOn (told old) (told new) (question w name place room answer)) is
-          (subst (λ (s : S). AsksOn (told s) (told new) (question way name place room answer)) same noted); told = comes; left = left };
+      asked = λ no. record {
+        answer = answer;
+        noted = subst (λ (w : Way). AsksOn (told old) (told new) (question w name place room answer)) is
+            (subst (λ (s : S). AsksOn (told s) (told new) (question way name place room answer)) same noted);
+        told = comes;
+        left = left;
+      };
       kept = λ no. kept;
       opens = λ out. absurd (never out);
       unasked = λ out. absurd (never out);
       closed = λ out. absurd (never out);
     }
-
--- nothing was asked, since memory ran out
-pub not_asked : {S : Type 0} {told : S → Option (List Question)} {old new : S} {next after : Option ℕ} {had has name : List ℕ} {place room : ℕ}
-    (result : Result Piece Fault) → new ≡ old → way_to next had name place ≡ Open → after ≡ None → IsErrAnd result (λ e. e ≡ Memory)
-    → AsksOnce told old new next had has name place room result after
-not_asked (Ok x) same opens closed is = absurd is
-not_asked (Err e) same opens closed is = record {
-  asked = λ no. absurd (no (ap Err is));
-  kept = λ no. absurd (no (ap Err is));
-  opens = λ out. opens;
-  unasked = λ out. same;
-  closed = λ out. closed;
-}

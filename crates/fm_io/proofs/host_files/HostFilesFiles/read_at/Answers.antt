@@ -1,11 +1,6 @@
 use Rattle.std.proofs.Common.{ap}
-use Rattle.fm_io.proofs.Asked.{asked_once, not_asked}
+use Rattle.fm_io.proofs.Asked.{asked_once}
 use Rattle.fm_io.proofs.host_files.HostFilesFiles.read_at.Goals as goal
-
-pub returns-in_err-way-clause-asks : goal.returns-in_err-way-clause-asks
-returns-in_err-way-clause-asks g c =
-    not_asked c.from_residual.result (ap (λ f. f.system) c.in_err-way.ensures.rest) c.in_err-way.ensures.opens c.in_err-way.ensures.closed
-    c.from_residual.ensures.1
 
 pub returns-in-Ok-Missing-clause-asks : goal.returns-in-Ok-Missing-clause-asks
 returns-in-Ok-Missing-clause-asks g c =
