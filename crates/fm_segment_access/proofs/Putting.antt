@@ -124,5 +124,16 @@ put_one {old} {now} id place width number v (Err r) some fits e out then d =
     let first : IsPutting PutsOn old old id place (place + width) (bytes_of width number) place = put_starts PutsOn (omega arith) out in
     put_refused first r (omega arith) d
 
+-- One piece more of a number.
+pub puts_number_on : {old now next : View} {id : ArenaId} {place end at : ℕ} (width number : ℕ)
+    → IsPutting PutsOn old now id place end (bytes_of width number) at → (piece v : ℕ) → at < end → piece ≡ piece_width at end
+    → v ≡ lane number (at - place) piece → next.inside ≡ None
+    → Did now next (DoesPutPiece now.caller id at piece v (Ok tt)) → IsPutting PutsOn old next id place end (bytes_of width number) (at + piece)
+puts_number_on {place = place} {at = at} width number p piece v more w is out d =
+    let above = p.above in
+    let is_end = p.is_end in
+    let len = length-bytes_of width number in
+    puts_piece_on p piece v more w (is ∙ lane-number_of width (at - place) piece number (omega arith)) out d
+
 -- The start and a step of a loop that puts a number.
 pub ruleset puts_number = (put_starts, puts_piece_on, length-bytes_of, lane-number_of)

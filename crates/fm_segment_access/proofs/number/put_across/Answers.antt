@@ -1,6 +1,6 @@
-use Rattle.std.proofs.{Common.{◌+◌, ◌≤◌, arith}, lemmas.Result.{err_from_is_err_and}}
+use Rattle.std.proofs.{Common.{◌+◌, ◌≤◌, ◌∙◌, arith, ap, sym}, lemmas.Result.{err_from_is_err_and}}
 use Rattle.fm_base_bytes.proofs.Bytes.{length-bytes_of}
-use Rattle.fm_segment_access.proofs.{Putting.{put_lasts, put_refused, puts_all}, Touching.{can_touch}}
+use Rattle.fm_segment_access.{specs.Ranges.{PutsOn}, proofs.{Putting.{put_lasts, put_refused, put_starts, puts_all, puts_number_on}, Touching.{can_touch}}}
 use Rattle.fm_segment_access.proofs.number.put_across.Goals as goal
 
 pub put_piece-requires-clause-piece : goal.put_piece-requires-clause-piece
@@ -19,3 +19,12 @@ pub returns : goal.returns
 returns g c =
     puts_all c.loop-at.invariant (let f = c.loop-at-test.false in omega arith)
     (let s = c.requires.some in omega (arith, length-bytes_of c.args.width c.args.number))
+
+pub loop-at-init : goal.loop-at-init
+loop-at-init g c =
+    put_starts PutsOn (ap (λ n. c.args.place + n) (c.from.ensures ∙ sym (length-bytes_of c.args.width c.args.number))) c.requires.outside
+
+pub loop-at-preserved : goal.loop-at-preserved
+loop-at-preserved g c =
+    rw c.from-at.ensures (puts_number_on c.args.width c.args.number c.loop-at.invariant c.piece_width-piece.result c.read-part.result
+    c.loop-at-test.true c.piece_width-piece.ensures.value c.read-part.ensures c.put_piece.ensures.outside c.in_ok-put_piece.ensures.did)
