@@ -1,8 +1,9 @@
 -- A range that is filled with one byte.
-use Rattle.std.proofs.Common.{◌≡◌, ℕ, ◌+◌, ◌-◌, ◌*◌, ◌<◌, ◌≤◌, take, drop, replicate, sym, ap, ◌∙◌, arith}
+use Rattle.std.proofs.Common.{◌≡◌, ℕ, ◌+◌, ◌-◌, ◌*◌, ◌<◌, ◌≤◌, take, drop, replicate, sym, ap, ◌∙◌, arith, None, Ok}
 use Rattle.std.proofs.lemmas.List.{length-replicate, take-replicate, drop-replicate, Elements.{All-replicate}}
+use Rattle.fm_base.specs.{declared.arena_id.ArenaId.{ArenaId}, View.{View, Did}, Visits.{piece_width}}
 use Rattle.fm_base_bytes.{specs.Bytes.{AreBytes, bytes_of, number_of, lane}, proofs.Bytes.{bytes_of-number_of, lane-number_of}}
-use Rattle.fm_segment_access.proofs.Putting.{put_starts, puts_piece_on}
+use Rattle.fm_segment_access.{specs.{Pieces.{DoesPutPiece}, Ranges.{PutsOn}}, proofs.Putting.{IsPutting, put_starts, puts_piece_on}}
 
 -- Copies of a byte are bytes.
 pub AreBytes-replicate : (n byte : ℕ) → byte < 256 → AreBytes (replicate n byte)
@@ -23,6 +24,15 @@ copies word width byte left size e h fits =
     lane-number_of 8 0 width word in_word
     ∙ ap (λ bs. number_of (take width bs)) e
     ∙ ap number_of (take-replicate width 8 byte h ∙ sym (ap (take width) (drop-replicate left size byte) ∙ take-replicate width (size - left) byte few))
+
+-- One piece more is filled.
+pub fills_on : {old now next : View} {id : ArenaId} {place at : ℕ} (size byte : ℕ) → IsPutting PutsOn old now id place (place + size) (replicate size byte) at
+    → (word width v : ℕ) → bytes_of 8 word ≡ replicate 8 byte → at < place + size → width ≡ piece_width at (place + size) → v ≡ lane word 0 width
+    → next.inside ≡ None → Did now next (DoesPutPiece now.caller id at width v (Ok tt))
+    → IsPutting PutsOn old next id place (place + size) (replicate size byte) (at + width)
+fills_on {place = place} {at = at} size byte p word width v e more w is out d =
+    let above = p.above in
+    puts_piece_on p width v more w (is ∙ copies word width byte (at - place) size e (omega arith) (omega arith)) out d
 
 -- The start and a step of a loop that fills.
 pub ruleset puts_copies = (put_starts, puts_piece_on, length-replicate, copies)

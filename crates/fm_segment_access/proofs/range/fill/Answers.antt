@@ -1,6 +1,6 @@
-use Rattle.std.proofs.{Common.{◌<◌, arith, ap, replicate}, lemmas.{List.{length-replicate}, Result.{err_from_is_err_and}}}
-use Rattle.fm_segment_access.{specs.Ranges.{PutsOn}, proofs.{Filling.{AreBytes-replicate}, Learnt.{after_no_bytes, after_bytes}}}
-use Rattle.fm_segment_access.proofs.{Putting.{put_lasts, put_refused, puts_all}, PuttingAlone.{pieces_put}, Touching.{can_touch}}
+use Rattle.std.proofs.{Common.{◌<◌, ◌+◌, arith, ap, replicate, sym}, lemmas.{List.{length-replicate}, Result.{err_from_is_err_and}}}
+use Rattle.fm_segment_access.{specs.Ranges.{PutsOn}, proofs.{Filling.{AreBytes-replicate, fills_on}, Learnt.{after_no_bytes, after_bytes}}}
+use Rattle.fm_segment_access.proofs.{Putting.{put_lasts, put_refused, put_starts, puts_all}, PuttingAlone.{pieces_put}, Touching.{can_touch}}
 use Rattle.fm_segment_access.proofs.range.fill.Goals as goal
 
 pub returns-then-size-eq0 : goal.returns-then-size-eq0
@@ -26,3 +26,11 @@ returns g c =
     let some : 0 < c.args.size = (let f = c.if-size-eq0.false in omega arith) in
     after_bytes pieces_put c.args.size c.requires some (AreBytes-replicate c.args.size c.args.byte (omega arith))
     (puts_all c.loop-at.invariant (let f = c.loop-at-test.false in omega arith) (rw length-replicate some))
+
+pub loop-at-init : goal.loop-at-init
+loop-at-init g c = put_starts PutsOn (ap (λ n. c.args.place + n) (sym (length-replicate c.args.size c.args.byte))) c.requires.outside
+
+pub loop-at-preserved : goal.loop-at-preserved
+loop-at-preserved g c =
+    rw c.from-at.ensures (fills_on c.args.size c.args.byte c.loop-at.invariant c.word_of-word.result c.piece_width-width.result c.read-part.result
+    c.word_of-word.ensures c.loop-at-test.true c.piece_width-width.ensures.value c.read-part.ensures c.put_piece.ensures.outside c.in_ok-put_piece.ensures.did)
