@@ -1,5 +1,5 @@
 -- What a caller learns of each access of this crate, from what it did.
-use Rattle.std.proofs.{Common.{◌≡◌, ℕ, ◌<◌, ◌==◌, true, false, List, [], refl, None, Result, Ok, arith}, lemmas.Bool.Decides.{nat_tests}}
+use Rattle.std.proofs.{Common.{◌≡◌, ℕ, ◌<◌, ◌==◌, true, false, List, [], refl, sym, subst, None, Result, Ok, arith}, lemmas.Bool.Decides.{nat_tests}}
 use Rattle.fm_segment_access.proofs.{Alone.{read_alone, read_shut, puts_none, changes}, Learning.{reads, puts, after_did, after_call, after_said, if_err}}
 use Rattle.fm_segment_access.proofs.{PuttingAlone.{ArePuts, pieces_put, put_alone, put_shut}, Values.{AreBytes-value, got_fits, got_kind, puts_value}}
 use Rattle.fm_segment_access.specs.{Found.{UseCause}, Learnt.{CanTouch, CanTouchNumber, AfterGet, AfterPutBy, AfterSome, AfterGetValue, AfterPutValue}}
@@ -54,6 +54,11 @@ after_get_value {old} {new} {k} o {id} {place} {result} can d =
     after_call (reads (value_of k o) old.caller id (width_of k) place) can.outside (λ e u. u) (λ l. l.known id can.known)
     (read_alone (value_of k o) old new id place (width_of k)) (read_shut (value_of k o) old new id place (width_of k))
     (λ v d. got_kind old.caller k o id place v d.own d.does) result d
+
+-- The same for a kind that is named otherwise.
+pub after_get_as : {old new : View} {k j : ValueKind} (o : Order) {id : ArenaId} {place : ℕ} {result : Result Value Refusal} → k ≡ j
+    → AfterGetValue old new id place j o result → AfterGetValue old new id place k o result
+after_get_as {old} {new} o {id} {place} {result} same a = subst (λ (x : ValueKind). AfterGetValue old new id place x o result) (sym same) a
 
 -- All that is learnt of `put_value`.
 pub after_put_value : {old new : View} {o : Order} {id : ArenaId} {place : ℕ} {v : Value} {result : Result (Unit {0}) Refusal}
