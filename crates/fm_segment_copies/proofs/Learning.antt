@@ -1,11 +1,11 @@
 -- What a caller learns of calls on two ranges, from what they did.
-use Rattle.std.{proofs.Common.{◌≡◌, ℕ, ◌<◌, ◌≤◌, List, ap, ◌∙◌, arith, Option, Some, None, Result, Ok, Err}, specs.Option.{ForSome}}
+use Rattle.std.{proofs.Common.{◌≡◌, ℕ, ◌<◌, ◌≤◌, List, [], ap, refl, ◌∙◌, arith, Option, Some, None, Result, Ok, Err}, specs.Option.{ForSome}}
 use Rattle.fm_base.specs.{declared.{caller.Caller.{Caller}, refusal.Refusal.{Refusal, TheVariants.{Closed, WrongThread}}}, Calls.{Entry}}
 use Rattle.fm_base.specs.{Histories.{IsLegal, state_after}, Outcomes.{Lasts}, View.{View, Did, IsByItself}, Visits.{Run, ends, goes_on}}
-use Rattle.fm_base.proofs.Faith.{Makes-alone}
+use Rattle.fm_base.proofs.{Faith.{Makes-alone}, Making.{Makes-none}}
 use Rattle.fm_segment_access.{specs.Learnt.{After}, proofs.{Going.{run_ends}, Learning.{after_outside}}}
 use Rattle.fm_segment_copies.specs.{declared.side.Side.{Side}, Alone.{StaysOutOf}, Comparisons.{DoesCompare}, Copies.{DoesCopy}}
-use Rattle.fm_segment_copies.specs.{Learnt.{CanTouchBoth, KnowsBoth, BothCause, AfterCopy, AfterCompare}, Sides.{MayUseBoth, DoesOnBoth}}
+use Rattle.fm_segment_copies.specs.{Learnt.{CanTouchBoth, KnowsBoth, BothCause, AfterCopy, AfterCompare}, Sides.{IsForOthers, MayUseBoth, DoesOnBoth}}
 use Rattle.fm_segment_copies.proofs.{ComparingAlone.{compare_alone, compare_stops}, CopyingAlone.{copy_alone, copy_stops}, Refusing.{AreShut}}
 
 -- A run that was refused at a piece had a byte to go.
@@ -65,6 +65,11 @@ pub after_copy : {old new : View} {a b : Side} {count : ℕ} {result : Result (U
 after_copy {old} {new} {a} {b} {count} {result} can out d =
     after_both _ _ can out (λ own s. let some = run_some (λ l es k x. x.more) (λ l es e. e.0) s.visits in (some, s.may_use some))
     (copy_stops old a b count) (λ u d h. copy_alone old new a b count u can.second_known d h) (λ u d. tt) result d
+
+-- Of a copy that makes no access, by a thread that may not use both arenas.
+pub copy_refused : {old : View} {a b : Side} {count : ℕ} → CanTouchBoth old a b count → IsForOthers old.caller a b count
+    → AfterCopy old old a b count (Err WrongThread)
+copy_refused {old} can others = after_copy can can.outside (record { own = []; does = (others, refl); makes = Makes-none old })
 
 -- Of a comparison.
 pub after_compare : {old new : View} {a b : Side} {count : ℕ} {result : Result (Option ℕ) Refusal} → CanTouchBoth old a b count → new.inside ≡ None

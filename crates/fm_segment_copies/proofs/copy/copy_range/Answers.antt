@@ -1,5 +1,6 @@
 use Rattle.std.proofs.{Common.{arith}, lemmas.Result.{err_from_is_err_and}}
-use Rattle.fm_segment_copies.proofs.{Copying.{copy_stops, copy_done}, Learning.{after_copy}, Touching.{can_touch_pieces}}
+use Rattle.fm_segment_copies.proofs.{Copying.{copy_goes_on, copy_stops, copy_done}, Learning.{after_copy, copy_refused}}
+use Rattle.fm_segment_copies.proofs.Touching.{can_touch_pieces, way_starts}
 use Rattle.fm_segment_copies.proofs.copy.copy_range.Goals as goal
 
 pub copy_piece-requires : goal.copy_piece-requires
@@ -17,3 +18,14 @@ pub returns : goal.returns
 returns g c =
     after_copy c.requires c.loop-left.invariant.outside
     (copy_done c.loop-left.invariant c.way_of-way.ensures (let t = c.loop-left-test.false in omega arith))
+
+pub returns-then-is_wrong_thread : goal.returns-then-is_wrong_thread
+returns-then-is_wrong_thread g c = copy_refused c.requires (c.is_wrong_thread.ensures.yes c.if-is_wrong_thread.true)
+
+pub loop-left-init : goal.loop-left-init
+loop-left-init g c = way_starts (c.is_wrong_thread.ensures.no c.if-is_wrong_thread.false) c.requires.outside
+
+pub loop-left-preserved : goal.loop-left-preserved
+loop-left-preserved g c =
+    rw c.from-left.ensures (copy_goes_on c.loop-left.invariant c.next_piece-piece.result c.loop-left-test.true c.next_piece-piece.ensures.value
+    c.copy_piece.ensures.outside c.in_ok-copy_piece.ensures.did)
