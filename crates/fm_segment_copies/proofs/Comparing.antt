@@ -1,7 +1,8 @@
 -- A comparison, as far as it has come.
-use Rattle.std.proofs.Common.{◌≡◌, ℕ, ◌+◌, ◌-◌, ◌<◌, [], ◌++◌, arith, refl, subst, Option, Some, None, Ok, Err}
+use Rattle.std.proofs.Common.{◌≡◌, ℕ, ◌+◌, ◌-◌, ◌*◌, ◌%◌, ◌^◌, ◌<◌, [], ◌++◌, arith, refl, sym, subst, Option, Some, None, Ok, Err}
 use Rattle.fm_base.specs.{declared.{caller.Caller.{Caller}, refusal.Refusal.{Refusal, TheVariants.{Closed}}}, View.{View, Did}}
 use Rattle.fm_base.proofs.Making.{Makes-then, Makes-none}
+use Rattle.fm_base_bytes.proofs.Bytes.{lane-lt}
 use Rattle.fm_segment_access.{specs.Pieces.{ReadsPiece, DoesGetPiece}, proofs.Touching.{said}}
 use Rattle.fm_segment_copies.specs.{declared.side.{Side.{Side}, Piece.{Piece}, Way.TheVariants.{Up}}, Sides.{next_piece}}
 use Rattle.fm_segment_copies.specs.Comparisons.{IsDifference, ComparesPiece, DoesComparePiece, AgreesOn, EndsComparing, Compares, DoesCompare}
@@ -28,6 +29,13 @@ compared {x} {y} {z} a b p v w d e i = record {
   };
   makes = Makes-then x y z d.own e.own d.makes e.makes;
 }
+
+-- A number that was read is one of so many bytes.
+pub read_fits : {x y : View} (a : Side) (p : Piece) (v : ℕ) → Did x y (DoesGetPiece x.caller a.arena (a.at + p.offset) p.width (Ok v))
+    → v < 2 ^ (8 * p.width)
+read_fits a p v d =
+    let r = d.does.1 in
+    subst (λ (n : ℕ). n < 2 ^ (8 * p.width)) (sym r.value) (lane-lt r.word ((a.at + p.offset) % 8) p.width)
 
 -- ---- all pieces
 

@@ -1,6 +1,6 @@
 use Rattle.std.proofs.lemmas.Result.{err_from_is_err_and}
-use Rattle.fm_segment_access.proofs.Touching.{visited}
-use Rattle.fm_segment_copies.{specs.Comparisons.{ComparesPiece}, proofs.{Comparing.{compared}, Stopping.{stopped_first, stopped_second}}}
+use Rattle.fm_segment_access.proofs.Touching.{touch_again, visited}
+use Rattle.fm_segment_copies.{specs.Comparisons.{ComparesPiece}, proofs.{Comparing.{compared, read_fits}, Stopping.{stopped_first, stopped_second}}}
 use Rattle.fm_segment_copies.proofs.mismatch.compare_piece.Goals as goal
 
 pub returns-in_err-v : goal.returns-in_err-v
@@ -22,3 +22,12 @@ pub returns : goal.returns
 returns g c =
     visited (compared c.args.first c.args.second c.args.piece c.in_ok-v.v c.in_ok-w.w c.in_ok-v.ensures.did c.in_ok-w.ensures.did c.first_difference.ensures)
     c.get_piece-2.ensures.outside
+
+pub get_piece-requires-2 : goal.get_piece-requires-2
+get_piece-requires-2 g c = touch_again c.requires.second c.get_piece.ensures
+
+pub first_difference-requires-clause-first : goal.first_difference-requires-clause-first
+first_difference-requires-clause-first g c = read_fits c.args.first c.args.piece c.in_ok-v.v c.in_ok-v.ensures.did
+
+pub first_difference-requires-clause-second : goal.first_difference-requires-clause-second
+first_difference-requires-clause-second g c = read_fits c.args.second c.args.piece c.in_ok-w.w c.in_ok-w.ensures.did
