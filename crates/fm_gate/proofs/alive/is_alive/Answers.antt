@@ -1,6 +1,6 @@
 use Rattle.std.{proofs.Common.{subst, Result}, specs.Prelude.{Err}}
 use Rattle.fm_base.specs.declared.refusal.Refusal.{Refusal}
-use Rattle.fm_gate.{specs.Learnt.{AfterEnter}, proofs.Aliveness.{after_closed, after_inside, after_refused}}
+use Rattle.fm_gate.{specs.Learnt.{AfterEnter}, proofs.Aliveness.{after_closed, after_inside}}
 use Rattle.fm_gate.proofs.alive.is_alive.Goals as goal
 
 pub returns-in-Ok : goal.returns-in-Ok
