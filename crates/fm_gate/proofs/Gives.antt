@@ -5,7 +5,7 @@ use Rattle.fm_words.specs.declared.shape.Shape.{Shape}
 use Rattle.fm_base.specs.{declared.{caller.Caller.{Caller}, arena_id.ArenaId.{ArenaId}}, Arenas.{State, arena_of}}
 use Rattle.fm_base.specs.{Calls.{Allocate, Fine, Lend, Reply, Entry, entry_of}, Histories.{state_after}, Machine.{after, allocate_reply, rounded_up}}
 use Rattle.fm_base.proofs.Making.{state_after-append}
-use Rattle.fm_rule_facts.specs.{Scarcity.{IsScarce}, Steps.{Stepped, none_noted, acted, where_found}, Views.{View, given_of, limit_of, state_in}}
+use Rattle.fm_rule_facts.specs.{Scarcity.{IsScarce}, Steps.{HasParts, Stepped, none_noted, acted, where_found}, Views.{View, given_of, limit_of, state_in}}
 use Rattle.fm_rule.specs.declared.pool.Pool.{Pool}
 use Rattle.fm_rule_calls.specs.Kept.{Goes, rest_of}
 use Rattle.fm_pages.{specs.{Covers.{LendsIn}, Gives.{Tried, allocates}, Maps.{Way}}, proofs.{Exact.{tried_exact}, Gives.{way_allocate}}}
@@ -63,6 +63,12 @@ abbrev Exchanges : View → View → ℕ → ℕ → ℕ → ℕ → Type 0
 Exchanges p q count size align found =
     Stepped p q p
     (where_found (found == count) (acted p.inside p.caller (λ b. Allocate b size align) (allocate_reply (limit_of p.shape) count size align))) none_noted
+
+-- The range of the first count has its parts, by the shape that the pass has then.
+pub can_try_parts : {o m : View} {size align count : ℕ} → CanTry o m size align count → rounded_up count align + size ≤ limit_of m.shape
+    → HasParts m count (rounded_up count align + size)
+can_try_parts {size = size} {align = align} {count = count} c h =
+    c.parts (subst (λ (z : Shape). rounded_up count align + size ≤ limit_of z) c.way.goes.same_shape h)
 
 -- The first exchange.
 pub gives_begin : {pool : Pool} {o m p : View} (a : ArenaId) (size align count found : ℕ) → IsInside pool o a → CanTry o m size align count

@@ -1,5 +1,6 @@
 use Rattle.std.proofs.Common.{◌∙◌, sym}
-use Rattle.fm_gate.proofs.{Gives.{gives_begin, gives_more}, Given.{after_fits, after_past, after_unpaged}}
+use Rattle.fm_base.proofs.Growing.{power_pos}
+use Rattle.fm_gate.proofs.{Gives.{can_try_parts, gives_begin, gives_more, inside_on}, Given.{after_fits, after_past, after_unpaged}}
 use Rattle.fm_gate.proofs.allocating.give.Goals as goal
 
 pub loop-init : goal.loop-init
@@ -20,3 +21,15 @@ loop-preserved g c = gives_more c.loop.invariant c.if-found-count.false c.in-Som
 
 pub returns-in-None-try_at : goal.returns-in-None-try_at
 returns-in-None-try_at g c = after_unpaged c.loop.invariant c.requires.none c.if-found-count.false c.in-None-try_at.ensures
+
+pub step_allocate-found-requires-clause-of : goal.step_allocate-found-requires-clause-of
+step_allocate-found-requires-clause-of g c = (inside_on c.first_count-count.ensures.way c.requires.inside).of
+
+pub step_allocate-found-requires-clause-inside : goal.step_allocate-found-requires-clause-inside
+step_allocate-found-requires-clause-inside g c = (inside_on c.first_count-count.ensures.way c.requires.inside).inside
+
+pub step_allocate-found-requires-clause-parts : goal.step_allocate-found-requires-clause-parts
+step_allocate-found-requires-clause-parts g c = can_try_parts c.first_count-count.ensures
+
+pub room-requires : goal.room-requires
+room-requires g c = power_pos c.args.align c.requires.power
