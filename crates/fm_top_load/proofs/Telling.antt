@@ -7,6 +7,15 @@ use Rattle.fm_top_load.specs.{Whole.{IsOver, TellsLoad}, declared.load_fault.Loa
 pub read_quietly : {Full : Type 0} {limit : ℕ} {old new : FilesView} {name : List ℕ} → TellsLoad Full limit old new name None → Leaves ⊥ ⊥ old new
 read_quietly tells = leaves_quiet tells.left (λ e. absurd {A = ⊥} (cc)) (λ e. absurd {A = ⊥} (cc))
 
+-- reads that came to something are told as such
+pub tells_none : {Full : Type 0} {limit : ℕ} {old new : FilesView} {name : List ℕ} → Leaves ⊥ ⊥ old new → TellsLoad Full limit old new name None
+tells_none {new = new} left = record {
+  left = leaves_then left (leaves_none new (λ e. absurd (cc)) (λ e. absurd (cc)));
+  too_long = λ e. absurd (cc);
+  absent = λ e. absurd (cc);
+  pool_full = λ e. absurd (cc);
+}
+
 -- such reads, and then a load
 pub tells_then : {Full : Type 0} {limit : ℕ} {old mid new : FilesView} {name : List ℕ} {fault : Option LoadFault} → Leaves ⊥ ⊥ old mid
     → TellsLoad Full limit mid new name fault → TellsLoad Full limit old new name fault

@@ -2,7 +2,7 @@ use Rattle.std.proofs.Common.{◌≡◌, ◌+◌, ◌-◌, Option, take, refl, a
 use Rattle.fm_segment_access.specs.Alone.{bytes_of_arena}
 use Rattle.fm_io.{specs.{Files.{Contents}, Reads.{At}}, proofs.Left.{leaves_none, leaves_then}}
 use Rattle.fm_top_load.{specs.{Reached.{IsNextPiece}, Reading.{GoesBy}}, proofs.{Chunks.{no_bytes_from}, Following.{chunk_reads, reads_then}}}
-use Rattle.fm_top_load.proofs.{Placing.{is_cut, next_first, none_taken, piece_fits, piece_short, puts_none, puts_piece, puts_pieces}, Telling.{read_quietly}}
+use Rattle.fm_top_load.proofs.{Placing.{is_cut, next_first, none_taken, piece_fits, piece_short, puts_none, puts_piece, puts_pieces}, Telling.{read_quietly, tells_none, tells_then}}
 use Rattle.fm_top_load.proofs.chunk_loading.load_chunk.Goals.{then-piece-via-then-piece, then-piece-via-else-piece+then-size-part}
 use Rattle.fm_top_load.proofs.chunk_loading.load_chunk.Goals as goal
 
@@ -79,3 +79,26 @@ returns-in-Err-clause-reads g c before from h =
     let old = c.pieces.invariant in
     let at : c.args.part.now.at + c.pieces.size + c.pieces.piece.count ≡ c.args.part.now.at + (c.pieces.size + c.pieces.piece.count) = omega arith in
     reads_then (chunk_reads (old.reads before from h) refl (λ next goes. goes.1 c.if-piece.false ∙ ap At at)) c.in-Err.ensures.reads (λ next goes. tt)
+
+pub slice_bounds-put_held-end : goal.slice_bounds-put_held-end
+slice_bounds-put_held-end g c = let old = c.pieces.invariant in omega (arith, old.next.small, old.can.room)
+
+pub returns-then-piece-clause-reads : goal.returns-then-piece-clause-reads
+returns-then-piece-clause-reads g c before from h =
+    let at : c.args.part.now.at + c.pieces.size + c.pieces.piece.count ≡ c.args.part.now.at + (c.pieces.size + c.pieces.piece.count) = omega arith in
+    chunk_reads (c.pieces.invariant.reads before from h) refl (λ next goes. subst (λ n. GoesBy c.pieces.piece.ended n next) at goes)
+
+pub returns-then-piece-clause-tells : goal.returns-then-piece-clause-tells
+returns-then-piece-clause-tells g c = tells_none c.pieces.invariant.left
+
+pub overflow_add-rest : goal.overflow_add-rest
+overflow_add-rest g c =
+    let old = c.pieces.invariant in omega (arith, piece_short c.args.part.now.at old.can.room old.below old.next, old.can.small)
+
+pub read_piece-requires-clause-can : goal.read_piece-requires-clause-can
+read_piece-requires-clause-can g c =
+    let old = c.pieces.invariant in
+    record { room = old.can.room; small = old.can.small; short = piece_short c.args.part.now.at old.can.room old.below old.next }
+
+pub returns-in-Err-clause-tells : goal.returns-in-Err-clause-tells
+returns-in-Err-clause-tells g c = tells_then c.pieces.invariant.left c.in-Err.ensures.tells

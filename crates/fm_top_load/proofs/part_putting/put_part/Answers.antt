@@ -1,8 +1,8 @@
 use Rattle.std.proofs.{Common.{◌≡◌, ◌<◌, ◌+◌, ◌-◌, Option, take, refl, ap, subst, ◌∙◌, arith}, lemmas.List.Elements.{All-from_get_or, All-take}}
 use Rattle.fm_io.{specs.{Files.{Contents}, Reads.{At}}, proofs.Left.{leaves_none, leaves_then}}
 use Rattle.fm_top_load.{specs.{Reached.{IsNextPiece}, Reading.{GoesBy}}, proofs.Following.{chunk_reads, reads_then}}
-use Rattle.fm_top_load.proofs.{Placing.{next_first, piece_fits, piece_short}, Putting.{part_put, piece_put, piece_refused, put_nothing, touch_still}}
-use Rattle.fm_top_load.proofs.{Telling.{read_quietly}, part_putting.put_part.Goals.{then-piece-via-then-piece, then-piece-via-else-piece+then-size-part}}
+use Rattle.fm_top_load.proofs.{Placing.{next_first, piece_fits, piece_short}, Putting.{can_put, part_put, piece_put, piece_refused, put_nothing, touch_still}}
+use Rattle.fm_top_load.proofs.{Telling.{read_quietly, tells_none, tells_then}, part_putting.put_part.Goals.{then-piece-via-then-piece, then-piece-via-else-piece+then-size-part}}
 use Rattle.fm_top_load.proofs.part_putting.put_part.Goals as goal
 
 pub pieces-init : goal.pieces-init
@@ -74,3 +74,36 @@ pieces-preserved g c =
           reads_then (chunk_reads (old.reads before from h) refl (λ next goes. goes.1 c.if-piece.false ∙ ap At at)) step.reads (λ next goes. goes);
       left = leaves_then old.left (read_quietly step.tells);
     }
+
+pub slice_bounds-put_bytes-end : goal.slice_bounds-put_bytes-end
+slice_bounds-put_bytes-end g c = let old = c.pieces.invariant in omega (arith, old.next.small, old.can.room)
+
+pub put_bytes-requires : goal.put_bytes-requires
+put_bytes-requires g c =
+    let old = c.pieces.invariant in can_put c.args.part.now.at old.can.room old.below old.next (take c.pieces.piece.count c.pieces.buffer) refl old.touch
+
+pub returns-in-Err-clause-reads : goal.returns-in-Err-clause-reads
+returns-in-Err-clause-reads g c before from h = chunk_reads (c.pieces.invariant.reads before from h) refl (λ next goes. tt)
+
+pub returns-in-Err-clause-tells : goal.returns-in-Err-clause-tells
+returns-in-Err-clause-tells g c = tells_none c.pieces.invariant.left
+
+pub returns-then-piece-clause-reads : goal.returns-then-piece-clause-reads
+returns-then-piece-clause-reads g c before from h =
+    let at : c.args.part.now.at + c.pieces.size + c.pieces.piece.count ≡ c.args.part.now.at + (c.pieces.size + c.pieces.piece.count) = omega arith in
+    chunk_reads (c.pieces.invariant.reads before from h) refl (λ next goes. subst (λ n. GoesBy c.pieces.piece.ended n next) at goes)
+
+pub returns-then-piece-clause-tells : goal.returns-then-piece-clause-tells
+returns-then-piece-clause-tells g c = tells_none c.pieces.invariant.left
+
+pub overflow_add-rest : goal.overflow_add-rest
+overflow_add-rest g c =
+    let old = c.pieces.invariant in omega (arith, piece_short c.args.part.now.at old.can.room old.below old.next, old.can.small)
+
+pub read_piece-requires-clause-can : goal.read_piece-requires-clause-can
+read_piece-requires-clause-can g c =
+    let old = c.pieces.invariant in
+    record { room = old.can.room; small = old.can.small; short = piece_short c.args.part.now.at old.can.room old.below old.next }
+
+pub returns-in-Err-read_piece-clause-tells : goal.returns-in-Err-read_piece-clause-tells
+returns-in-Err-read_piece-clause-tells g c = tells_then c.pieces.invariant.left c.in-Err-read_piece.ensures.tells
