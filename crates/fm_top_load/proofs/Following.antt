@@ -1,5 +1,5 @@
 -- What follows on a piece of a file that was read.
-use Rattle.std.{proofs.Common.{◌≡◌, ℕ, ◌+◌, ◌≤◌, ◌<◌, List, Option, refl, sym, ap, subst, ◌∙◌, arith}, specs.Prelude.{nat_lt}}
+use Rattle.std.{proofs.Common.{◌≡◌, ℕ, ◌+◌, ◌≤◌, ◌<◌, List, ◌++◌, length, take, drop, take-append-drop, Option, refl, sym, ap, subst, ◌∙◌, arith, length-append}, specs.Prelude.{nat_lt}}
 use Rattle.std.proofs.lemmas.Bool.Decides.{Decides-ltb, not_from_Decides}
 use Rattle.fm_io.{specs.Reads.{Read, Next, At, ReadsFile, GoesOn}, proofs.Followed.{ReadsFile-append, ReadsFile-wider}}
 use Rattle.fm_top_load.specs.Reading.{piece_limit, GoesBy}
@@ -40,3 +40,10 @@ pub reads_then : {old mid new : Option (List Read)} {name : List ℕ} {end from 
     → ((next : Next) → Goes next → Says next) → ReadsFile old new name piece_limit end from Says
 reads_then {old} {mid} {new} {name} {end} {from} {at} {Goes} {Says} first second says =
     ReadsFile-append old mid new name piece_limit end from at Says first (chunk_reads {Goes = Goes} {Says = Says} second refl says)
+
+-- The front of a buffer was written over.
+pub buffer_kept : (front buffer : List ℕ) (room : ℕ) → length front ≡ length (take room buffer) → length buffer ≡ piece_limit
+    → length (front ++ drop room buffer) ≡ piece_limit
+buffer_kept front buffer room same sized =
+    length-append front (drop room buffer) ∙ ap (λ n. n + length (drop room buffer)) same
+    ∙ sym (length-append (take room buffer) (drop room buffer)) ∙ ap length (take-append-drop room buffer) ∙ sized

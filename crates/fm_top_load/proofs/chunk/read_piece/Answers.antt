@@ -1,5 +1,5 @@
 use Rattle.std.proofs.{Common.{ℕ, ◌+◌, arith}, lemmas.List.{length-take}}
-use Rattle.fm_top_load.proofs.Following.{filled_reads, filled_some, goes_by}
+use Rattle.fm_top_load.proofs.Following.{buffer_kept, filled_reads, filled_some, goes_by}
 use Rattle.fm_top_load.proofs.chunk.read_piece.Goals as goal
 
 pub returns-in-Err-Missing-clause-reads : goal.returns-in-Err-Missing-clause-reads
@@ -20,3 +20,18 @@ returns-clause-reads g c =
     filled_reads c.in-Ok.ensures.reads (omega arith) (omega (arith, length-take {A = ℕ})) (omega (arith, length-take {A = ℕ}))
     (λ next goes. goes_by _ _ c.min-room.result n (c.args.part.now.at + n) next (omega (arith, length-take {A = ℕ}))
     (omega (arith, length-take {A = ℕ}, c.in-Ok.ensures.filled.count)) (omega arith) goes)
+
+pub returns-in-Err-Missing-clause-buffer : goal.returns-in-Err-Missing-clause-buffer
+returns-in-Err-Missing-clause-buffer g c = buffer_kept _ _ c.min-room.result c.fill.auto.buf c.requires.can.room
+
+pub returns-in-Err-Failed-clause-buffer : goal.returns-in-Err-Failed-clause-buffer
+returns-in-Err-Failed-clause-buffer g c = buffer_kept _ _ c.min-room.result c.fill.auto.buf c.requires.can.room
+
+pub returns-in-Err-Memory-clause-buffer : goal.returns-in-Err-Memory-clause-buffer
+returns-in-Err-Memory-clause-buffer g c = buffer_kept _ _ c.min-room.result c.fill.auto.buf c.requires.can.room
+
+pub returns-then-count-rest-clause-buffer : goal.returns-then-count-rest-clause-buffer
+returns-then-count-rest-clause-buffer g c = buffer_kept _ _ c.min-room.result c.fill.auto.buf c.requires.can.room
+
+pub returns-clause-buffer : goal.returns-clause-buffer
+returns-clause-buffer g c = buffer_kept _ _ c.min-room.result c.fill.auto.buf c.requires.can.room

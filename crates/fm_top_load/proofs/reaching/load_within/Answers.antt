@@ -1,7 +1,7 @@
-use Rattle.std.proofs.Common.{◌+◌, take, arith}
+use Rattle.std.proofs.{Common.{◌+◌, take, Option, subst, arith}, lemmas.List.{length-take-le}}
 use Rattle.fm_segment_access.specs.Alone.{bytes_of_arena}
-use Rattle.fm_io.proofs.{Followed.{ReadsFile-none}, Left.{leaves_none, leaves_then}}
-use Rattle.fm_top_load.{specs.{Limits.{record_file_limit}, Reading.{piece_limit}}, proofs.Chunks.{AreBytesFrom-took, IsWhole-took, no_bytes_from}}
+use Rattle.fm_io.{specs.Files.{Contents}, proofs.{Followed.{ReadsFile-none}, Left.{leaves_none, leaves_then}}}
+use Rattle.fm_top_load.{specs.{Limits.{record_file_limit}, Reached.{IsNext}, Reading.{piece_limit}}, proofs.Chunks.{AreBytesFrom-took, IsWhole-took, no_bytes_from}}
 use Rattle.fm_top_load.proofs.{Following.{reads_then}, Placing.{none_taken, puts_chunk, puts_none}, Telling.{read_quietly, tells_then}}
 use Rattle.fm_top_load.proofs.reaching.load_within.Goals as goal
 
@@ -70,3 +70,37 @@ returns-in-Err-clause-reads g c = reads_then c.loop-chunk.invariant.reads c.in-E
 
 pub returns-in-Err-clause-tells : goal.returns-in-Err-clause-tells
 returns-in-Err-clause-tells g c = tells_then c.loop-chunk.invariant.left c.in-Err.ensures.tells
+
+pub read_chunk-requires : goal.read_chunk-requires
+read_chunk-requires g c = c.loop-chunk.invariant.can
+
+pub returns-then-count-room-clause-reached : goal.returns-then-count-room-clause-reached
+returns-then-count-room-clause-reached g c =
+    let old = c.loop-chunk.invariant in
+    let within = old.within in
+    record {
+      within = within;
+      over = omega (arith, c.if-count-room.true, within);
+      first = old.first;
+      next = subst (λ (told : Option Contents). IsNext record_file_limit told c.args.name.now c.loop-chunk.at c.read_chunk.new.bytes c.in-Ok.chunk) old.left.held c.in-Ok.ensures.took;
+    }
+
+pub put_held-requires-clause-given : goal.put_held-requires-clause-given
+put_held-requires-clause-given g c =
+    let old = c.loop-chunk.invariant in
+    let step = c.in-Ok.ensures in
+    let long = length-take-le c.in-Ok.chunk.count c.read_chunk.new.bytes (omega (arith, step.took.small, step.buffer)) in
+    omega (arith, long, c.if-count-room.false, old.within, old.puts.given, c.requires.given)
+
+pub put_held-requires-clause-room : goal.put_held-requires-clause-room
+put_held-requires-clause-room g c =
+    let old = c.loop-chunk.invariant in
+    let step = c.in-Ok.ensures in
+    let long = length-take-le c.in-Ok.chunk.count c.read_chunk.new.bytes (omega (arith, step.took.small, step.buffer)) in
+    omega (arith, long, c.if-count-room.false, old.within, old.puts.did.makes.same_limit, c.requires.limit)
+
+pub loop-chunk-smaller : goal.loop-chunk-smaller
+loop-chunk-smaller g c =
+    let step = c.in-Ok.ensures in
+    let long = length-take-le c.in-Ok.chunk.count c.read_chunk.new.bytes (omega (arith, step.took.small, step.buffer)) in
+    omega (arith, long, step.took.bytes.grows c.if-chunk.false, step.took.bytes.short)
