@@ -1,5 +1,5 @@
 -- A pass looks for a free number, until it took one or found each group's word 0.
-use Rattle.std.proofs.Common.{◌≡◌, ◌≢◌, ℕ, ◌+◌, ◌<◌, ◌==◌, Bool, true, false, if◌then◌else◌, List, [], ◌++◌, length, sym, refl, ap, ◌∙◌, subst, arith, inl, inr, ⊎_elim, None, eq-eqb, ne_eqb}
+use Rattle.std.proofs.Common.{◌≡◌, ◌≢◌, ℕ, ◌+◌, ◌<◌, ◌==◌, Bool, true, false, if◌then◌else◌, List, [], ◌++◌, length, sym, refl, ap, ◌∙◌, subst, arith, inl, inr, ⊎_elim, None, eq-eqb, ne_eqb, not}
 use Rattle.std.{specs.Int.{bit_at}, proofs.lemmas.{List.{append-nil}, Nat.Bits.{bit_at-lt, bit_at-zero}}}
 use mathlib.Core.Logic.{dite}
 use native.Mathlib.Decide.{ℕ_discrete}
@@ -76,6 +76,15 @@ takes_by e b x next w t is = go (x == e) refl (next == e) refl ∙ sym is
         let lt = bit_at-lt e b in
         (λ j. if p j then bit_at e b == 1 else false) ∙ (eq-eqb (bit_at e b) 1 (let y : ℕ = bit_at e b in let n : y ≢ 0 = some in omega arith)
         ∙ sym (λ j. if p j then (if r j then false else true) else false))
+
+-- the word was found as expected
+pub found_other : (x e next : ℕ) → x ≡ e → not (next == e) ≡ (if x == e then (if next == e then false else true) else false)
+found_other x e next same = go (x == e) (eq-eqb x e same) (next == e)
+  where
+    go : (p : Bool) → p ≡ true → (q : Bool) → not q ≡ (if p then (if q then false else true) else false)
+    go true is true = refl
+    go true is false = refl
+    go false is q = absurd (cc)
 
 pub tried : (pool : Pool) (p q : View) (n g e b x next : ℕ) → n ≡ number_at g b → IsWithout e b next → (t : Bool)
     → t ≡ (if x == e then (if next == e then false else true) else false) → p.number ≡ no_number → IsOf pool p → Took p q g e b x → Tried pool p q n t
