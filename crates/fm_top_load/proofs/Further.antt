@@ -1,9 +1,9 @@
 -- A file of which the first bytes were read, and that is read on.
-use Rattle.std.proofs.Common.{◌≡◌, ℕ, ◌+◌, List, length, Bool, true, false, None}
-use Rattle.fm_io.{specs.{Files.{AreBytesFrom}, Reads.{At, ReadsFile}, View.{FilesView, Leaves}}, proofs.Followed.{ReadsFile-none}}
+use Rattle.std.proofs.Common.{◌≡◌, ℕ, ◌+◌, List, length, Bool, true, false, Option, None, refl}
+use Rattle.fm_io.{specs.{Files.{AreBytesFrom}, Reads.{At, Read, ReadsFile}, View.{FilesView, Leaves}}, proofs.Followed.{ReadsFile-none}}
 use Rattle.fm_io.proofs.Left.{leaves_none, leaves_then}
-use Rattle.fm_top_load.{specs.{Reading.{GoesBy, piece_limit}, Whole.{IsWhole, TakesChunk, TellsLoad}}, proofs.Chunks.{AreBytesFrom-took, IsWhole-took}}
-use Rattle.fm_top_load.proofs.{Following.{reads_then}, Telling.{read_quietly}}
+use Rattle.fm_top_load.{specs.{Limits.{record_file_limit}, Reading.{GoesBy, ReadsBehind, piece_limit}, Whole.{IsWhole, TakesChunk, TellsLoad}}, proofs.Chunks.{AreBytesFrom-took, IsWhole-took}}
+use Rattle.fm_top_load.proofs.{Following.{chunk_reads, reads_then}, Telling.{read_quietly}}
 
 -- these are its first bytes, the next read follows on them, and the files are left as they were
 pub record IsReadUpTo (limit : ℕ) (old new : FilesView) (name : List ℕ) (from : ℕ) (bytes : List ℕ) : Type 0 where
@@ -35,3 +35,10 @@ module _ {limit from : ℕ} {old mid : FilesView} {name bytes more : List ℕ} {
   -- by the last chunk
   pub read_to_end : ended ≡ true → IsWhole old.holds name more
   read_to_end last = IsWhole-took far.left.held far.first took last
+
+-- nothing was read behind the first bytes
+pub none_behind : (ended : Bool) (reads : Option (List Read)) (name : List ℕ) (place : ℕ) → ReadsBehind ended reads reads name place
+none_behind ended reads name place = record {
+  none = λ e. refl;
+  rest = λ e. chunk_reads (ReadsFile-none reads name piece_limit (record_file_limit + 1) place) refl (λ next goes. tt);
+}
