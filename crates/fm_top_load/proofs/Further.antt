@@ -2,8 +2,8 @@
 use Rattle.std.proofs.Common.{◌≡◌, ℕ, ◌+◌, List, length, Bool, true, false, Option, None, refl}
 use Rattle.fm_io.{specs.{Files.{AreBytesFrom}, Reads.{At, Read, ReadsFile}, View.{FilesView, Leaves}}, proofs.Followed.{ReadsFile-none}}
 use Rattle.fm_io.proofs.Left.{leaves_none, leaves_then}
-use Rattle.fm_top_load.{specs.{Limits.{record_file_limit}, Reading.{GoesBy, ReadsBehind, piece_limit}, Whole.{IsWhole, TakesChunk, TellsLoad}}, proofs.Chunks.{AreBytesFrom-took, IsWhole-took}}
-use Rattle.fm_top_load.proofs.{Following.{chunk_reads, reads_then}, Telling.{read_quietly}}
+use Rattle.fm_top_load.specs.{Limits.{record_file_limit}, Reading.{GoesBy, ReadsBehind, piece_limit}, Whole.{IsWhole, TakesChunk, TellsLoad}}
+use Rattle.fm_top_load.proofs.{Chunks.{AreBytesFrom-took, IsWhole-took}, Following.{chunk_reads, reads_then}, Telling.{read_quietly}}
 
 -- these are its first bytes, the next read follows on them, and the files are left as they were
 pub record IsReadUpTo (limit : ℕ) (old new : FilesView) (name : List ℕ) (from : ℕ) (bytes : List ℕ) : Type 0 where

@@ -2,7 +2,8 @@ use Rattle.std.proofs.{Common.{◌≡◌, ◌<◌, ◌+◌, ◌-◌, Option, tak
 use Rattle.fm_io.{specs.{Files.{Contents}, Reads.{At}}, proofs.Left.{leaves_none, leaves_then}}
 use Rattle.fm_top_load.{specs.{Reached.{IsNextPiece}, Reading.{GoesBy}}, proofs.Following.{chunk_reads, reads_then}}
 use Rattle.fm_top_load.proofs.{Placing.{next_first, piece_fits, piece_short}, Putting.{can_put, part_put, piece_put, piece_refused, put_nothing, touch_still}}
-use Rattle.fm_top_load.proofs.{Telling.{read_quietly, tells_none, tells_then}, part_putting.put_part.Goals.{then-piece-via-then-piece, then-piece-via-else-piece+then-size-part}}
+use Rattle.fm_top_load.proofs.Telling.{read_quietly, tells_none, tells_then}
+use Rattle.fm_top_load.proofs.part_putting.put_part.Goals.{then-piece-via-then-piece, then-piece-via-else-piece+then-size-part}
 use Rattle.fm_top_load.proofs.part_putting.put_part.Goals as goal
 
 pub pieces-init : goal.pieces-init
