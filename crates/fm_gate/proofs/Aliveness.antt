@@ -1,10 +1,10 @@
 -- What a visit without acts tells of an arena.
 use Rattle.std.proofs.Common.{◌≡◌, true, false, List, [], ◌∷◌, ◌++◌, refl, ap, ◌∙◌, subst, Option, Ok, Err}
-use Rattle.fm_base.specs.{declared.{caller.Caller.{Caller}, arena_id.ArenaId.{ArenaId}, refusal.{Refusal.TheVariants.{Closed}}}, Does.{DoesAct}}
-use Rattle.fm_base.specs.{Calls.{Enter, Leave, Fine, Entry, entry_of}}
+use Rattle.fm_base.specs.{declared.{caller.Caller.{Caller}, arena_id.ArenaId.{ArenaId}, refusal.Refusal.TheVariants.{Closed}}, Does.{DoesAct}}
+use Rattle.fm_base.specs.Calls.{Enter, Leave, Fine, Entry, entry_of}
 use Rattle.fm_rule_facts.specs.Views.{View}
 use Rattle.fm_rule.specs.declared.pool.Pool.{Pool}
-use Rattle.fm_rule_calls.{proofs.Going.{goes_then, lasts_on}}
+use Rattle.fm_rule_calls.proofs.Going.{goes_then, lasts_on}
 use Rattle.fm_gate.specs.Learnt.{AfterEnter, AfterIsAlive, AfterLeave}
 
 pub after_inside : {pool : Pool} {p q r : View} {a : ArenaId} (u : Unit {0}) → AfterEnter pool p q a (Ok u) → AfterLeave pool q r

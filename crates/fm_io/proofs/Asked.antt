@@ -1,8 +1,7 @@
 -- What one question to the system comes to.
-use Rattle.std.proofs.Common.{◌≡◌, ◌≢◌, ℕ, List, Option, Result, Ok, Err, subst}
-use Rattle.std.specs.declared.io.Error.{Error}
-use Rattle.fm_io.specs.{Host.{AsksOnce, AsksOn, ComesTo, EndsAt, Question, question, way_to}}
-use Rattle.fm_io.specs.declared.{fault.Fault.{Fault, TheVariants.{Memory}}, files.Piece.{Piece}, system.Way.{Way}}
+use Rattle.std.{proofs.Common.{◌≡◌, ◌≢◌, ℕ, List, Option, Result, Ok, Err, subst}, specs.declared.io.Error.{Error}}
+use Rattle.fm_io.specs.{Host.{AsksOnce, AsksOn, ComesTo, EndsAt, Question, question, way_to}, declared.fault.Fault.{Fault, TheVariants.{Memory}}}
+use Rattle.fm_io.specs.declared.{files.Piece.{Piece}, system.Way.{Way}}
 
 -- an answer is never that memory ran out
 never_memory : (answer : Result ℕ Error) (result : Result Piece Fault) → ComesTo answer result → result ≢ Err Memory

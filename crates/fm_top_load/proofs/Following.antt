@@ -1,7 +1,6 @@
 -- What follows on a piece of a file that was read.
 use Rattle.std.proofs.Common.{◌≡◌, ℕ, ◌+◌, ◌≤◌, ◌<◌, List, ◌++◌, length, take, drop, take-append-drop, Option, refl, sym, ap, subst, ◌∙◌, arith, length-append}
-use Rattle.std.specs.Prelude.{nat_lt}
-use Rattle.std.proofs.lemmas.Bool.Decides.{Decides-ltb, not_from_Decides}
+use Rattle.std.{specs.Prelude.{nat_lt}, proofs.lemmas.Bool.Decides.{Decides-ltb, not_from_Decides}}
 use Rattle.fm_io.{specs.Reads.{Read, Next, At, ReadsFile, GoesOn}, proofs.Followed.{ReadsFile-append, ReadsFile-wider}}
 use Rattle.fm_top_load.specs.Reading.{piece_limit, GoesBy}
 

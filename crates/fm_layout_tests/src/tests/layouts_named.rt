@@ -241,7 +241,13 @@ fn wide_type(alloc: Global, refs: usize, bytes: usize) -> Result<String, AllocEr
 
 /// Stops where a struct of t, so many more of it, and of so many bytes isn't read so.
 fn is_wide<R: Abort>(rt: &R, alloc: Global, refs: usize, bytes: usize, wanted: &str) {
-    is_read(rt, alloc, wide_type(alloc, refs, bytes), (refs, bytes), wanted);
+    is_read(
+        rt,
+        alloc,
+        wide_type(alloc, refs, bytes),
+        (refs, bytes),
+        wanted,
+    );
 }
 
 #[test]

@@ -2,7 +2,7 @@ use Rattle.std.proofs.Common.{◌≡◌, ◌+◌, ◌-◌, Option, take, refl, a
 use Rattle.fm_segment_access.specs.Alone.{bytes_of_arena}
 use Rattle.fm_io.{specs.{Files.{Contents}, Reads.{At}}, proofs.Left.{leaves_none, leaves_then}}
 use Rattle.fm_top_load.{specs.{Reached.{IsNextPiece}, Reading.{GoesBy}}, proofs.{Chunks.{no_bytes_from}, Following.{chunk_reads, reads_then}}}
-use Rattle.fm_top_load.proofs.{Placing.{is_cut, next_first, none_taken, piece_fits, piece_short, puts_none, puts_piece, puts_pieces}}
+use Rattle.fm_top_load.proofs.Placing.{is_cut, next_first, none_taken, piece_fits, piece_short, puts_none, puts_piece, puts_pieces}
 use Rattle.fm_top_load.proofs.Telling.{read_quietly, tells_none, tells_then}
 use Rattle.fm_top_load.proofs.chunk_loading.load_chunk.Goals.{then-piece-via-then-piece, then-piece-via-else-piece+then-size-part}
 use Rattle.fm_top_load.proofs.chunk_loading.load_chunk.Goals as goal

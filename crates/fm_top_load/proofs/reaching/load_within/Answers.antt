@@ -2,7 +2,8 @@ use Rattle.std.proofs.{Common.{◌+◌, take, Option, subst, arith}, lemmas.List
 use Rattle.fm_segment_access.specs.Alone.{bytes_of_arena}
 use Rattle.fm_io.{specs.Files.{Contents}, proofs.{Followed.{ReadsFile-none}, Left.{leaves_none, leaves_then}}}
 use Rattle.fm_top_load.specs.{Limits.{record_file_limit}, Reached.{IsNext}, Reading.{piece_limit}}
-use Rattle.fm_top_load.proofs.{Chunks.{AreBytesFrom-took, IsWhole-took, no_bytes_from}, Following.{reads_then}, Placing.{none_taken, puts_chunk, puts_none}, Telling.{read_quietly, tells_then}}
+use Rattle.fm_top_load.proofs.{Chunks.{AreBytesFrom-took, IsWhole-took, no_bytes_from}, Following.{reads_then}, Placing.{none_taken, puts_chunk, puts_none}}
+use Rattle.fm_top_load.proofs.Telling.{read_quietly, tells_then}
 use Rattle.fm_top_load.proofs.reaching.load_within.Goals as goal
 
 pub loop-chunk-init : goal.loop-chunk-init
