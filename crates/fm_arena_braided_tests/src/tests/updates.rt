@@ -67,7 +67,7 @@ fn an_update_is_cut_off_at_each_call(rt: HostRuntime) {
 }
 
 /// Cuts an update off before its last call, where this number stands in place of the 1.
-fn stands<R: Abort + AllocGlobal + Wait, A: Access>(rt: &R, update: &A, number: i64) {
+fn stands<R: Abort + AllocGlobal + Wait, A: Access>(rt: &R, update: &A, number: u64) {
     let walk = Walk::to(Visit::Inside(1), [number, 2, 3]);
     cut_off(rt, update, 3, walk, true, [0, 0, 0]);
 }

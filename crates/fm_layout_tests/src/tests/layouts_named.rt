@@ -194,7 +194,7 @@ fn nested_type(alloc: Global, inner: usize, outer: usize) -> Result<String, Allo
 }
 
 /// Stops where a text that was made of these two counts isn't read so.
-fn is_read<R: Abort>(
+fn reads_as<R: Abort>(
     rt: &R,
     alloc: Global,
     text: Result<String, AllocError>,
@@ -208,7 +208,7 @@ fn is_read<R: Abort>(
 /// Stops where t isn't read so, in so many sequences of one.
 fn is_nested<R: Abort>(rt: &R, alloc: Global, inner: usize, outer: usize, wanted: &str) {
     let text = nested_type(alloc, inner, outer);
-    is_read(rt, alloc, text, (inner, outer), wanted);
+    reads_as(rt, alloc, text, (inner, outer), wanted);
 }
 
 #[test]
@@ -241,13 +241,8 @@ fn wide_type(alloc: Global, refs: usize, bytes: usize) -> Result<String, AllocEr
 
 /// Stops where a struct of t, so many more of it, and of so many bytes isn't read so.
 fn is_wide<R: Abort>(rt: &R, alloc: Global, refs: usize, bytes: usize, wanted: &str) {
-    is_read(
-        rt,
-        alloc,
-        wide_type(alloc, refs, bytes),
-        (refs, bytes),
-        wanted,
-    );
+    let text = wide_type(alloc, refs, bytes);
+    reads_as(rt, alloc, text, (refs, bytes), wanted);
 }
 
 #[test]

@@ -71,6 +71,7 @@ fn size_of(texts: &str) -> u64 {
 }
 
 /// How many reads a run makes, its words, and how it ends where none of its calls fails.
+#[derive(Drop)]
 struct Run<'a> {
     reads: u64,
     words: &'a str,
