@@ -94,9 +94,11 @@ fn give_at_once<R: Threads + Wait + Sync>(
     )
 }
 
+/// The arena needs one page, and the pool has one more: both want a page first, and who comes second may be refused the
+/// pool's last one while the other maps it.
 #[test]
 fn two_passes_allocate_at_once(rt: HostRuntime) {
-    let (pool, mut pass) = pool_of(&rt, 2, 1, 8_192, 1);
+    let (pool, mut pass) = pool_of(&rt, 2, 2, 8_192, 1);
     let a = new_arena(&rt, &pool, &mut pass, Kind::Shared);
     let mut other = drawn(&rt, &pool, &mut pass);
     let both = give_at_once(&rt, &pool, &mut pass, &mut other, a, (1, TIMES));
@@ -104,8 +106,8 @@ fn two_passes_allocate_at_once(rt: HostRuntime) {
     same(&rt, allocate(&rt, &pool, &mut pass, a, 0, 1), Ok(2 * TIMES));
 }
 
-/// How many words each gives in a new pool. Another arena has the four pages that are left then, and this is what it is answered for one
-/// more.
+/// How many words each gives in a new pool. Another arena has the four pages that are left then, and this is what it is
+/// answered for one more.
 fn given_at_once<R: Abort + AllocGlobal + Threads + Wait + Sync>(
     rt: &R,
 ) -> (u64, u64, Result<u64, Refusal>) {
