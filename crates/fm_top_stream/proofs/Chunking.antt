@@ -44,15 +44,6 @@ module _ {limit : ℕ} {old mid part : FilesView} {name : List ℕ} (before : Le
   pub held_before : part.holds ≡ old.holds
   held_before = (read_quietly first).held ∙ before.held
 
--- Where all came to something nothing is told but that.
-pub tells_none : {Full : Type 0} {limit : ℕ} {old new : FilesView} {name : List ℕ} → Leaves ⊥ ⊥ old new → TellsLoad Full limit old new name None
-tells_none {new = new} left = tells_then left (record {
-  left = leaves_none new (λ e. absurd {A = ⊥} (cc)) (λ e. absurd {A = ⊥} (cc));
-  too_long = λ e. absurd (cc);
-  absent = λ e. absurd (cc);
-  pool_full = λ e. absurd (cc);
-})
-
 -- Nothing was read where memory was wanting before that.
 pub tells_no_memory : (v : FilesView) {Full : Type 0} {limit : ℕ} {name : List ℕ} → TellsLoad Full limit v v name (Some Memory)
 tells_no_memory v = tells_memory (leaves_none v (λ e. e) (λ e. e))

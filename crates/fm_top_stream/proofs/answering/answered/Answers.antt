@@ -1,6 +1,7 @@
 use Rattle.std.proofs.Common.{refl, arith}
 use Rattle.fm_io.proofs.Left.{leaves_none}
-use Rattle.fm_top_stream.proofs.{Asks.{answers_ahead}, Chunking.{tells_no_memory, tells_none}}
+use Rattle.fm_top_load.proofs.Telling.{tells_none}
+use Rattle.fm_top_stream.proofs.{Asks.{answers_ahead}, Chunking.{tells_no_memory}}
 use Rattle.fm_top_stream.proofs.answering.answered.Goals as goal
 
 pub returns-clause-answers : goal.returns-clause-answers

@@ -1,8 +1,8 @@
 use Rattle.std.proofs.{Common.{◌≡◌, ℕ, List, [], ◌++◌, length, take, drop, Option, refl, ap, sym, ◌∙◌, subst, arith}, lemmas.List.{take_at}}
 use Rattle.fm_io.{specs.{Files.{Contents}, Reads.{At}}, proofs.Left.{leaves_then}}
-use Rattle.fm_top_load.{specs.Reached.{IsNextPiece}, proofs.{Chunks.{no_bytes_from}, Telling.{read_quietly, tells_then}}}
+use Rattle.fm_top_load.{specs.Reached.{IsNextPiece}, proofs.{Chunks.{no_bytes_from}, Telling.{read_quietly, tells_none, tells_then}}}
 use Rattle.fm_top_stream.specs.{Chunks.{stream_file_limit}, Gone.{GoneSoFar}}
-use Rattle.fm_top_stream.proofs.Chunking.{further_says, further_some, further_then, reads_further, tells_no_memory, tells_none}
+use Rattle.fm_top_stream.proofs.Chunking.{further_says, further_some, further_then, reads_further, tells_no_memory}
 use Rattle.fm_top_stream.proofs.{GoesOn.{empty_file, gone_none}, Runs.{ends_here}}
 use Rattle.fm_top_stream.proofs.streaming.go_through.Goals as goal
 

@@ -1,8 +1,8 @@
 use Rattle.std.{proofs.Common.{◌+◌, ◌%◌, Option, refl, sym, ap, subst, ◌∙◌, arith}, specs.Prelude.{IfSome}}
 use Rattle.fm_io.{specs.Files.{Contents}, proofs.Left.{leaves_then}}
-use Rattle.fm_top_load.{specs.Reading.{GoesBy, ReadsFurther}, proofs.Telling.{read_quietly, tells_then}}
+use Rattle.fm_top_load.{specs.Reading.{GoesBy, ReadsFurther}, proofs.Telling.{read_quietly, tells_none, tells_then}}
 use Rattle.fm_top_stream.specs.{Ahead.{IsFollowed}, Chunks.{stream_file_limit}, Gone.{HasNext}, declared.placed.Placed.{Placed}}
-use Rattle.fm_top_stream.proofs.{Chunking.{further_some, further_then, tells_none}, GoesOn.{ends_within, through_ragged}}
+use Rattle.fm_top_stream.proofs.{Chunking.{further_some, further_then}, GoesOn.{ends_within, through_ragged}}
 use Rattle.fm_top_stream.proofs.streaming.take_chunks.Goals as goal
 
 pub returns-then-rest-ne0-clause-goes : goal.returns-then-rest-ne0-clause-goes
