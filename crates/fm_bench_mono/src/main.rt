@@ -6,7 +6,7 @@
 
 mod answering;
 
-use crate::answering::print_answered;
+use crate::answering::{print_answered, query_of};
 use fm_io::{Files, HostFiles, HostSink, HostSystem, Sink, write_text};
 use fm_top_load::load;
 use std::alloc::Global;
@@ -40,14 +40,24 @@ fn print<R: Wait, F: Files, O: Sink>(
     words: &[String],
 ) -> Option<()> {
     match words {
-        [what, file] if what.as_str() == "load" => {
-            let loaded = load(rt, alloc, files, file).ok()?;
-            let text = format!(in alloc; "{}\n", loaded.len()).ok()?;
-            write_text(out, text.as_str().as_bytes()).ok()
-        }
-        [what, layout, query, file] if what.as_str() == "query" => {
-            print_answered(rt, alloc, files, out, layout, query, file)
+        [what, file] if what.as_str() == "load" => print_size(rt, alloc, files, out, file),
+        [what, layout, text, file] if what.as_str() == "query" => {
+            let query = query_of(alloc, files, layout, text)?;
+            print_answered(rt, alloc, files, out, &query, file)
         }
         _ => None,
     }
+}
+
+/// Loads the file and prints its size.
+fn print_size<R: Wait, F: Files, O: Sink>(
+    rt: &R,
+    alloc: Global,
+    files: &mut F,
+    out: &mut O,
+    file: &str,
+) -> Option<()> {
+    let loaded = load(rt, alloc, files, file).ok()?;
+    let text = format!(in alloc; "{}\n", loaded.len()).ok()?;
+    write_text(out, text.as_str().as_bytes()).ok()
 }
