@@ -2,7 +2,7 @@
 use Rattle.std.proofs.Common.{ℕ, List, arith}
 use Rattle.fm_base.specs.{declared.arena_id.ArenaId.{ArenaId}, Calls.{Call, Reply, Entry}}
 use Rattle.fm_rule_calls.specs.Kept.{Kept, Lasts}
-use Rattle.fm_gate.specs.{Crews.{CrewStands, HasNothing}, Learnt.{AfterAct}, Needs.{CanReach, IsOutside}}
+use Rattle.fm_gate.specs.{Crews.{CrewStands}, Learnt.{AfterAct}, Needs.{CanReach, IsOutside}}
 use Rattle.fm_rule_facts.specs.Views.{View}
 use Rattle.fm_rule.specs.declared.pool.Pool.{Pool}
 use Rattle.fm_bench.specs.Ready.{CanWork, IsIdle, IsOpen}

@@ -2,6 +2,5 @@ pub mod Again
 pub mod Deep
 pub mod Floats
 pub mod Found
-pub mod Keys
 pub mod Maybe
 pub mod Rest

@@ -1,7 +1,7 @@
 -- Words that spell numbers.
-use Rattle.std.proofs.Common.{◌≡◌, ℕ, ◌<◌, ◌^◌, ◌≤◌, List, [], ◌∷◌, length, get_or, Bool, false, Option, None, Some, IfNone, Result, Ok, Err, sym, ◌∙◌, ap, subst, arith, IsTrue}
-use Rattle.std.specs.{Fmt.{decimal}, Prelude.{String, string_bytes}, declared.alloc.Global.{Global}, Str.{bytes_eq, Parse.{ParsesUnsigned}}}
-use Rattle.std.proofs.lemmas.{Bool.Decides.{not_from_Decides}, Fmt.{parse-decimal, decimal_injective}, Slice.Eq.{bytes_eq-Decides}}
+use Rattle.std.proofs.Common.{◌≡◌, ℕ, ◌<◌, ◌^◌, ◌≤◌, List, [], ◌∷◌, length, get_or, Bool, false, Option, None, Some, IfNone, sym, ◌∙◌, subst, arith, IsTrue}
+use Rattle.std.specs.{Fmt.{decimal}, Prelude.{String, string_bytes}, declared.alloc.Global.{Global}}
+use Rattle.std.proofs.lemmas.{Fmt.{decimal_injective}}
 use Rattle.fm_lanes.{specs.{Named.{kind_text}, declared.value_kind.ValueKind.{ValueKind}}, proofs.Naming.{kind_text-injective}}
 use Rattle.fm_top_options.specs.Options.{texts}
 use Rattle.fm_top.specs.Words.{IsUpTo, HasValue, IsSum, five}

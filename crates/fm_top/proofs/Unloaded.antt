@@ -1,12 +1,12 @@
 -- How a run ends where a file was loaded, and where it wasn't.
-use Rattle.std.{proofs.Common.{◌≡◌, ◌≢◌, ℕ, ◌<◌, List, length, Option, None, Some, Result, Ok, Err, refl, ap, sym, subst}, specs.Prelude.{◌↔◌, ⊤, IfOk, IsOk}}
+use Rattle.std.{proofs.Common.{◌≡◌, ◌≢◌, ℕ, ◌<◌, List, length, Option, None, Some, Result, Ok, Err, refl, ap, sym, subst}, specs.Prelude.{⊤, IfOk, IsOk}}
 use Rattle.std.proofs.lemmas.Result.{IfOk-weaker}
 use Rattle.fm_io.specs.{Count.{Rose}, Files.{Contents, IsAbsent}, declared.fault.Fault.{Fault}, View.{FilesView}}
 use Rattle.fm_io.specs.declared.fault.Fault.TheVariants as fault
 use Rattle.fm_top.specs.{Ending.{EndsUnloaded, IsUnloaded, shown, TellsMisses}, Ends.{EndsFile}, Found.{OfFound}, Outcome.{Outcome, missing, too_long}}
 use Rattle.fm_top.{specs.declared.outcome.ending.Ending.{Ending}, proofs.{Ends.{shows_found, shows_wanting}, Outcomes.{long_found}, ReadFor.{read_for}}}
 use Rattle.fm_top_load.{specs.{Reading.{ReadsSome}, Whole.{IsOver, IsWhole, TellsLoad}}, proofs.Telling.{read_quietly}}
-use Rattle.fm_top_load.specs.declared.load_fault.LoadFault.{LoadFault, TheVariants.{Missing, Failed, TooLong}}
+use Rattle.fm_top_load.specs.declared.load_fault.LoadFault.{LoadFault, TheVariants.{Missing, TooLong}}
 use Rattle.fm_top.specs.declared.outcome.status.Status.TheVariants as status
 
 -- what holds where there is no file, and where it is over the limit, holds of what is found where it wasn't loaded
