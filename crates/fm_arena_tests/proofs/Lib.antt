@@ -1,4 +1,3 @@
 pub mod Finishing
-pub mod Handling
 pub mod Holds
 mod Nothing

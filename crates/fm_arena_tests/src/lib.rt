@@ -1,4 +1,4 @@
-//! Tests alone: of a pool's gate, of closing its arenas, and of the memory over a pool.
+//! Tests alone: of a pool's gate, and of closing its arenas.
 #![tactic(auto)]
 
 #[cfg(test)]

@@ -1,8 +1,6 @@
-mod arenas;
 mod closes;
 mod compared;
 mod gates;
 mod numbers;
-mod pages;
 mod pools;
 mod races;

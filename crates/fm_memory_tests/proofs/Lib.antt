@@ -5,3 +5,4 @@ pub mod Calling
 pub mod Beside
 pub mod Finding
 pub mod Passing
+pub mod Handling

@@ -1,3 +1,4 @@
 pub mod Double
 pub mod Heard
 pub mod Beside
+pub mod Closers

@@ -1,5 +1,5 @@
-//! A double of `Memory`, for tests alone, test bodies over every implementation, and the tests of `Mono`, and of
-//! accesses, copies, segments and handles over it alone.
+//! A double of `Memory`, for tests alone, test bodies over every implementation, the tests of `Mono`, and of accesses,
+//! copies, segments and handles over it alone, and those of a pool's arenas as a memory.
 #![tactic(auto)]
 
 mod double;

@@ -1,13 +1,16 @@
 mod accesses;
+mod arenas;
 mod body;
 mod compared;
 mod copies;
+mod cut_off;
 mod exact;
 mod handles;
 mod memories;
 mod mono_arenas;
 mod mono_handles;
 mod mono_segments;
+mod pages;
 mod pools;
 mod segment_calls;
 mod segments;

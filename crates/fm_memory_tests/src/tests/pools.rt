@@ -4,6 +4,7 @@ ghost use Rattle.fm_segment.specs.Access.{IsKnown};
 ghost use Rattle.fm_segment.specs.Learnt.{CanUse};
 ghost use Rattle.fm_arena.specs.Shares.{CanShare};
 ghost use Rattle.fm_memory_tests.specs.Beside.{AreBeside};
+ghost use Rattle.fm_words.specs.Shapes.{IsValid};
 
 use crate::Interrupted;
 use crate::tests::body::{stay_out, use_a_word};
@@ -22,6 +23,14 @@ use std::alloc::{AllocGlobal, Global};
 use std::process::Abort;
 use std::sync::Wait;
 
+/// A pool of this shape, and its first pass.
+pub(crate) fn pool_as<R: Abort + AllocGlobal>(rt: &R, shape: Shape) -> (Pool, Pass)
+    requires { IsValid shape }
+    ensures { CanShare result.0 result.1 }
+{
+    Pool::make(rt.alloc(), shape).expect(rt, "words")
+}
+
 /// A pool of two passes and eight slots. Each arena has up to eight words, in four pages of two.
 fn made<R: Abort + AllocGlobal>(rt: &R) -> (Pool, Pass)
     ensures { CanShare result.0 result.1 }
@@ -34,11 +43,15 @@ fn made<R: Abort + AllocGlobal>(rt: &R) -> (Pool, Pass)
         reach: 4,
         generations: 1,
     };
-    Pool::make(rt.alloc(), shape).expect(rt, "words")
+    pool_as(rt, shape)
 }
 
 /// Both passes of the pool, the second drawn by the first.
-fn both<'a, R: Abort + Wait>(rt: &R, pool: &'a Pool, pass: Pass) -> (Shared<'a>, Shared<'a>)
+pub(crate) fn both<'a, R: Abort + Wait>(
+    rt: &R,
+    pool: &'a Pool,
+    pass: Pass,
+) -> (Shared<'a>, Shared<'a>)
     requires { CanShare pool.now pass }
     ensures outside { result.0.inside ≡ None }
     ensures beside { AreBeside result.0 result.1 }

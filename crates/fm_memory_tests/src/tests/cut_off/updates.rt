@@ -1,7 +1,7 @@
 ghost use Rattle.std.specs.Prelude.{◌≡◌, length};
 
-use crate::tests::closer::Walk;
 use crate::tests::compared::same;
+use crate::tests::cut_off::closer::Walk;
 use crate::tests::cut_off::{Access, Cut, answered, cut_off};
 use fm_base::Memory;
 use fm_close::Visit;

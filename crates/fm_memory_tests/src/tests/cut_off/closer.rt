@@ -3,7 +3,7 @@ ghost use Rattle.fm_rule_facts.specs.Views.{given_of};
 ghost use Rattle.fm_rule_calls.specs.Kept.{Lasts};
 ghost use Rattle.fm_gate.specs.Needs.{CanVisit, IsOutside};
 ghost use Rattle.fm_close.specs.Learnt.{CanWalk};
-ghost use Rattle.fm_arena_braided_tests.specs.Closers.{IsOnItsWay, StandsAt};
+ghost use Rattle.fm_memory_tests.specs.Closers.{IsOnItsWay, StandsAt};
 
 use crate::tests::compared::same;
 use fm_arena_braided::Turn;

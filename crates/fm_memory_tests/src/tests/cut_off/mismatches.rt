@@ -1,4 +1,4 @@
-use crate::tests::closer::Walk;
+use crate::tests::cut_off::closer::Walk;
 use crate::tests::cut_off::{Access, Cut, answered, cut_off};
 use fm_base::Memory;
 use fm_close::Visit;

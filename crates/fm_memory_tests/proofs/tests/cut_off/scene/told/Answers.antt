@@ -1,7 +1,7 @@
 use Rattle.std.proofs.Common.{List, ap, subst, arith}
 use Rattle.fm_base.specs.Calls.{Entry}
 use Rattle.fm_rule.specs.{Views.{NoteView}, Passes.{GoesOnFrom}}
-use Rattle.fm_arena_braided_tests.proofs.tests.scene.told.Goals as goal
+use Rattle.fm_memory_tests.proofs.tests.cut_off.scene.told.Goals as goal
 
 pub returns-clause-can : goal.returns-clause-can
 returns-clause-can c =

@@ -8,8 +8,9 @@ ghost use Rattle.fm_segment.specs.Access.{IsKnown};
 ghost use Rattle.fm_arena.specs.Lasting.{SamePool};
 ghost use Rattle.fm_arena.specs.Shares.{CanShare};
 
-use crate::tests::closer::{Closer, Walk};
 use crate::tests::compared::same;
+use crate::tests::cut_off::closer::{Closer, Walk};
+use crate::tests::pools::pool_as;
 use fm_arena::{Arena, Shared, keeps_its_pool};
 use fm_arena_braided::Braided;
 use fm_base::Kind;
@@ -35,7 +36,7 @@ pub(crate) fn made<R: Abort + AllocGlobal>(rt: &R) -> (Pool, Pass)
         reach: 1,
         generations: 2,
     };
-    Pool::make(rt.alloc(), shape).expect(rt, "words")
+    pool_as(rt, shape)
 }
 
 /// A shared arena's three longs.

@@ -2,9 +2,17 @@
 ghost use Rattle.std.specs.Prelude.{◌≡◌, None};
 ghost use Rattle.fm_segment.specs.Access.{IsKnown};
 
-use crate::tests::closer::Walk;
+mod closer;
+mod copies;
+mod fills;
+mod mismatches;
+mod reads;
+mod scene;
+mod updates;
+
 use crate::tests::compared::same;
-use crate::tests::scene::{ended, has_numbers, made, scene};
+use crate::tests::cut_off::closer::Walk;
+use crate::tests::cut_off::scene::{ended, has_numbers, made, scene};
 use fm_base::{Memory, Refusal};
 use fm_segment::Segment;
 use std::alloc::AllocGlobal;

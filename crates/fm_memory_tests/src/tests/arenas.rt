@@ -5,40 +5,29 @@ ghost use Rattle.fm_rule_calls.specs.Told.{view_of_pass};
 ghost use Rattle.fm_segment.specs.Access.{IsKnown};
 ghost use Rattle.fm_arena.specs.Handles.{CanGiveBack};
 ghost use Rattle.fm_arena.specs.Lasting.{SamePool};
-ghost use Rattle.fm_arena.specs.Shares.{CanShare};
 
 use crate::tests::compared::same;
-use crate::tests::pools::pool_of;
+use crate::tests::pools::{both, pool_as};
 use fm_arena::{Arena, AutoHandle, Shared, a_handle_lasts, a_hold_lasts, keeps_its_pool};
 use fm_base::{Kind, Memory, Refusal};
 use fm_close::GaveBack;
 use fm_lanes::{Value, ValueKind};
 use fm_layout::Layout;
-use fm_rule::{Pass, Pool};
 use fm_segment::Segment;
-use std::alloc::AllocGlobal;
+use fm_words::Shape;
 use std::process::Abort;
 use std::sync::Wait;
 use std::thread::{Threads, join_mut};
 
-/// A pool of two passes, whose two slots have eight words each.
-fn made<R: Abort + AllocGlobal>(rt: &R) -> (Pool, Pass)
-    ensures { CanShare result.0 result.1 }
-{
-    pool_of(rt, 2, 2, 8, 1)
-}
-
-/// Both passes of the pool.
-fn both<'a, R: Abort + Wait>(rt: &R, pool: &'a Pool, pass: Pass) -> (Shared<'a>, Shared<'a>)
-    requires { CanShare pool.now pass }
-    ensures first { result.0.inside ≡ None }
-    ensures second { result.1.inside ≡ None }
-    ensures same { SamePool result.0 result.1 }
-{
-    let mut first = pass;
-    let second = pool.draw(rt, &mut first).expect(rt, "a pass");
-    (Shared::new(pool, first), Shared::new(pool, second))
-}
+/// Two passes, and two slots of one page of eight words, for one arena each.
+const TWO_SLOTS: Shape = Shape {
+    passes: 2,
+    slots: 2,
+    pages: 2,
+    page_words: 8,
+    reach: 1,
+    generations: 1,
+};
 
 /// The long of a segment.
 fn long_of(m: &mut Shared, s: &Segment) -> Result<Value, Refusal>
@@ -92,7 +81,7 @@ fn is_kept_out<R: Abort + Wait>(rt: &R, theirs: &mut Shared, arena: &Arena, s: &
 
 #[test]
 fn a_confined_arena_is_used_by_its_own_pass_alone(rt: HostRuntime) {
-    let (pool, pass) = made(&rt);
+    let (pool, pass) = pool_as(&rt, TWO_SLOTS);
     let (mut ours, mut theirs) = both(&rt, &pool, pass);
     let (arena, s) = started(&rt, &mut ours, Kind::Confined);
     tell(&mut ours, &mut theirs, &s);
@@ -141,7 +130,7 @@ fn long_beside(m: &mut Shared, s: &Segment, handle: &AutoHandle) -> Result<Value
 
 #[test]
 fn an_automatic_arena_ends_with_its_last_handle(rt: HostRuntime) {
-    let (pool, pass) = made(&rt);
+    let (pool, pass) = pool_as(&rt, TWO_SLOTS);
     let mut m = Shared::new(&pool, pass);
     let (handle, s) = automatic(&rt, &mut m);
     let (last, gave) = renewed(&rt, &mut m, handle);
@@ -192,7 +181,7 @@ fn read_and_close<R: Threads + Wait + Sync>(
 /// A read beside a close is answered whole or refused, and afterwards refused.
 #[test]
 fn an_arena_is_closed_while_another_thread_reads(rt: HostRuntime) {
-    let (pool, pass) = made(&rt);
+    let (pool, pass) = pool_as(&rt, TWO_SLOTS);
     let (mut ours, mut theirs) = both(&rt, &pool, pass);
     let (arena, s) = priced(&rt, &mut ours);
     tell(&mut ours, &mut theirs, &s);
@@ -217,7 +206,7 @@ fn close_held<R: Abort + Wait>(rt: &R, m: &mut Shared, arena: &Arena) -> Result<
 
 #[test]
 fn a_held_arena_is_closed_once_the_hold_is_spent(rt: HostRuntime) {
-    let (pool, pass) = made(&rt);
+    let (pool, pass) = pool_as(&rt, TWO_SLOTS);
     let mut m = Shared::new(&pool, pass);
     let arena = Arena::start(&rt, &mut m, Kind::Shared).expect(&rt, "a slot");
     same(&rt, m.is_alive(arena.id()), Ok(true));

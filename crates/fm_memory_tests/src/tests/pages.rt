@@ -6,7 +6,7 @@ ghost use Rattle.fm_segment.specs.Access.{IsKnown};
 ghost use Rattle.fm_arena.specs.Handles.{CanGiveBack};
 
 use crate::tests::compared::same;
-use crate::tests::pools::{paged, pool_as};
+use crate::tests::pools::pool_as;
 use fm_arena::{Arena, AutoHandle, Shared, a_handle_lasts};
 use fm_base::{ArenaId, Kind, Memory, Refusal};
 use fm_close::GaveBack;
@@ -165,7 +165,15 @@ fn all_and_more<R: Abort + AllocGlobal + Wait>(
     requires some { 0 < pages }
     requires few { pages ≤ 4096 }
 {
-    let (pool, pass) = paged(rt, 2, pages, 1, 1);
+    let shape = Shape {
+        passes: 2,
+        slots: 2,
+        pages,
+        page_words: 1,
+        reach: pages,
+        generations: 1,
+    };
+    let (pool, pass) = pool_as(rt, shape);
     let mut m = Shared::new(&pool, pass);
     let a = m.open_arena(rt, Kind::Shared).expect(rt, "a slot");
     let b = m.open_arena(rt, Kind::Shared).expect(rt, "a slot");

@@ -1,9 +1,0 @@
-mod closer;
-mod compared;
-mod copies;
-mod cut_off;
-mod fills;
-mod mismatches;
-mod reads;
-mod scene;
-mod updates;
