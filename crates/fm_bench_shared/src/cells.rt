@@ -81,8 +81,7 @@ fn handles<M: Memory>(
 fn handle_of(alloc: Global, text: &str) -> Result<VarHandle, Refusal>
     ensures { IfOk result (λ handle. length handle.dims ≡ 2) }
 {
-    let row = Layout::sequence(alloc, COLUMNS, value_of(alloc, text)?)?;
-    let rows = Layout::sequence(alloc, ROWS, row)?;
+    let rows = rows_of(alloc, text)?;
     let path = parse_path(alloc, "[][]")?;
     let handle = VarHandle::of(resolve(alloc, &rows, &path)?);
     if handle.resolved().dims().len() == 2 {
@@ -90,4 +89,10 @@ fn handle_of(alloc: Global, text: &str) -> Result<VarHandle, Refusal>
     } else {
         Err(Refusal::NotValue)
     }
+}
+
+/// The layout of a table of values whose layout the text stands for.
+fn rows_of(alloc: Global, text: &str) -> Result<Layout, Refusal> {
+    let row = Layout::sequence(alloc, COLUMNS, value_of(alloc, text)?)?;
+    Layout::sequence(alloc, ROWS, row)
 }

@@ -29,9 +29,7 @@ pub fn queries<R: Wait, M: Memory>(
 ) -> Result<u64, Refusal>
     requires { (M.view m.old).inside ≡ None }
 {
-    let layout = layout_from_json(alloc, ORDER.as_bytes())?;
-    check_record(&layout)?;
-    let query = parse_query(alloc, text, &layout)?;
+    let query = query_of(alloc, text)?;
     let arena = m.open_arena(rt, Kind::Shared)?;
     let first = m.allocate(rt, arena, RECORDS * SIZE, 8)?;
     let orders = Segment::of(arena, first, RECORDS * SIZE);
@@ -39,6 +37,13 @@ pub fn queries<R: Wait, M: Memory>(
         return Err(Refusal::Misaligned);
     }
     found(alloc, m, &query, &orders, count)
+}
+
+/// The query of orders that the text is.
+fn query_of(alloc: Global, text: &str) -> Result<Query, Refusal> {
+    let layout = layout_from_json(alloc, ORDER.as_bytes())?;
+    check_record(&layout)?;
+    parse_query(alloc, text, &layout)
 }
 
 /// The same, where the records are known and aligned.
