@@ -21,29 +21,29 @@ const ADDED: &str =
 /// words, which semicolons part, and how they end. Where workers race, ` or ` parts the texts that may be printed, which
 /// are equally long.
 const RUNS: &str = "\
-33 sum;16;8;long;F1 -> 0 sum 2|
-245 layout;L1 -> 0 size 24|alignment 8|.id 0 int little|.kind 4 short little|.price 8 long little|.tags[] 16 byte little 1*4|
-245 migrate;L1 -> 0 {\"layout\":{\"members\":[{\"name\":\"id\",\"type\":\"int\"},{\"name\":\"kind\",\"type\":\"short\"},{\"size\":2,\"type\":\"padding\"},{\"name\":\"price\",\"type\":\"long\"},{\"count\":4,\"element\":{\"type\":\"byte\"},\"name\":\"tags\",\"type\":\"sequence\"},{\"size\":4,\"type\":\"padding\"}],\"type\":\"struct\"},\"types\":[],\"version\":2}|
-294 query;--threads;2;L1;count,sum(.price),list(.tags[]) where .kind>=2;R1 -> 0 count 2|sum(.price) 210|list(.tags[]) 1 2 3 4 5 0 0 -1|
-294 stream;--threads;2;L1;count,sum(.price),list(.tags[]) where .kind>=2;R1 -> 0 count 2|sum(.price) 210|list(.tags[]) 1 2 3 4 5 0 0 -1|
-294 tally;L1;.tags[];R1 -> 0 -1 1|0 2|1 1|2 1|3 1|4 1|5 1|total 8|
+33 sum;16;8;long;Longs -> 0 sum 2|
+245 layout;Sale -> 0 size 24|alignment 8|.id 0 int little|.kind 4 short little|.price 8 long little|.tags[] 16 byte little 1*4|
+245 migrate;Sale -> 0 {\"layout\":{\"members\":[{\"name\":\"id\",\"type\":\"int\"},{\"name\":\"kind\",\"type\":\"short\"},{\"size\":2,\"type\":\"padding\"},{\"name\":\"price\",\"type\":\"long\"},{\"count\":4,\"element\":{\"type\":\"byte\"},\"name\":\"tags\",\"type\":\"sequence\"},{\"size\":4,\"type\":\"padding\"}],\"type\":\"struct\"},\"types\":[],\"version\":2}|
+294 query;--threads;2;Sale;count,sum(.price),list(.tags[]) where .kind>=2;Sales -> 0 count 2|sum(.price) 210|list(.tags[]) 1 2 3 4 5 0 0 -1|
+294 stream;--threads;2;Sale;count,sum(.price),list(.tags[]) where .kind>=2;Sales -> 0 count 2|sum(.price) 210|list(.tags[]) 1 2 3 4 5 0 0 -1|
+294 tally;Sale;.tags[];Sales -> 0 -1 1|0 2|1 1|2 1|3 1|4 1|5 1|total 8|
 111 run;S -> 0 first open a shared -> ok|first alloc a s 8 8 -> ok 0|1 add s long 0 5 -> 0|2 add s long 0 7 -> 5|last get s long 0 -> 12|bytes a 0c00000000000000| or first open a shared -> ok|first alloc a s 8 8 -> ok 0|1 add s long 0 5 -> 7|2 add s long 0 7 -> 0|last get s long 0 -> 12|bytes a 0c00000000000000|
 0 demo;3 -> 0 count 3|sum(.amount) -126243|min(.amount) -50000|max(.amount) -34162|count 0|sum(.id) 0|
 0 sum -> 1 usage|
 1 sum;16;8;long;nofile -> 2 missing nofile|
-49 layout;R1 -> 4 layout refused 40|
-245 query;L1;count,;R1 -> 5 query refused 50 6|
-33 sum;24;8;long;F1 -> 6 ragged 8|
-278 stream;L1;count;F1 -> 6 ragged 8|
-33 run;F1 -> 10 script refused 1|";
+49 layout;Sales -> 4 layout refused 40|
+245 query;Sale;count,;Sales -> 5 query refused 50 6|
+33 sum;24;8;long;Longs -> 6 ragged 8|
+278 stream;Sale;count;Longs -> 6 ragged 8|
+33 run;Longs -> 10 script refused 1|";
 
 /// The files of these runs, where the read of this number fails and each gives a byte.
 fn files(alloc: Global, failing: u64) -> Result<MemFiles, AllocError> {
     let failing = vec![in alloc; failing]?;
     let all = [
-        ("F1", two_longs()),
-        ("L1", SALE.as_bytes()),
-        ("R1", sales()),
+        ("Longs", two_longs()),
+        ("Sale", SALE.as_bytes()),
+        ("Sales", sales()),
         ("S", ADDED.as_bytes()),
     ];
     Ok(MemFiles::new(listed(alloc, &all)?, failing).with_piece(1))

@@ -14,13 +14,13 @@ use std::thread::Threads;
 /// Which of several workers takes which share isn't fixed, so there is one here, and a call for each share, at most four.
 /// The two queries of `demo` are calls of two crews, and where nothing is asked of records nobody passes.
 const PASSED: &str = "\
-query --threads 1 L1 count R1 -> 0 count 2| by 1: +0 -0 +1 -1|
-stream --threads 1 L1 count R1 -> 0 count 2| by 1: +0 -0 +1 -1|
-tally --threads 1 L1 .tags[0] R1 -> 0 1 1|5 1|total 2| by 1: +0 -0 +1 -1|
+query --threads 1 Sale count Sales -> 0 count 2| by 1: +0 -0 +1 -1|
+stream --threads 1 Sale count Sales -> 0 count 2| by 1: +0 -0 +1 -1|
+tally --threads 1 Sale .tags[0] Sales -> 0 1 1|5 1|total 2| by 1: +0 -0 +1 -1|
 demo --threads 1 3 -> 0 count 3|sum(.amount) -126243|min(.amount) -50000|max(.amount) -34162|count 0|sum(.id) 0| by 1: +0 -0 +1 -1 +2 -2 +0 -0 +1 -1 +2 -2|
-query L1 count Ragged -> 6 ragged 1|
-stream L1 count Ragged -> 6 ragged 1|
-stream L1 count E -> 0 count 0|
+query Sale count Ragged -> 6 ragged 1|
+stream Sale count Ragged -> 6 ragged 1|
+stream Sale count Empty -> 0 count 0|
 layout nofile -> 2 missing nofile|";
 
 /// The first and the last lines are those of no worker.

@@ -21,27 +21,27 @@ where
 
 /// Lines, their statuses, and whether a pool is kept.
 const KEEPING: &str = "\
-query L1 count R1 -> 0 kept
-query L1 count, R1 -> 5 none
-tally L1 .tags[] R1 -> 0 kept
-stream L1 count Ragged -> 6 none
-stream L1 count R1 -> 0 kept
-stream L1 count nofile -> 2 none
-stream L1 count E -> 0 kept
-stream L1 count, R1 -> 5 none
-stream --threads 16 L1 count R1 -> 0 kept
-query L1 count nofile -> 2 none
+query Sale count Sales -> 0 kept
+query Sale count, Sales -> 5 none
+tally Sale .tags[] Sales -> 0 kept
+stream Sale count Ragged -> 6 none
+stream Sale count Sales -> 0 kept
+stream Sale count nofile -> 2 none
+stream Sale count Empty -> 0 kept
+stream Sale count, Sales -> 5 none
+stream --threads 16 Sale count Sales -> 0 kept
+query Sale count nofile -> 2 none
 demo --threads 2 3 -> 0 kept
-query L1 count Ragged -> 6 none
-query L1 count E -> 0 kept
-layout L1 -> 0 none
-migrate L1 -> 0 none
-tally L1 .tags[] E -> 0 kept
-sum 8 0 long R1 -> 0 none
-query --threads 16 L1 count R1 -> 0 kept
+query Sale count Ragged -> 6 none
+query Sale count Empty -> 0 kept
+layout Sale -> 0 none
+migrate Sale -> 0 none
+tally Sale .tags[] Empty -> 0 kept
+sum 8 0 long Sales -> 0 none
+query --threads 16 Sale count Sales -> 0 kept
 query -> 1 none
-tally L1 .price R1 -> 5 none
-tally Broken .tags[] R1 -> 4 none";
+tally Sale .price Sales -> 5 none
+tally Broken .tags[] Sales -> 4 none";
 
 /// Runs the line of a row, where the write of this number fails, and compares how it ends and whether a pool is kept
 /// with what the row tells.
@@ -79,14 +79,14 @@ fn a_pool_is_kept_with_each_answer_of_one(rt: HostRuntime) {
 
 /// Lines whose answer isn't written, and whether a pool is kept.
 const UNWRITTEN: &str = "\
-query L1 count R1 -> 8 kept
-query L1 count, R1 -> 8 none
-tally L1 .tags[] R1 -> 8 kept
-query L1 count, R1 -> 8 none
-stream L1 count R1 -> 8 kept
+query Sale count Sales -> 8 kept
+query Sale count, Sales -> 8 none
+tally Sale .tags[] Sales -> 8 kept
+query Sale count, Sales -> 8 none
+stream Sale count Sales -> 8 kept
 query -> 8 none
 demo 3 -> 8 kept
-sum 8 0 long R1 -> 8 none";
+sum 8 0 long Sales -> 8 none";
 
 #[test]
 fn it_is_kept_where_the_answer_is_not_written(rt: HostRuntime) {

@@ -13,36 +13,36 @@ use std::thread::Threads;
 
 /// The record file, queries over its sales, and how they end. A text that is refused is refused before the file is read.
 pub const QUERIES: &str = "\
-R1 count,sum(.price),list(.tags[]) where .kind>=2 -> 0 count 2|sum(.price) 210|list(.tags[]) 1 2 3 4 5 0 0 -1|
-R1 min(.price) where .kind=9 -> 0 min(.price) none|
-R1 max(.price),min(.tags[]),sum(.tags[1:2]),list(.id) -> 0 max(.price) 250|min(.tags[]) -1|sum(.tags[1:2]) 5|list(.id) 1 2|
-E count,sum(.price),min(.price),max(.price),list(.tags[]) -> 0 count 0|sum(.price) 0|min(.price) none|max(.price) none|list(.tags[])|
-R1 list(.id) where .id>2 -> 0 list(.id)|
-R1 list(.id) where .kind=2 -> 0 list(.id) 1|
-R1 list(.id) where .kind=1 -> 0 list(.id)|
-R1 list(.id) where .kind!=2 -> 0 list(.id) 2|
-R1 list(.id) where .kind<2 -> 0 list(.id)|
-R1 list(.id) where .kind<3 -> 0 list(.id) 1|
-R1 list(.id) where .kind<=1 -> 0 list(.id)|
-R1 list(.id) where .kind<=2 -> 0 list(.id) 1|
-R1 list(.id) where .kind>3 -> 0 list(.id)|
-R1 list(.id) where .kind>2 -> 0 list(.id) 2|
-R1 list(.id) where .kind>=4 -> 0 list(.id)|
-R1 list(.id) where .kind>=3 -> 0 list(.id) 2|
-R1 list(.id) where .price=-40 and .tags[3]=-1 -> 0 list(.id) 2|
-R1 list(.id) where .price=-40 and .tags[3]=4 -> 0 list(.id)|
-R1 count where .price>-9223372036854775808 -> 0 count 2|
-R1 count where .price<=9223372036854775807 -> 0 count 2|
-R1 count, -> 5 query refused 50 6|
-R1  -> 5 query refused 50 0|
-R1 sum(.nope) -> 5 query refused 31 0|
-R1 sum(.id.x) -> 5 query refused 30 1|
-R1 sum(.kind[0]) -> 5 query refused 32 1|
-R1 sum(.tags[4]) -> 5 query refused 33 1|
-R1 sum(.tags) -> 5 query refused 35|
-R1 sum(.tags[0:0]) -> 5 query refused 36 1|
-R1 count where .tags[]=1 -> 5 query refused 34 1|
-R1 sum(.tags[01]) -> 5 query refused 50 11|
+Sales count,sum(.price),list(.tags[]) where .kind>=2 -> 0 count 2|sum(.price) 210|list(.tags[]) 1 2 3 4 5 0 0 -1|
+Sales min(.price) where .kind=9 -> 0 min(.price) none|
+Sales max(.price),min(.tags[]),sum(.tags[1:2]),list(.id) -> 0 max(.price) 250|min(.tags[]) -1|sum(.tags[1:2]) 5|list(.id) 1 2|
+Empty count,sum(.price),min(.price),max(.price),list(.tags[]) -> 0 count 0|sum(.price) 0|min(.price) none|max(.price) none|list(.tags[])|
+Sales list(.id) where .id>2 -> 0 list(.id)|
+Sales list(.id) where .kind=2 -> 0 list(.id) 1|
+Sales list(.id) where .kind=1 -> 0 list(.id)|
+Sales list(.id) where .kind!=2 -> 0 list(.id) 2|
+Sales list(.id) where .kind<2 -> 0 list(.id)|
+Sales list(.id) where .kind<3 -> 0 list(.id) 1|
+Sales list(.id) where .kind<=1 -> 0 list(.id)|
+Sales list(.id) where .kind<=2 -> 0 list(.id) 1|
+Sales list(.id) where .kind>3 -> 0 list(.id)|
+Sales list(.id) where .kind>2 -> 0 list(.id) 2|
+Sales list(.id) where .kind>=4 -> 0 list(.id)|
+Sales list(.id) where .kind>=3 -> 0 list(.id) 2|
+Sales list(.id) where .price=-40 and .tags[3]=-1 -> 0 list(.id) 2|
+Sales list(.id) where .price=-40 and .tags[3]=4 -> 0 list(.id)|
+Sales count where .price>-9223372036854775808 -> 0 count 2|
+Sales count where .price<=9223372036854775807 -> 0 count 2|
+Sales count, -> 5 query refused 50 6|
+Sales  -> 5 query refused 50 0|
+Sales sum(.nope) -> 5 query refused 31 0|
+Sales sum(.id.x) -> 5 query refused 30 1|
+Sales sum(.kind[0]) -> 5 query refused 32 1|
+Sales sum(.tags[4]) -> 5 query refused 33 1|
+Sales sum(.tags) -> 5 query refused 35|
+Sales sum(.tags[0:0]) -> 5 query refused 36 1|
+Sales count where .tags[]=1 -> 5 query refused 34 1|
+Sales sum(.tags[01]) -> 5 query refused 50 11|
 nofile count, -> 5 query refused 50 6|
 nofile count -> 2 missing nofile|
 Ragged count -> 6 ragged 1|";
@@ -54,7 +54,7 @@ where
 {
     let (line, status, printed) = parts_of(rt, row);
     let (file, text) = line.split_once(' ').unwrap_or((line, ""));
-    ends(rt, files, &[command, "L1", text, file], status, &printed);
+    ends(rt, files, &[command, "Sale", text, file], status, &printed);
 }
 
 /// The same for each row, in pieces of this size.
@@ -111,56 +111,56 @@ fn a_layout_of_no_records_is_refused(rt: HostRuntime) {
 
 /// Words with the option in each place, and how they end.
 const OPTIONS: &str = "\
-query L1 count R1 -> 0 count 2|
-query --threads 1 L1 count R1 -> 0 count 2|
-query L1 --threads 2 count R1 -> 0 count 2|
-query L1 count --threads 9 R1 -> 0 count 2|
-query L1 count R1 --threads 16 -> 0 count 2|
-query --threads=1 L1 count R1 -> 0 count 2|
-query L1 count R1 --threads=16 -> 0 count 2|
-query --threads 2 -- L1 count R1 -> 0 count 2|
-query -- L1 count R1 -> 0 count 2|
-query L1 -- count R1 -> 0 count 2|
-query L1 count R1 -- -> 0 count 2|
-query -- --threads count R1 -> 2 missing --threads|
-query L1 count -- -R1 -> 2 missing -R1|
-query L1 -- -- R1 -> 5 query refused 50 0|
-query - count R1 -> 2 missing -|
-query L1 - R1 -> 5 query refused 50 0|
-query L1 count - -> 2 missing -|
-query  count R1 -> 2 missing |
+query Sale count Sales -> 0 count 2|
+query --threads 1 Sale count Sales -> 0 count 2|
+query Sale --threads 2 count Sales -> 0 count 2|
+query Sale count --threads 9 Sales -> 0 count 2|
+query Sale count Sales --threads 16 -> 0 count 2|
+query --threads=1 Sale count Sales -> 0 count 2|
+query Sale count Sales --threads=16 -> 0 count 2|
+query --threads 2 -- Sale count Sales -> 0 count 2|
+query -- Sale count Sales -> 0 count 2|
+query Sale -- count Sales -> 0 count 2|
+query Sale count Sales -- -> 0 count 2|
+query -- --threads count Sales -> 2 missing --threads|
+query Sale count -- -Sales -> 2 missing -Sales|
+query Sale -- -- Sales -> 5 query refused 50 0|
+query - count Sales -> 2 missing -|
+query Sale - Sales -> 5 query refused 50 0|
+query Sale count - -> 2 missing -|
+query  count Sales -> 2 missing |
 query -> 1 usage|
-query L1 count -> 1 usage|
-query L1 count R1 R1 -> 1 usage|
-query L1 count R1 -- R1 -> 1 usage|
-query L1 count R1 -- --threads 2 -> 1 usage|
-query --threads L1 count R1 -> 1 usage|
-query L1 count R1 --threads -> 1 usage|
-query --threads -- L1 count R1 -> 1 usage|
-query --threads=  L1 count R1 -> 1 usage|
-query --threads= L1 count R1 -> 1 usage|
-query --threads 0 L1 count R1 -> 1 usage|
-query --threads 17 L1 count R1 -> 1 usage|
-query --threads=17 L1 count R1 -> 1 usage|
-query --threads 01 L1 count R1 -> 1 usage|
-query --threads=02 L1 count R1 -> 1 usage|
-query --threads +1 L1 count R1 -> 1 usage|
-query --threads -1 L1 count R1 -> 1 usage|
-query --threads 18446744073709551617 L1 count R1 -> 1 usage|
-query --threads 2 --threads 2 L1 count R1 -> 1 usage|
-query --threads=2 L1 count R1 --threads=2 -> 1 usage|
-query --threads 2 L1 count R1 --threads=2 -> 1 usage|
-query --thread 2 L1 count R1 -> 1 usage|
-query --Threads 2 L1 count R1 -> 1 usage|
-query --threads2 L1 count R1 -> 1 usage|
-query -t 2 L1 count R1 -> 1 usage|
-query L1 count -R1 -> 1 usage|
+query Sale count -> 1 usage|
+query Sale count Sales Sales -> 1 usage|
+query Sale count Sales -- Sales -> 1 usage|
+query Sale count Sales -- --threads 2 -> 1 usage|
+query --threads Sale count Sales -> 1 usage|
+query Sale count Sales --threads -> 1 usage|
+query --threads -- Sale count Sales -> 1 usage|
+query --threads=  Sale count Sales -> 1 usage|
+query --threads= Sale count Sales -> 1 usage|
+query --threads 0 Sale count Sales -> 1 usage|
+query --threads 17 Sale count Sales -> 1 usage|
+query --threads=17 Sale count Sales -> 1 usage|
+query --threads 01 Sale count Sales -> 1 usage|
+query --threads=02 Sale count Sales -> 1 usage|
+query --threads +1 Sale count Sales -> 1 usage|
+query --threads -1 Sale count Sales -> 1 usage|
+query --threads 18446744073709551617 Sale count Sales -> 1 usage|
+query --threads 2 --threads 2 Sale count Sales -> 1 usage|
+query --threads=2 Sale count Sales --threads=2 -> 1 usage|
+query --threads 2 Sale count Sales --threads=2 -> 1 usage|
+query --thread 2 Sale count Sales -> 1 usage|
+query --Threads 2 Sale count Sales -> 1 usage|
+query --threads2 Sale count Sales -> 1 usage|
+query -t 2 Sale count Sales -> 1 usage|
+query Sale count -Sales -> 1 usage|
 query --help -> 1 usage|
 query -h -> 1 usage|
 query --version -> 1 usage|
-query --help L1 count R1 -> 1 usage|
---threads 2 query L1 count R1 -> 1 usage|
-Query L1 count R1 -> 1 usage|";
+query --help Sale count Sales -> 1 usage|
+--threads 2 query Sale count Sales -> 1 usage|
+Query Sale count Sales -> 1 usage|";
 
 #[test]
 fn the_option_stands_anywhere_and_once(rt: HostRuntime) {
@@ -175,7 +175,7 @@ where
     let mut files = files(rt, None, usize::MAX);
     let query = "count,sum(.price),list(.tags[]) where .kind>=2";
     for threads in ["1", "2", "7", "16"] {
-        let words = ["query", "--threads", threads, "L1", query, file];
+        let words = ["query", "--threads", threads, "Sale", query, file];
         ends(rt, &mut files, &words, 0, text);
     }
 }
@@ -183,8 +183,8 @@ where
 #[test]
 fn as_many_threads_as_one_likes_answer_the_same(rt: HostRuntime) {
     let text = "count 2\nsum(.price) 210\nlist(.tags[]) 1 2 3 4 5 0 0 -1\n";
-    crews_answer(&rt, "R1", text);
-    crews_answer(&rt, "E", "count 0\nsum(.price) 0\nlist(.tags[])\n");
+    crews_answer(&rt, "Sales", text);
+    crews_answer(&rt, "Empty", "count 0\nsum(.price) 0\nlist(.tags[])\n");
 }
 
 /// How a count of so many bytes of the sales ends: with the number of records, or of bytes behind them.
@@ -203,13 +203,13 @@ where
 {
     let sales = sales();
     let records = &sales[..count.min(sales.len())];
-    let all = [("L1", SALE.as_bytes()), ("R", records)];
+    let all = [("Sale", SALE.as_bytes()), ("R", records)];
     let mut files = SureFiles::new(listed(rt.alloc(), &all).expect(rt, "memory"));
     let (status, text) = counted(rt.alloc(), count).expect(rt, "memory");
     ends(
         rt,
         &mut files,
-        &[command, "L1", "count", "R"],
+        &[command, "Sale", "count", "R"],
         status,
         &text,
     );
@@ -232,13 +232,13 @@ fn a_part_of_the_records_is_counted_or_ragged(rt: HostRuntime) {
 
 /// How runs end after so many reads. Each file that is there takes one read for its bytes and one for its end.
 const READS: &str = "\
-query nolayout count R1 -> 2 missing nolayout| after 1
-query Broken count R1 -> 4 layout refused 40| after 2
-query Void count R1 -> 4 layout refused 25| after 2
-query L1 count, R1 -> 5 query refused 50 6| after 2
-query L1 count nofile -> 2 missing nofile| after 3
-query L1 count Ragged -> 6 ragged 1| after 4
-query L1 count R1 -> 0 count 2| after 4";
+query nolayout count Sales -> 2 missing nolayout| after 1
+query Broken count Sales -> 4 layout refused 40| after 2
+query Void count Sales -> 4 layout refused 25| after 2
+query Sale count, Sales -> 5 query refused 50 6| after 2
+query Sale count nofile -> 2 missing nofile| after 3
+query Sale count Ragged -> 6 ragged 1| after 4
+query Sale count Sales -> 0 count 2| after 4";
 
 /// Compares how a run ends after so many reads with what its row tells: the last of them is needed, and none past it.
 fn row_reads<R>(rt: &R, row: &str)
@@ -286,12 +286,12 @@ where
 
 #[test]
 fn one_run_follows_another(rt: HostRuntime) {
-    let row = "query;L1;min(.price) where .kind=9;R1";
+    let row = "query;Sale;min(.price) where .kind=9;Sales";
     let mut files = files(&rt, Some(0), usize::MAX);
     let mut out = SureSink::new(rt.alloc());
     same(&rt, status_of(&rt, &mut files, &mut out, row), 3);
     same(&rt, status_of(&rt, &mut files, &mut out, row), 0);
-    let nofile = "query;L1;count;nofile";
+    let nofile = "query;Sale;count;nofile";
     same(&rt, status_of(&rt, &mut files, &mut out, nofile), 2);
     same(&rt, status_of(&rt, &mut files, &mut out, row), 0);
     let text = "min(.price) none\nmissing nofile\nmin(.price) none\n";

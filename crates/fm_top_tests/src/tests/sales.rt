@@ -16,14 +16,15 @@ pub fn sales() -> &'static [u8] {
     &RAGGED[..48]
 }
 
-/// `L1`, of which `R1` has two records, the empty file `E`, and `R1` with a byte more, which is named `Ragged`; and
-/// layouts of which no records are: `Void` has no byte, `Uneven` isn't a multiple of its alignment, and `Broken` is none.
+/// `Sale`, of which `Sales` has two records, the empty file `Empty`, and `Sales` with a byte more, which is named
+/// `Ragged`; and layouts of which no records are: `Void` has no byte, `Uneven` isn't a multiple of its alignment, and
+/// `Broken` is none.
 fn all_files(alloc: Global) -> Result<Vec<(String, Vec<u8>)>, AllocError> {
     let uneven = "{\"type\":\"struct\",\"members\":[{\"type\":\"long\"},{\"type\":\"int\"}]}";
     let all = [
-        ("L1", SALE.as_bytes()),
-        ("R1", sales()),
-        ("E", b"".as_slice()),
+        ("Sale", SALE.as_bytes()),
+        ("Sales", sales()),
+        ("Empty", b"".as_slice()),
         ("Ragged", RAGGED.as_slice()),
         ("Void", b"{\"type\":\"struct\",\"members\":[]}".as_slice()),
         ("Uneven", uneven.as_bytes()),

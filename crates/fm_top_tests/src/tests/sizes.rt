@@ -25,8 +25,8 @@ where
     R: Threads + Wait + Sync + RandomSource + AllocGlobal + Abort,
 {
     let mut files = files(rt, None, usize::MAX);
-    ends(rt, &mut files, &["query", name, "count", "R1"], 2, text);
-    ends(rt, &mut files, &["query", "L1", "count", name], 2, text);
+    ends(rt, &mut files, &["query", name, "count", "Sales"], 2, text);
+    ends(rt, &mut files, &["query", "Sale", "count", name], 2, text);
     ends(rt, &mut files, &["run", name], 2, text);
 }
 

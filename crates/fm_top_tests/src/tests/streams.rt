@@ -31,25 +31,25 @@ fn a_stream_over_a_layout_of_no_records_is_refused(rt: HostRuntime) {
 
 /// Words of streams, and how they end: with as many threads as one likes, and with none.
 const STREAMS: &str = "\
-stream --threads 1 L1 list(.tags[]) R1 -> 0 list(.tags[]) 1 2 3 4 5 0 0 -1|
-stream L1 list(.tags[]) R1 --threads=2 -> 0 list(.tags[]) 1 2 3 4 5 0 0 -1|
-stream --threads 8 -- L1 list(.tags[]) R1 -> 0 list(.tags[]) 1 2 3 4 5 0 0 -1|
-stream L1 --threads 16 list(.tags[]) R1 -> 0 list(.tags[]) 1 2 3 4 5 0 0 -1|
-stream --threads 16 L1 count,sum(.price) E -> 0 count 0|sum(.price) 0|
-stream --threads 16 L1 count Ragged -> 6 ragged 1|
-stream L1 -- -- R1 -> 5 query refused 50 0|
-stream L1 count -- -R1 -> 2 missing -R1|
+stream --threads 1 Sale list(.tags[]) Sales -> 0 list(.tags[]) 1 2 3 4 5 0 0 -1|
+stream Sale list(.tags[]) Sales --threads=2 -> 0 list(.tags[]) 1 2 3 4 5 0 0 -1|
+stream --threads 8 -- Sale list(.tags[]) Sales -> 0 list(.tags[]) 1 2 3 4 5 0 0 -1|
+stream Sale --threads 16 list(.tags[]) Sales -> 0 list(.tags[]) 1 2 3 4 5 0 0 -1|
+stream --threads 16 Sale count,sum(.price) Empty -> 0 count 0|sum(.price) 0|
+stream --threads 16 Sale count Ragged -> 6 ragged 1|
+stream Sale -- -- Sales -> 5 query refused 50 0|
+stream Sale count -- -Sales -> 2 missing -Sales|
 stream -> 1 usage|
-stream L1 count -> 1 usage|
-stream L1 count R1 R1 -> 1 usage|
-stream L1 count -R1 -> 1 usage|
-stream --threads 0 L1 count R1 -> 1 usage|
-stream --threads 17 L1 count R1 -> 1 usage|
-stream --threads=2 --threads=2 L1 count R1 -> 1 usage|
-stream --thread 2 L1 count R1 -> 1 usage|
---threads 2 stream L1 count R1 -> 1 usage|
-streams L1 count R1 -> 1 usage|
-Stream L1 count R1 -> 1 usage|";
+stream Sale count -> 1 usage|
+stream Sale count Sales Sales -> 1 usage|
+stream Sale count -Sales -> 1 usage|
+stream --threads 0 Sale count Sales -> 1 usage|
+stream --threads 17 Sale count Sales -> 1 usage|
+stream --threads=2 --threads=2 Sale count Sales -> 1 usage|
+stream --thread 2 Sale count Sales -> 1 usage|
+--threads 2 stream Sale count Sales -> 1 usage|
+streams Sale count Sales -> 1 usage|
+Stream Sale count Sales -> 1 usage|";
 
 #[test]
 fn words_of_streams_have_one_form(rt: HostRuntime) {
@@ -58,13 +58,13 @@ fn words_of_streams_have_one_form(rt: HostRuntime) {
 
 /// How runs end after so many reads. Each file that is there takes one read for its bytes and one for its end.
 const READS: &str = "\
-stream nolayout count R1 -> 2 missing nolayout| after 1
-stream Broken count R1 -> 4 layout refused 40| after 2
-stream L1 count, R1 -> 5 query refused 50 6| after 2
-stream L1 count nofile -> 2 missing nofile| after 3
-stream L1 count E -> 0 count 0| after 3
-stream L1 count Ragged -> 6 ragged 1| after 4
-stream L1 count R1 -> 0 count 2| after 4";
+stream nolayout count Sales -> 2 missing nolayout| after 1
+stream Broken count Sales -> 4 layout refused 40| after 2
+stream Sale count, Sales -> 5 query refused 50 6| after 2
+stream Sale count nofile -> 2 missing nofile| after 3
+stream Sale count Empty -> 0 count 0| after 3
+stream Sale count Ragged -> 6 ragged 1| after 4
+stream Sale count Sales -> 0 count 2| after 4";
 
 #[test]
 fn a_stream_reads_nothing_past_what_is_needed(rt: HostRuntime) {

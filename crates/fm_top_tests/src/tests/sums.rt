@@ -21,12 +21,12 @@ pub fn two_longs() -> &'static [u8] {
 /// The most bytes of a record file.
 const LIMIT: usize = 67_108_864;
 
-/// The two records as `F1`, the empty file `E`, and the records with a byte more, which are named `Ragged`, where these
-/// reads fail and each gives at most so many bytes.
+/// The two records as `Longs`, the empty file `Empty`, and the records with a byte more, which are named `Ragged`, where
+/// these reads fail and each gives at most so many bytes.
 fn files<R: AllocGlobal + Abort>(rt: &R, failing: Vec<u64>, most: usize) -> MemFiles {
     let all = [
-        ("F1", two_longs()),
-        ("E", b"".as_slice()),
+        ("Longs", two_longs()),
+        ("Empty", b"".as_slice()),
         ("Ragged", RAGGED.as_slice()),
     ];
     let all = listed(rt.alloc(), &all).expect(rt, "memory");
@@ -35,24 +35,24 @@ fn files<R: AllocGlobal + Abort>(rt: &R, failing: Vec<u64>, most: usize) -> MemF
 
 /// Lines, and how they end.
 const SUMS: &str = "\
-sum 16 8 long F1 -> 0 sum 2|
-sum 8 0 long F1 -> 0 sum 2|
-sum 32 8 long F1 -> 0 sum -3|
-sum 16 8 long E -> 0 sum 0|
-sum 1 0 byte F1 -> 0 sum -5|
-sum 1 0 boolean F1 -> 0 sum 9|
-sum 2 0 char F1 -> 0 sum 262143|
-sum 2 0 short F1 -> 0 sum -1|
-sum 4 0 int F1 -> 0 sum 1|
-sum 16 12 int F1 -> 0 sum -1|
+sum 16 8 long Longs -> 0 sum 2|
+sum 8 0 long Longs -> 0 sum 2|
+sum 32 8 long Longs -> 0 sum -3|
+sum 16 8 long Empty -> 0 sum 0|
+sum 1 0 byte Longs -> 0 sum -5|
+sum 1 0 boolean Longs -> 0 sum 9|
+sum 2 0 char Longs -> 0 sum 262143|
+sum 2 0 short Longs -> 0 sum -1|
+sum 4 0 int Longs -> 0 sum 1|
+sum 16 12 int Longs -> 0 sum -1|
 sum 11 0 byte Ragged -> 0 sum -1|
-sum 16 4 long F1 -> 1 usage|
-sum 2 1 short F1 -> 1 usage|
-sum 3 0 char F1 -> 1 usage|
+sum 16 4 long Longs -> 1 usage|
+sum 2 1 short Longs -> 1 usage|
+sum 3 0 char Longs -> 1 usage|
 sum 16 8 long nofile -> 2 missing nofile|
 sum 16 8 long  -> 2 missing |
 sum 16 8 long Ragged -> 6 ragged 1|
-sum 24 8 long F1 -> 6 ragged 8|";
+sum 24 8 long Longs -> 6 ragged 8|";
 
 #[test]
 fn each_row_is_answered_in_pieces_of_every_size(rt: HostRuntime) {
@@ -66,35 +66,35 @@ const NO_FORM: &str = "\
 sum
 
 sum 16 8 long
-sum 16 8 long F1 F1
-sum  8 long F1
-sum 16  long F1
-sum 16 8  F1
- 16 8 long F1
-Sum 16 8 long F1
-min 16 8 long F1
-sum 16 8 float F1
-sum 16 8 Long F1
-sum 16 8 long -F1
+sum 16 8 long Longs Longs
+sum  8 long Longs
+sum 16  long Longs
+sum 16 8  Longs
+ 16 8 long Longs
+Sum 16 8 long Longs
+min 16 8 long Longs
+sum 16 8 float Longs
+sum 16 8 Long Longs
+sum 16 8 long -Longs
 sum 16 8 long -
-sum +16 8 long F1
-sum 16 +8 long F1
-sum -16 8 long F1
-sum 16 -8 long F1
-sum 16 -0 long F1
-sum 016 8 long F1
-sum 16 08 long F1
-sum 16 00 long F1
-sum 0x10 8 long F1
-sum 16 8. long F1
-sum 0 0 long F1
-sum 12 0 long F1
-sum 16 4 long F1
-sum 16 16 long F1
-sum 1048584 0 long F1
-sum 18446744073709551616 8 long F1
-sum 16 18446744073709551608 long F1
-sum 16 18446744073709551624 long F1";
+sum +16 8 long Longs
+sum 16 +8 long Longs
+sum -16 8 long Longs
+sum 16 -8 long Longs
+sum 16 -0 long Longs
+sum 016 8 long Longs
+sum 16 08 long Longs
+sum 16 00 long Longs
+sum 0x10 8 long Longs
+sum 16 8. long Longs
+sum 0 0 long Longs
+sum 12 0 long Longs
+sum 16 4 long Longs
+sum 16 16 long Longs
+sum 1048584 0 long Longs
+sum 18446744073709551616 8 long Longs
+sum 16 18446744073709551608 long Longs
+sum 16 18446744073709551624 long Longs";
 
 #[test]
 fn words_of_no_form_read_no_file(rt: HostRuntime) {

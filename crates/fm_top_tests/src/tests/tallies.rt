@@ -15,20 +15,20 @@ const TAGS: &str = "-1 1\n0 2\n1 1\n2 1\n3 1\n4 1\n5 1\ntotal 8\n";
 /// The record file, paths into its sales, and how their tallies end. A path that is refused is refused before the file is
 /// read.
 const TALLIES: &str = "\
-R1 .tags[] -> 0 -1 1|0 2|1 1|2 1|3 1|4 1|5 1|total 8|
-R1 .tags[1:2] -> 0 -1 1|0 1|2 1|4 1|total 4|
-R1 .tags[0] -> 0 1 1|5 1|total 2|
-E .tags[] -> 0 total 0|
-R1 .price -> 5 query refused 6|
-R1 .kind -> 5 query refused 6|
-R1  -> 5 query refused 50 0|
-R1 .tags[01] -> 5 query refused 50 7|
-R1 list(.tags[]) -> 5 query refused 50 0|
-R1 .tags[] where .kind=2 -> 5 query refused 50 7|
-R1 .nope -> 5 query refused 31 0|
-R1 .tags -> 5 query refused 35|
-R1 .tags[4] -> 5 query refused 33 1|
-R1 .tags[0:0] -> 5 query refused 36 1|
+Sales .tags[] -> 0 -1 1|0 2|1 1|2 1|3 1|4 1|5 1|total 8|
+Sales .tags[1:2] -> 0 -1 1|0 1|2 1|4 1|total 4|
+Sales .tags[0] -> 0 1 1|5 1|total 2|
+Empty .tags[] -> 0 total 0|
+Sales .price -> 5 query refused 6|
+Sales .kind -> 5 query refused 6|
+Sales  -> 5 query refused 50 0|
+Sales .tags[01] -> 5 query refused 50 7|
+Sales list(.tags[]) -> 5 query refused 50 0|
+Sales .tags[] where .kind=2 -> 5 query refused 50 7|
+Sales .nope -> 5 query refused 31 0|
+Sales .tags -> 5 query refused 35|
+Sales .tags[4] -> 5 query refused 33 1|
+Sales .tags[0:0] -> 5 query refused 36 1|
 nofile .price -> 5 query refused 6|
 nofile .tags[4] -> 5 query refused 33 1|
 nofile .tags[] -> 2 missing nofile|
@@ -46,15 +46,15 @@ where
 {
     let mut files = files(rt, None, usize::MAX);
     for threads in ["1", "2", "7", "16"] {
-        let words = ["tally", "L1", ".tags[]", file, "--threads", threads];
+        let words = ["tally", "Sale", ".tags[]", file, "--threads", threads];
         ends(rt, &mut files, &words, 0, text);
     }
 }
 
 #[test]
 fn as_many_threads_as_one_likes_count_the_same(rt: HostRuntime) {
-    crews_count(&rt, "R1", TAGS);
-    crews_count(&rt, "E", "total 0\n");
+    crews_count(&rt, "Sales", TAGS);
+    crews_count(&rt, "Empty", "total 0\n");
 }
 
 /// Records of a boolean and a byte.
@@ -78,18 +78,18 @@ fn each_byte_is_counted_as_its_number(rt: HostRuntime) {
 
 /// Words of tallies, and how they end.
 const FORMS: &str = "\
-tally --threads=2 L1 .tags[] R1 -> 0 -1 1|0 2|1 1|2 1|3 1|4 1|5 1|total 8|
-tally L1 -- .tags[] R1 -> 0 -1 1|0 2|1 1|2 1|3 1|4 1|5 1|total 8|
-tally nolayout .tags[] R1 -> 2 missing nolayout|
-tally Broken .tags[] R1 -> 4 layout refused 40|
-tally Void .tags[] R1 -> 4 layout refused 25|
+tally --threads=2 Sale .tags[] Sales -> 0 -1 1|0 2|1 1|2 1|3 1|4 1|5 1|total 8|
+tally Sale -- .tags[] Sales -> 0 -1 1|0 2|1 1|2 1|3 1|4 1|5 1|total 8|
+tally nolayout .tags[] Sales -> 2 missing nolayout|
+tally Broken .tags[] Sales -> 4 layout refused 40|
+tally Void .tags[] Sales -> 4 layout refused 25|
 tally -> 1 usage|
-tally L1 .tags[] -> 1 usage|
-tally L1 .tags[] R1 R1 -> 1 usage|
-tally --threads 17 L1 .tags[] R1 -> 1 usage|
-tally --threads=2 --threads=2 L1 .tags[] R1 -> 1 usage|
-tally --thread 2 L1 .tags[] R1 -> 1 usage|
-Tally L1 .tags[] R1 -> 1 usage|";
+tally Sale .tags[] -> 1 usage|
+tally Sale .tags[] Sales Sales -> 1 usage|
+tally --threads 17 Sale .tags[] Sales -> 1 usage|
+tally --threads=2 --threads=2 Sale .tags[] Sales -> 1 usage|
+tally --thread 2 Sale .tags[] Sales -> 1 usage|
+Tally Sale .tags[] Sales -> 1 usage|";
 
 #[test]
 fn words_of_tallies_have_one_form(rt: HostRuntime) {
