@@ -43,6 +43,14 @@ const ZERO: Session = Session {
     holds: 0,
 };
 
+const GREATEST_FIELDS: Session = Session {
+    generation: u32::MAX,
+    life: Life::Closing,
+    kind: 3,
+    owner: 4_095,
+    holds: 65_535,
+};
+
 fn is_coded<R: Abort>(rt: &R, session: Session, word: u64)
     requires { IsSession session }
 {
@@ -105,24 +113,14 @@ fn fields_lie_apart_in_a_word(rt: HostRuntime) {
         },
         0xffff,
     );
-    let all = Session {
-        generation: u32::MAX,
-        life: Life::Closing,
-        kind: 3,
-        owner: 4_095,
-        holds: 65_535,
-    };
-    is_coded(&rt, all, 0xffff_ffff_bfff_ffff);
+    is_coded(&rt, GREATEST_FIELDS, 0xffff_ffff_bfff_ffff);
 }
 
 #[test]
 fn each_two_bits_are_read_as_a_life(rt: HostRuntime) {
     let all = Session {
-        generation: u32::MAX,
         life: Life::Unused,
-        kind: 3,
-        owner: 4_095,
-        holds: 65_535,
+        ..GREATEST_FIELDS
     };
     same(&rt, session_of(u64::MAX), all);
 }

@@ -117,6 +117,11 @@ first close a -> ok
 ",
         "bytes b 0000000000000000\n",
     );
+}
+
+/// The one page that is free goes to whoever asks first, and back where that one is closed.
+#[test]
+fn three_arenas_want_two_pages(rt: HostRuntime) {
     plays_first(
         &rt,
         "pool 3 2 1 1000 3",
