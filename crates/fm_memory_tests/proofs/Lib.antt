@@ -1,8 +1,2 @@
-pub mod Hearing
-pub mod Zero
-pub mod Going
-pub mod Calling
-pub mod Beside
 pub mod Finding
-pub mod Passing
 pub mod Handling

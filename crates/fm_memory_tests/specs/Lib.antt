@@ -1,4 +1,1 @@
-pub mod Double
-pub mod Heard
-pub mod Beside
 pub mod Closers

@@ -3,10 +3,9 @@ ghost use Rattle.fm_rule_calls.specs.Told.{view_of_pass};
 ghost use Rattle.fm_segment.specs.Access.{IsKnown};
 ghost use Rattle.fm_segment.specs.Learnt.{CanUse};
 ghost use Rattle.fm_arena.specs.Shares.{CanShare};
-ghost use Rattle.fm_memory_tests.specs.Beside.{AreBeside};
+ghost use Rattle.fm_memory_doubles.specs.Beside.{AreBeside};
 ghost use Rattle.fm_words.specs.Shapes.{IsValid};
 
-use crate::Interrupted;
 use crate::tests::body::{stay_out, use_a_word};
 use crate::tests::exact::use_by_itself;
 use crate::tests::handles::{use_a_long_of_another, use_values_of_another};
@@ -16,6 +15,7 @@ use crate::tests::segments::{
 };
 use fm_arena::Shared;
 use fm_base::{Kind, Memory};
+use fm_memory_doubles::Interrupted;
 use fm_rule::{Pass, Pool};
 use fm_segment::Segment;
 use fm_words::Shape;
