@@ -1,5 +1,5 @@
 -- What a source of files tells of its files, and what a read of one may answer.
-use Rattle.std.specs.Prelude.{◌≡◌, ◌≢◌, ℕ, ◌+◌, ◌≤◌, ◌<◌, List, [], map, length, take, drop, Option, None, MatchOption, IfSome, IsSomeAnd, String, Vec, string_bytes}
+use Rattle.std.specs.Prelude.{◌≡◌, ◌≢◌, ℕ, ◌+◌, ◌-◌, ◌≤◌, ◌<◌, min, List, [], map, length, take, drop, Option, None, MatchOption, IfSome, IsSomeAnd, String, Vec, string_bytes}
 use Rattle.std.specs.{Ordering.{nat_cmp}, Cmp.Lexicographic.{slice_cmp}, FinMap.{FinMap, from_entries, get}, declared.alloc.Global.{Global}}
 use Rattle.fm_io.specs.declared.files.Piece.{Piece, TheVariants.{Got, End, Missing}}
 
@@ -31,6 +31,16 @@ IsPieceOf file at buffer Missing = ⊥
 abbrev pub TellsPiece : Contents → List ℕ → ℕ → List ℕ → Piece → Type 0
 TellsPiece contents name at buffer piece =
     MatchOption (file_of contents name) (piece ≡ Missing) (λ file. IsPieceOf file at buffer piece)
+
+-- a piece has as many bytes as the file has from the place on, but no more than this
+abbrev pub IsLongest : List ℕ → ℕ → ℕ → Piece → Type 0
+IsLongest file at most (Got n) = n ≡ min (length file - at) most
+IsLongest file at most End = Unit {0}
+IsLongest file at most Missing = Unit {0}
+
+-- likewise of the file of that name, where it is there
+abbrev pub TellsLongest : Contents → List ℕ → ℕ → ℕ → Piece → Type 0
+TellsLongest contents name at most piece = IfSome (file_of contents name) (λ file. IsLongest file at most piece)
 
 -- the files tell that these are bytes of the file of that name, if there are any of them
 abbrev pub AreBytesFrom : Option Contents → List ℕ → ℕ → List ℕ → Type 0

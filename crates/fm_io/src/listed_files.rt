@@ -1,5 +1,5 @@
-ghost use Rattle.std.specs.Prelude.{◌≡◌, ◌<◌, ◌≤◌, ℕ, List, length, None, Some, MatchOption};
-ghost use Rattle.fm_io.specs.Files.{file_of, contents_of, HasBytes, TellsPiece, IsPieceOf};
+ghost use Rattle.std.specs.Prelude.{◌≡◌, ◌<◌, ◌≤◌, ℕ, List, length, min, None, Some, MatchOption};
+ghost use Rattle.fm_io.specs.Files.{file_of, contents_of, HasBytes, TellsPiece, IsPieceOf, TellsLongest, IsLongest};
 
 use crate::files::Piece;
 
@@ -16,13 +16,14 @@ fn bytes_under<'a>(files: &'a [(String, Vec<u8>)], name: &str) -> Option<&'a [u8
     None
 }
 
-/// As many bytes from the place on as there is room for, but no more than `most`.
+/// All bytes from the place on, but no more than there is room for, and no more than `most`.
 fn read_bytes(bytes: &[u8], at: u64, buf: &mut [u8], most: usize) -> Piece
     requires room { 0 < length buf.old }
     requires most { 0 < most }
     ensures bytes { HasBytes (length buf.old) result }
     ensures most { HasBytes most result }
     ensures content { IsPieceOf bytes.now at buf.new result }
+    ensures longest { IsLongest bytes.now at (min (length buf.old) most) result }
 {
     let Ok(at) = usize::try_from(at) else {
         return Piece::End;
@@ -36,7 +37,7 @@ fn read_bytes(bytes: &[u8], at: u64, buf: &mut [u8], most: usize) -> Piece
     Piece::Got(n)
 }
 
-/// Reads a piece of at most `most` bytes of the file of that name.
+/// Reads a piece of the file of that name: all bytes from the place on, but no more than there is room for and than `most`.
 pub fn read_listed(
     files: &[(String, Vec<u8>)],
     name: &str,
@@ -49,6 +50,8 @@ pub fn read_listed(
     ensures bytes { HasBytes (length buf.old) result }
     ensures most { HasBytes most result }
     ensures content { TellsPiece (contents_of files.now) name.now at buf.new result }
+    ensures longest { TellsLongest (contents_of files.now) name.now at (min (length buf.old) most)
+        result }
 {
     match bytes_under(files, name) {
         Some(bytes) => read_bytes(bytes, at, buf, most),

@@ -23,7 +23,7 @@ impl MemFiles {
     ghost use Rattle.fm_io.specs.InMemory.{mem_contents, mem_misses, mem_reads, read_limit};
 
     /// The reads whose numbers, from 0, are in `failing` fail. Where a name is listed twice, the first counts. A piece is
-    /// as long as there is room for.
+    /// as long as the file goes on and as there is room for.
     pub fn new(files: Vec<(String, Vec<u8>)>, failing: Vec<u64>) -> MemFiles
         ensures contents { mem_contents result ≡ contents_of files.items }
         ensures listed { listed_calls (mem_reads result) ≡ failing.items }
@@ -40,7 +40,7 @@ impl MemFiles {
         }
     }
 
-    /// The same files, each piece of at most `n` bytes.
+    /// The same files, each piece cut to `n` bytes where it would be longer.
     pub fn with_piece(mut self, n: usize) -> MemFiles
         requires { 0 < n }
         ensures contents { mem_contents result ≡ mem_contents self }
@@ -60,7 +60,7 @@ impl Files for MemFiles {
 
     fn read_at(&mut self, name: &str, at: u64, buf: &mut [u8]) -> Result<Piece, Fault>
         requires { 0 < length buf.old }
-        ensures listed { ReadsAsListed self.old self.new result }
+        ensures listed { ReadsAsListed self.old self.new name.now at (length buf.old) result }
         ensures bytes { IfOk result (HasBytes (length buf.old)) }
         ensures content { IfOk result (TellsPiece (mem_contents self.old) name.now at buf.new) }
         ensures left { Leaves (IsErrOf result Fault.Failed) (result ≡ Ok Piece.Missing)

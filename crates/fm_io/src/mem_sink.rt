@@ -1,4 +1,4 @@
-ghost use Rattle.std.specs.Prelude.{◌≡◌, ◌≤◌, ◌<◌, [], Some, length, IfOk};
+ghost use Rattle.std.specs.Prelude.{◌≡◌, ◌≤◌, ◌<◌, [], Some, length, min, IfOk};
 ghost use Rattle.fm_io.specs.Sink.{TookPiece};
 
 use crate::failing::Failing;
@@ -34,7 +34,7 @@ impl MemSink {
         }
     }
 
-    /// The same sink, each write of at most `n` bytes.
+    /// The same sink, each write of the whole piece or, where that is longer, of its first `n` bytes.
     pub fn with_piece(mut self, n: usize) -> MemSink
         requires { 0 < n }
         ensures written { mem_written result ≡ mem_written self }
@@ -65,7 +65,7 @@ impl Sink for MemSink {
         // It fails exactly where the call is one of those listed.
         ensures fails { FailsAsListed (mem_writes self.old) (mem_writes self.new) result }
         ensures bytes { IfOk result (λ n. (0 < n) × (n ≤ length piece.now)) }
-        ensures most { IfOk result (λ n. n ≤ self.old.most) }
+        ensures most { IfOk result (λ n. n ≡ min (length piece.now) self.old.most) }
         ensures took { TookPiece (Some (mem_written self.old)) (Some (mem_written self.new))
             piece.now result }
         ensures limit { self.new.most ≡ self.old.most }

@@ -1,6 +1,6 @@
 ghost use Rattle.std.specs.Prelude.{◌≡◌, ◌<◌, length, IfOk, IsErrOf, IsOk, Ok};
 ghost use Rattle.fm_io.specs.Count.{Raised};
-ghost use Rattle.fm_io.specs.Files.{contents_of, HasBytes, TellsPiece};
+ghost use Rattle.fm_io.specs.Files.{contents_of, HasBytes, TellsLongest, TellsPiece};
 ghost use Rattle.fm_io.specs.View.{Leaves};
 
 use crate::count::raised;
@@ -18,7 +18,7 @@ pub struct SureFiles {
 impl SureFiles {
     ghost use Rattle.fm_io.specs.InMemory.{sure_contents, sure_misses};
 
-    /// Where a name is listed twice, the first counts.
+    /// Where a name is listed twice, the first counts. A piece is as long as the file goes on and as there is room for.
     pub fn new(files: Vec<(String, Vec<u8>)>) -> SureFiles
         ensures contents { sure_contents result ≡ contents_of files.items }
         ensures misses { sure_misses result ≡ 0 }
@@ -37,6 +37,8 @@ impl Files for SureFiles {
         ensures sure { IsOk result }
         ensures bytes { IfOk result (HasBytes (length buf.old)) }
         ensures content { IfOk result (TellsPiece (sure_contents self.old) name.now at buf.new) }
+        ensures longest { IfOk result
+            (TellsLongest (sure_contents self.old) name.now at (length buf.old)) }
         ensures missing { result ≡ Ok Piece.Missing → Raised (sure_misses self.old)
             (sure_misses self.new) }
         ensures left { Leaves (IsErrOf result Fault.Failed) (result ≡ Ok Piece.Missing)

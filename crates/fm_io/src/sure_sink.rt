@@ -1,10 +1,11 @@
-ghost use Rattle.std.specs.Prelude.{◌≡◌, [], Some};
+ghost use Rattle.std.specs.Prelude.{◌≡◌, ◌≢◌, ◌≤◌, ◌<◌, [], Some, Err, length, IfOk};
+ghost use Rattle.fm_io.specs.Sink.{TookPiece};
 
 use crate::fault::Fault;
 use crate::sink::Sink;
 use std::alloc::Global;
 
-/// A sink in memory. No write to it fails but for want of memory.
+/// A sink in memory, which takes each piece whole. No write to it fails but for want of memory.
 #[derive(Drop)]
 pub struct SureSink {
     written: Vec<u8>,
@@ -34,7 +35,14 @@ impl Sink for SureSink {
 
     ghost view = { λ s. record { written = Some (sure_written s); faults = 0 } };
 
-    fn write(&mut self, piece: &[u8]) -> Result<usize, Fault> {
+    fn write(&mut self, piece: &[u8]) -> Result<usize, Fault>
+        requires { 0 < length piece.now }
+        ensures sure { result ≢ Err Fault.Failed }
+        ensures bytes { IfOk result (λ n. (0 < n) × (n ≤ length piece.now)) }
+        ensures whole { IfOk result (λ n. n ≡ length piece.now) }
+        ensures took { TookPiece (Some (sure_written self.old)) (Some (sure_written self.new))
+            piece.now result }
+    {
         self.written.extend_from_slice(piece)?;
         Ok(piece.len())
     }
