@@ -1,4 +1,4 @@
-ghost use Rattle.std.specs.Prelude.{◌≡◌, ◌++◌, codes, IsErrOf, OnOk, string_bytes};
+ghost use Rattle.std.specs.Prelude.{◌≡◌, ◌<◌, ◌++◌, codes, length, IsErrOf, OnOk, string_bytes};
 ghost use Rattle.std.specs.List.{flat_map};
 ghost use Rattle.fm_io.specs.Count.{Counts, Raised};
 ghost use Rattle.fm_io.specs.Sending.{Sends};
@@ -8,7 +8,7 @@ ghost use Rattle.fm_records.specs.Texts.{answer_text, lines_text, line_text, fou
 use crate::answer::Answer;
 use crate::found::Found;
 use crate::numbers::Numbers;
-use fm_io::{Fault, Sink, send_piece, send_rest};
+use fm_io::{Fault, PIECE, Sink, send_piece, send_rest};
 use fm_records_query::{Item, Query};
 use itoa::Buffer;
 use std::alloc::Global;
@@ -31,15 +31,17 @@ pub fn write_answer<O: Sink>(alloc: Global, out: &mut O, q: &Query, a: &Answer) 
     send_rest(out, &mut text)
 }
 
-/// The lines of these items, as far as each has a find.
+/// The lines of these items, as far as each has a find. Behind each line less than a piece pends.
 pub(crate) fn send_lines<O: Sink>(
     out: &mut O,
     text: &mut String,
     items: &[Item],
     found: &[Found],
 ) -> Result<(), Fault>
-    ensures { Sends (O.view out.old) (O.view out.new)
+    ensures sends { Sends (O.view out.old) (O.view out.new)
         (string_bytes text.old) (string_bytes text.new) (lines_text items.now found.now) result }
+    ensures short { length (string_bytes text.old) < PIECE
+        → OnOk result (length (string_bytes text.new) < PIECE) }
 {
     for k in 0..items.len().min(found.len()) {
         send_line(out, text, &items[k], &found[k])?;
@@ -47,19 +49,21 @@ pub(crate) fn send_lines<O: Sink>(
     Ok(())
 }
 
+/// A line. What pends behind it is written where it has grown to a piece.
 fn send_line<O: Sink>(
     out: &mut O,
     text: &mut String,
     item: &Item,
     found: &Found,
 ) -> Result<(), Fault>
-    ensures { Sends (O.view out.old) (O.view out.new)
+    ensures sends { Sends (O.view out.old) (O.view out.new)
         (string_bytes text.old) (string_bytes text.new) (line_text item.now found.now) result }
+    ensures short { OnOk result (length (string_bytes text.new) < PIECE) }
 {
     text.push_str(item.text.as_str())?;
     send_found(out, text, found)?;
     text.push('\n')?;
-    Ok(())
+    send_piece(out, text)
 }
 
 /// What stands behind an item's text.
@@ -76,10 +80,13 @@ fn send_found<O: Sink>(out: &mut O, text: &mut String, found: &Found) -> Result<
     }
 }
 
+/// These numbers. Behind each of them less than a piece pends.
 #[tactic(auto, using(crate::proofs::Sent::no_number))]
 fn send_numbers<O: Sink>(out: &mut O, text: &mut String, numbers: &Numbers) -> Result<(), Fault>
-    ensures { Sends (O.view out.old) (O.view out.new)
+    ensures sends { Sends (O.view out.old) (O.view out.new)
         (string_bytes text.old) (string_bytes text.new) (flat_map number_text numbers.now) result }
+    ensures short { length (string_bytes text.old) < PIECE
+        → OnOk result (length (string_bytes text.new) < PIECE) }
 {
     for k in 0..numbers.len() {
         send_number(out, text, numbers.at(k))?;
@@ -87,9 +94,11 @@ fn send_numbers<O: Sink>(out: &mut O, text: &mut String, numbers: &Numbers) -> R
     Ok(())
 }
 
+/// A number. What pends behind it is written where it has grown to a piece.
 fn send_number<O: Sink>(out: &mut O, text: &mut String, number: i64) -> Result<(), Fault>
-    ensures { Sends (O.view out.old) (O.view out.new)
+    ensures sends { Sends (O.view out.old) (O.view out.new)
         (string_bytes text.old) (string_bytes text.new) (number_text number) result }
+    ensures short { OnOk result (length (string_bytes text.new) < PIECE) }
 {
     push_spaced(text, Buffer::new().format(number))?;
     send_piece(out, text)
