@@ -1,16 +1,16 @@
-ghost use Rattle.std.specs.Prelude.{◌≡◌, ◌++◌, ◌∷◌, [], ◌<◌, ◌-◌, length, slice_index_or, take, pos, IfOk};
+ghost use Rattle.std.specs.Prelude.{◌≡◌, ◌++◌, ◌∷◌, [], ◌<◌, ◌-◌, length, slice_index_or, take, pos};
 ghost use Rattle.fm_records.specs.Kept.{Becomes};
 
 use crate::stored::Stored;
 use fm_base::Refusal;
 use fm_lanes::ValueKind;
-use std::alloc::{AllocError, Global};
+use std::alloc::Global;
 use std::marker::Model;
 
 /// Listed numbers, seen as their list.
 ///
 /// They stand in the width of a kind, so that a list of bytes takes a byte a number; where a number is wider, all of them
-/// become longs.
+/// become longs. `Stored` says so; no clause here does, since callers see the list alone.
 #[derive(Debug, Drop)]
 pub struct Numbers {
     alloc: Global,
@@ -67,57 +67,14 @@ impl Numbers {
     pub(crate) fn push(&mut self, number: i64) -> Result<(), Refusal>
         ensures { Becomes self.old self.new (self.old ++ number ∷ []) result }
     {
-        if self.stored.put(number)? {
-            return Ok(());
-        }
-        self.widen(number)
-    }
-
-    /// Makes all of them longs, and adds one more.
-    fn widen(&mut self, number: i64) -> Result<(), Refusal>
-        ensures { Becomes self.old self.new (self.old ++ number ∷ []) result }
-    {
-        let mut longs = self.longs()?;
-        if longs.push(number).is_err() {
-            return Err(Refusal::Memory);
-        }
-        self.stored = Stored::Longs(longs);
-        Ok(())
-    }
-
-    /// The same numbers as longs.
-    fn longs(&self) -> Result<Vec<i64>, AllocError>
-        ensures { IfOk result (λ longs. longs.items ≡ self.now) }
-    {
-        let mut longs = Vec::new(self.alloc);
-        for k in 0..self.len() {
-            longs.push(self.at(k))?;
-        }
-        Ok(longs)
+        self.stored.push(self.alloc, number)
     }
 
     /// Adds numbers at the end. Refused: `Memory`, which leaves them as they were.
     pub(crate) fn append(&mut self, more: &Numbers) -> Result<(), Refusal>
         ensures { Becomes self.old self.new (self.old ++ more.now) result }
     {
-        if self.stored.extend(&more.stored)? {
-            return Ok(());
-        }
-        self.append_each(more)
-    }
-
-    /// The same one by one, for those of another width.
-    fn append_each(&mut self, more: &Numbers) -> Result<(), Refusal>
-        ensures { Becomes self.old self.new (self.old ++ more.now) result }
-    {
-        let len = self.len();
-        for k in 0..more.len() {
-            if self.push(more.at(k)).is_err() {
-                self.stored.truncate(len);
-                return Err(Refusal::Memory);
-            }
-        }
-        Ok(())
+        self.stored.append(self.alloc, &more.stored)
     }
 
     /// Takes away as many numbers from the end as these are.

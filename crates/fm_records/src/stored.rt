@@ -1,7 +1,9 @@
-ghost use Rattle.std.specs.Prelude.{◌≡◌, ◌++◌, ◌∷◌, [], ◌<◌, length, slice_index_or, take, pos, true, false, ◌↔◌, IfOk, OnOk, OnErr};
+ghost use Rattle.std.specs.Prelude.{◌≡◌, ◌++◌, ◌∷◌, [], ◌<◌, length, slice_index_or, take, pos, true, false, ◌↔◌, fold, IfOk, OnOk, OnErr};
 ghost use Rattle.fm_base_bytes.specs.Signed.{FitsBytes};
-ghost use Rattle.fm_records.specs.Stored.{IsPut, number_width, numbers_of, width_in};
+ghost use Rattle.fm_records.specs.Kept.{Becomes};
+ghost use Rattle.fm_records.specs.Stored.{IsPut, StandsBehind, number_width, numbers_of, width_in, width_with};
 
+use fm_base::Refusal;
 use fm_lanes::ValueKind;
 use std::alloc::{AllocError, Global};
 
@@ -60,6 +62,7 @@ impl Stored {
         ensures wide { result ≡ Ok false → numbers_of self.new ≡ numbers_of self.old }
         ensures fits { IfOk result (λ did. did ≡ true ↔ FitsBytes (width_in self.old) number) }
         ensures same { OnErr result (numbers_of self.new ≡ numbers_of self.old) }
+        ensures width { width_in self.new ≡ width_in self.old }
     {
         match self {
             Stored::Bytes(items) => put_byte(items, number),
@@ -73,8 +76,9 @@ impl Stored {
     pub fn extend(&mut self, more: &Stored) -> Result<bool, AllocError>
         ensures put { result ≡ Ok true → numbers_of self.new ≡ numbers_of self.old ++ numbers_of more.now }
         ensures other { result ≡ Ok false → numbers_of self.new ≡ numbers_of self.old }
-        ensures width { IfOk result (λ did. did ≡ true ↔ width_in self.old ≡ width_in more.now) }
+        ensures alike { IfOk result (λ did. did ≡ true ↔ width_in self.old ≡ width_in more.now) }
         ensures same { OnErr result (numbers_of self.new ≡ numbers_of self.old) }
+        ensures width { width_in self.new ≡ width_in self.old }
     {
         match (self, more) {
             (Stored::Bytes(items), Stored::Bytes(more)) => extended(items, more),
@@ -87,7 +91,8 @@ impl Stored {
 
     /// Keeps the first `n` alone.
     pub fn truncate(&mut self, n: usize)
-        ensures { numbers_of self.new ≡ take n (numbers_of self.old) }
+        ensures first { numbers_of self.new ≡ take n (numbers_of self.old) }
+        ensures width { width_in self.new ≡ width_in self.old }
     {
         match self {
             Stored::Bytes(items) => items.truncate(n),
@@ -95,6 +100,77 @@ impl Stored {
             Stored::Ints(items) => items.truncate(n),
             Stored::Longs(items) => items.truncate(n),
         }
+    }
+
+    /// Adds a number at the end. It stands in the width of the others where that holds it; else all become longs.
+    /// Refused: `Memory`, which leaves them as they were.
+    #[inline(always)]
+    pub fn push(&mut self, alloc: Global, number: i64) -> Result<(), Refusal>
+        ensures becomes { Becomes (numbers_of self.old) (numbers_of self.new)
+            (numbers_of self.old ++ number ∷ []) result }
+        ensures width { OnOk result (width_in self.new ≡ width_with (width_in self.old) number) }
+        ensures stays { OnErr result (width_in self.new ≡ width_in self.old) }
+    {
+        if self.put(number)? {
+            return Ok(());
+        }
+        self.widen(alloc, number)
+    }
+
+    /// Makes all of them longs, and adds one more.
+    fn widen(&mut self, alloc: Global, number: i64) -> Result<(), Refusal>
+        ensures becomes { Becomes (numbers_of self.old) (numbers_of self.new)
+            (numbers_of self.old ++ number ∷ []) result }
+        ensures width { OnOk result (width_in self.new ≡ 8) }
+        ensures stays { OnErr result (width_in self.new ≡ width_in self.old) }
+    {
+        let mut longs = self.longs(alloc)?;
+        if longs.push(number).is_err() {
+            return Err(Refusal::Memory);
+        }
+        *self = Stored::Longs(longs);
+        Ok(())
+    }
+
+    /// The same numbers as longs.
+    fn longs(&self, alloc: Global) -> Result<Vec<i64>, AllocError>
+        ensures { IfOk result (λ longs. longs.items ≡ numbers_of self.now) }
+    {
+        let mut longs = Vec::new(alloc);
+        for k in 0..self.len() {
+            longs.push(self.at(k))?;
+        }
+        Ok(longs)
+    }
+
+    /// Adds numbers at the end, those of the same width all at once, and others one by one. Refused: `Memory`, which
+    /// leaves the numbers as they were.
+    pub fn append(&mut self, alloc: Global, more: &Stored) -> Result<(), Refusal>
+        ensures becomes { Becomes (numbers_of self.old) (numbers_of self.new)
+            (numbers_of self.old ++ numbers_of more.now) result }
+        ensures width { OnOk result (StandsBehind self.old self.new more.now) }
+    {
+        if self.extend(more)? {
+            return Ok(());
+        }
+        self.append_each(alloc, more)
+    }
+
+    /// The same one by one.
+    fn append_each(&mut self, alloc: Global, more: &Stored) -> Result<(), Refusal>
+        ensures becomes { Becomes (numbers_of self.old) (numbers_of self.new)
+            (numbers_of self.old ++ numbers_of more.now) result }
+        ensures width { OnOk result (width_in self.new
+            ≡ fold width_with (width_in self.old) (numbers_of more.now)) }
+    {
+        let len = self.len();
+        for k in 0..more.len() {
+            if self.push(alloc, more.at(k)).is_err() {
+                self.truncate(len);
+                return Err(Refusal::Memory);
+            }
+        }
+        Ok(())
     }
 }
 
