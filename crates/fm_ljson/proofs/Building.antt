@@ -1,8 +1,8 @@
 -- Layouts are built one after the other.
-use Rattle.std.proofs.Common.{◌≡◌, inl, inr, ℕ, zero, suc, ◌+◌, ◌-◌, ◌<◌, ◌≤◌, List, [], ◌∷◌, ◌++◌, map, length, drop, get_or, Option, Some, None, Result, Ok, Err, refl, sym, ap, subst, ◌∙◌, arith}
+use Rattle.std.proofs.Common.{◌≡◌, ◌⊎◌, inl, inr, ℕ, zero, suc, ◌+◌, ◌-◌, ◌<◌, ◌≤◌, List, [], ◌∷◌, ◌++◌, map, length, drop, get_or, Option, Some, None, Result, Ok, Err, refl, sym, ap, subst, ◌∙◌, arith}
 use Rattle.std.proofs.lemmas.List.{drop_all, drop_more}
 use Rattle.serde_json.specs.{Data.{Data}, View.{view}, declared.value.Value.{Value}}
-use Rattle.fm_base.specs.declared.refusal.Refusal.{Refusal, TheVariants.{BadShape}}
+use Rattle.fm_base.specs.declared.refusal.Refusal.{Refusal, TheVariants.{BadShape, Memory}}
 use Rattle.fm_layout.specs.{Tree.{Tree, Trees, NoMore, More}, Made.{made, sequence_of, struct_of, union_of}, Parts.{IsPadding}, Views.{trees}}
 use Rattle.fm_ljson.specs.Node.{Content, Padding, Sequence, Struct, Union, Node, node_of}
 use Rattle.fm_ljson.specs.{Built.{aligned, all_of, built, built_if_any, content_built, copied, named, node_built, OrMemory, then}, Refs.{ref_of}}
@@ -153,3 +153,16 @@ pub building_pushed : (build : Data
 building_pushed build done pushed t all vs i v here is h made longer =
     subst (λ (ts : List Tree). IsBuilding ts all (all_of (map build (map view (drop (i + 1) vs))))) (sym longer)
     (building_more done t all (build (view v)) (map build (map view (drop (i + 1) vs))) (building_item build done all vs i v here is h) (not_refused t _ made))
+
+refused_first : (build : Data → Result Tree Refusal) (done : List Tree) (all : Result Trees Refusal) (vs : List Value) (i : ℕ) (r : Result Tree Refusal) (e : Refusal)
+    → IsBuilding done all (all_of (r ∷ map build (map view (drop (i + 1) vs)))) → OrMemory (Err e) r → (e ≡ Memory) ⊎ (Err e ≡ all)
+refused_first build done all vs i r e h (inl m) = let same : e ≡ Memory = cc in inl same
+refused_first build done all vs i r e h (inr is) =
+    inr (sym (h ∙ ap (λ x. then (λ ts. Ok (followed done ts)) (then (λ u. then (λ ts. Ok (More u ts)) (all_of (map build (map view (drop (i + 1) vs))))) x)) (sym is)))
+
+-- The first refusal is that of all.
+pub building_refused : (build : Data → Result Tree Refusal) (done : List Tree) (all : Result Trees Refusal) (vs : List Value) (i : ℕ) (v : Value) (e : Refusal)
+    → i < length vs → v ≡ get_or vs i v
+    → IsBuilding done all (all_of (map build (map view (drop i vs)))) → OrMemory (Err e) (build (view v)) → (e ≡ Memory) ⊎ (Err e ≡ all)
+building_refused build done all vs i v e here is h refused =
+    refused_first build done all vs i (build (view v)) e (building_item build done all vs i v here is h) refused

@@ -3,5 +3,9 @@ pub mod Causing
 pub mod Counting
 pub mod Entries
 pub mod Inside
+pub mod Knowing
+pub mod Laying
+pub mod Learning
 pub mod Measuring
 pub mod Reading
+pub mod Weighing

@@ -38,6 +38,10 @@ abbrev pub named : Option (List ℕ) → Tree → Tree
 named None t = t
 named (Some name) t = with_name name t
 
+-- what was made, under this name, if any
+abbrev pub renamed : Option (List ℕ) → Result Tree Refusal → Result Tree Refusal
+renamed name r = then (λ t. Ok (named name t)) r
+
 -- the layout with this alignment, if any, and then this name
 abbrev pub finished : Option ℕ → Option (List ℕ) → Tree → Result Tree Refusal
 finished align name t = then (λ u. Ok (named name u)) (aligned align t)

@@ -3,6 +3,8 @@ pub mod Built
 pub mod Causes
 pub mod Counted
 pub mod Documents
+pub mod Footprints
+pub mod Known
 pub mod Loops
 pub mod Measured
 pub mod Node

@@ -30,7 +30,9 @@
 
 mod build;
 mod document;
+mod footprint;
 mod keys;
+mod known;
 mod measure;
 mod node;
 mod read;
@@ -40,6 +42,7 @@ mod shape;
 mod type_name;
 mod types;
 mod values;
+mod weigh;
 
 pub use measure::Extent;
 pub use read::layout_from_json;

@@ -62,7 +62,7 @@ fn layout_of_one(alloc: Global, value: &Value) -> Result<Layout, Refusal>
     ensures { OrMemory result (layout_of_text (One (view value.now))) }
 {
     match check(value, LEVELS, &BTreeSet::new(alloc), NODES, 0) {
-        Ok(_) => build(alloc, value, LEVELS, &BTreeMap::new(alloc)),
+        Ok(_) => build(alloc, value, LEVELS, &BTreeMap::new(alloc), 0),
         Err(node) => Err(Refusal::BadShape(node)),
     }
 }

@@ -4,6 +4,7 @@ ghost use Rattle.std.specs.BTreeSet.{contains_text};
 ghost use Rattle.serde_json.specs.View.{view};
 ghost use Rattle.fm_ljson.specs.Built.{built_behind, OrMemory};
 ghost use Rattle.fm_ljson.specs.Documents.{first_broken_of, new_entry};
+ghost use Rattle.fm_ljson.specs.Known.{AreNew};
 ghost use Rattle.fm_ljson.specs.Loops.{AreParts, IsBadShape, IsBrokenEntry, IsSoundEntry};
 ghost use Rattle.fm_ljson.specs.Measured.{large_in};
 ghost use Rattle.fm_ljson.specs.Refs.{also_known, knowing, none_known, unknown};
@@ -11,6 +12,7 @@ ghost use Rattle.fm_ljson.specs.Views.{entry_view, numbered_view, parts_view};
 
 use crate::build::build;
 use crate::document::{EntryRef, entry_of};
+use crate::known::know;
 use crate::measure::measure;
 use crate::shape::check;
 use fm_base::Refusal;
@@ -156,23 +158,25 @@ pub(crate) fn check_sizes(
     }
 }
 
-/// The layout that may refer to the types: each is built behind the earlier ones, and the layout last.
+/// The layout that may refer to the types. These are not built, but for what it refers to, where it does.
 ///
-/// Refused: as the first constructor refuses; `Memory`.
+/// Refused: as the first constructor would refuse, were each type built behind the earlier ones, and the layout last;
+/// `Memory`.
 pub(crate) fn build_all(
     alloc: Global,
     parts: &PartsRef<'_>,
     layout: &Value,
 ) -> Result<Layout, Refusal>
+    requires { AreNew none_known (parts_view parts.now).entries }
     ensures { OrMemory result
         (built_behind unknown (parts_view parts.now).entries (view layout.now)) }
 {
-    let mut known = BTreeMap::new(alloc);
-    for entry in &parts.entries {
-        let built = build(alloc, entry.layout, LEVELS, &known)?;
-        define(alloc, &mut known, entry.name, built)?;
+    let mut types = BTreeMap::new(alloc);
+    for (place, entry) in parts.entries.iter().enumerate() {
+        let known = know(alloc, entry.layout, &types, place as u64)?;
+        define(alloc, &mut types, entry.name, known)?;
     }
-    build(alloc, layout, LEVELS, &known)
+    build(alloc, layout, LEVELS, &types, parts.entries.len() as u64)
 }
 
 /// Takes in what is known of a name.

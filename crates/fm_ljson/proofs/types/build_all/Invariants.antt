@@ -1,9 +1,8 @@
-use Rattle.std.{proofs.Common.{◌≡◌, drop, map}, specs.BTreeMap.{get_by_text}}
+use Rattle.std.{proofs.Common.{drop, map}, specs.BTreeMap.{get_by_text}}
 use Rattle.serde_json.specs.View.{view}
-use Rattle.fm_ljson.specs.{Built.{built_behind}, Refs.{unknown}, Views.{numbered_view, parts_view}}
+use Rattle.fm_ljson.{specs.Views.{numbered_view, parts_view}, proofs.Learning.{IsLearning}}
 use Rattle.fm_ljson.proofs.types.build_all.Given as goal
 
-abbrev pub invariant-loop-entry : goal.invariant-loop-entry
-invariant-loop-entry l =
-    built_behind unknown (parts_view l.parts).entries (view l.layout)
-    ≡ built_behind (get_by_text l.known) (map numbered_view (drop l.entry-index l.parts.entries.items)) (view l.layout)
+abbrev pub invariant-loop-place : goal.invariant-loop-place
+invariant-loop-place l =
+    IsLearning (get_by_text l.types) l.place (parts_view l.parts).entries (map numbered_view (drop l.place l.parts.entries.items)) (view l.layout)
