@@ -1,5 +1,5 @@
 -- What is known of types that are not built, one after the other.
-use Rattle.std.proofs.Common.{◌≡◌, inl, inr, ℕ, ◌<◌, ◌≤◌, Bool, true, cond, List, Option, Some, None, IfSome, Result, Ok, Err, IfOk, IfErr, refl, sym, ap, subst, ◌∙◌, arith}
+use Rattle.std.proofs.Common.{◌≡◌, inl, inr, ℕ, ◌<◌, true, cond, List, Option, Some, None, IfSome, Result, Ok, Err, IfOk, IfErr, refl, sym, ap, subst, ◌∙◌, arith}
 use Rattle.std.{specs.Prelude.{nat_lt, option_copied}, proofs.{Math.Path.{fun_ext}, lemmas.{Bool.Decides.{nat_tests}, Option.{none-some, same_Some}}}}
 use Rattle.serde_json.specs.{Data.{Data}, View.{view}}
 use Rattle.fm_base.specs.declared.refusal.Refusal.{Refusal, TheVariants.{BadShape}}

@@ -1,8 +1,8 @@
 -- The footprints of groups, from those of their members.
-use Rattle.std.proofs.Common.{◌≡◌, inr, ℕ, ◌+◌, ◌%◌, ◌<◌, ◌≤◌, max, true, false, cond, List, [], ◌∷◌, length, drop, get_or, Option, Some, None, Ok, Err, refl, sym, ap, subst, ◌∙◌, arith, eq-eqb, le-leb, nat_eq, nat_le}
+use Rattle.std.proofs.Common.{◌≡◌, inr, ℕ, ◌+◌, ◌%◌, ◌<◌, ◌≤◌, max, true, false, cond, List, [], ◌∷◌, length, drop, get_or, Some, Ok, Err, refl, sym, ap, subst, ◌∙◌, arith, eq-eqb, le-leb, nat_eq, nat_le}
 use Rattle.std.proofs.lemmas.{Bool.Decides.{nat_tests}, List.{drop_all, drop_more}}
 use Rattle.fm_base.specs.declared.refusal.Refusal.{Refusal, TheVariants.{MemberMisaligned, Overflow}}
-use Rattle.fm_layout.specs.{Tree.{Tree, Trees, NoMore, More, Struct, Union, alignment_of}, Size.{size_of, sum_of, greatest_of, greatest_alignment}, WellFormed.{limit}}
+use Rattle.fm_layout.specs.{Tree.{Tree, Trees, NoMore, More, Struct, alignment_of}, Size.{size_of, sum_of, greatest_of, greatest_alignment}, WellFormed.{limit}}
 use Rattle.fm_layout.{specs.Made.{fault_of, made, plain, struct_of, union_of}, proofs.Groups.{greatest_positive}}
 use Rattle.fm_ljson.specs.{Footprints.{AreFootprints, IsFootprint, IsFootprintOf, IsWeighed}, declared.footprint.Footprint.{Footprint}}
 

@@ -1,5 +1,5 @@
 -- Types are gone through from the first to the last, and none is built.
-use Rattle.std.proofs.Common.{◌≡◌, inl, inr, ℕ, ◌+◌, ◌<◌, ◌≤◌, Bool, true, false, cond, List, [], ◌∷◌, ◌++◌, map, length, drop, get_or, Option, Some, None, IfSome, Result, Ok, Err, refl, sym, ap, subst, ◌∙◌, arith, bytes_eq, option_and_then, true≢false}
+use Rattle.std.proofs.Common.{◌≡◌, inl, inr, ℕ, ◌+◌, ◌<◌, ◌≤◌, Bool, true, false, cond, List, [], ◌∷◌, Option, Some, None, IfSome, Result, Err, refl, sym, ap, subst, ◌∙◌, arith, bytes_eq, option_and_then, true≢false}
 use Rattle.std.{specs.Prelude.{nat_lt, is_some, option_copied}, proofs.{Math.Path.{fun_ext}, lemmas.{Bool.Decides.{nat_tests}, Option.{none-some, same_Some}, Slice.Eq.{bytes_eq-Decides}}}}
 use Rattle.serde_json.specs.{Data.{Data}, View.{view}}
 use Rattle.fm_base.specs.declared.refusal.Refusal.{Refusal, TheVariants.{Memory}}

@@ -1,15 +1,15 @@
 -- What would be built is weighed in its place.
-use Rattle.std.proofs.Common.{◌≡◌, inl, inr, ℕ, ◌+◌, ◌-◌, ◌<◌, ◌≤◌, List, [], ◌∷◌, ◌++◌, map, length, drop, get_or, Option, Some, None, option_and_then, Result, Ok, Err, refl, sym, ap, subst, ◌∙◌, arith}
-use Rattle.std.proofs.lemmas.List.{drop_all, drop_more}
+use Rattle.std.proofs.Common.{◌≡◌, inl, inr, ℕ, ◌+◌, ◌-◌, ◌<◌, ◌≤◌, List, [], ◌∷◌, ◌++◌, map, length, drop, get_or, Option, Some, None, Result, Ok, Err, refl, sym, ap, subst, ◌∙◌}
+use Rattle.std.proofs.lemmas.List.{drop_all}
 use Rattle.serde_json.specs.{Data.{Data}, View.{view}}
-use Rattle.fm_base.specs.declared.refusal.Refusal.{Refusal, TheVariants.{BadShape}}
-use Rattle.fm_layout.specs.Tree.{Tree, Trees, NoMore, More, Value, Padding, Sequence, Struct, Union, Label, alignment_of, relabelled}
+use Rattle.fm_base.specs.declared.refusal.Refusal.{Refusal}
+use Rattle.fm_layout.specs.Tree.{Tree, Trees, More, Value, Padding, Sequence, Struct, Union, Label, alignment_of, relabelled}
 use Rattle.fm_layout.specs.{Size.{size_of, least_of}, Views.{trees}}
-use Rattle.fm_ljson.specs.Built.{aligned, all_of, built, content_built, copied, copied_as, finished, named, node_built, renamed, then}
+use Rattle.fm_ljson.specs.Built.{aligned, all_of, built, content_built, finished, named, renamed, then}
 use Rattle.fm_ljson.specs.Footprints.{AreFootprints, AreFootprintsOf, IsFootprint, IsFootprintOf, IsRefusedSo, IsWeighed}
 use Rattle.fm_ljson.specs.Node.{Node, node_of}
 use Rattle.fm_ljson.specs.declared.footprint.Footprint.{Footprint}
-use Rattle.fm_ljson.proofs.Building.{IsBuilding, followed, building_end, building_item, building_more, built_node, built_none}
+use Rattle.fm_ljson.proofs.Building.{IsBuilding, followed, building_end, building_item, building_more, built_node}
 use Rattle.serde_json.specs.declared.value.Value as json
 
 -- ---- names take no room

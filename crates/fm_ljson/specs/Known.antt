@@ -1,6 +1,6 @@
 -- What is known of types that are not built.
 use Rattle.std.specs.Prelude.{◌≡◌, ℕ, ◌<◌, ◌≤◌, Bool, false, [], ◌∷◌, Option, Some, None, IfSome, Result, Ok, List, if◌then◌else◌, nat_lt, option_copied}
-use Rattle.serde_json.specs.{Data.{Data}, View.{view}}
+use Rattle.serde_json.specs.{View.{view}}
 use Rattle.fm_base.specs.declared.refusal.Refusal.{Refusal}
 use Rattle.fm_layout.specs.{Tree.{Tree}, Named.{IsNameIfAny}}
 use Rattle.fm_ljson.specs.{Built.{built, renamed}, Documents.{Numbered}, Footprints.{IsFootprint}, Nodes.{most_written_levels}, Refs.{also_known}}

@@ -38,7 +38,7 @@ pub(crate) fn build(
     requires { CanBuild (get_by_text types.now) }
     ensures { (trees : List ℕ → Option Tree) → AreKnown (get_by_text types.now) trees
         → OrMemory result
-            (built (earlier before (get_by_text types.now) trees) levels (view value.now)) }
+        (built (earlier before (get_by_text types.now) trees) levels (view value.now)) }
 {
     if levels == 0 {
         return Err(Refusal::BadShape(0));
@@ -63,8 +63,8 @@ fn build_content(
     requires { CanBuild (get_by_text types.now) }
     ensures { (trees : List ℕ → Option Tree) → AreKnown (get_by_text types.now) trees
         → OrMemory result
-            (content_built (built (earlier before (get_by_text types.now) trees) levels)
-                (content_view content.entry)) }
+        (content_built (built (earlier before (get_by_text types.now) trees) levels)
+        (content_view content.entry)) }
 {
     match content {
         ContentRef::Value(kind, order) => Ok(Layout::value(kind).with_order(order)),
@@ -97,12 +97,12 @@ fn build_all(
     ensures ok { IfOk result (λ v. (trees : List ℕ → Option Tree)
         → AreKnown (get_by_text types.now) trees
         → Ok (trees_of v.items)
-            ≡ all_built (earlier before (get_by_text types.now) trees) levels values.now) }
+        ≡ all_built (earlier before (get_by_text types.now) trees) levels values.now) }
     ensures err { IfErr result (λ r. (trees : List ℕ → Option Tree)
         → AreKnown (get_by_text types.now) trees
         → (r ≡ Refusal.Memory)
-            ⊎ (Err r
-                ≡ all_built (earlier before (get_by_text types.now) trees) levels values.now)) }
+        ⊎ (Err r
+        ≡ all_built (earlier before (get_by_text types.now) trees) levels values.now)) }
 {
     let mut layouts = Vec::new(alloc);
     for value in values {
@@ -128,7 +128,7 @@ fn copy_of(
     requires { CanBuild (get_by_text types.now) }
     ensures { (trees : List ℕ → Option Tree) → AreKnown (get_by_text types.now) trees
         → OrMemory result
-            (copied (earlier before (get_by_text types.now) trees) (ref_of (view value.now))) }
+        (copied (earlier before (get_by_text types.now) trees) (ref_of (view value.now))) }
 {
     let Some(reference) = ref_of(value) else {
         return Err(Refusal::BadShape(0));

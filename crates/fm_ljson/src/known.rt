@@ -50,7 +50,7 @@ pub(crate) fn know<'v>(
     ensures known { IfOk result (λ k. (trees : List ℕ → Option Tree)
         → AreKnown (get_by_text types.now) trees
         → IsLearnt (get_by_text types.now) trees k
-            (built trees most_written_levels (view value.now))) }
+        (built trees most_written_levels (view value.now))) }
     ensures refused { IfErr result (λ r. (trees : List ℕ → Option Tree)
         → AreKnown (get_by_text types.now) trees
         → IsRefusedSo r (built trees most_written_levels (view value.now))) }

@@ -1,10 +1,9 @@
 -- A node is weighed after its parts, and parts from the first to the last.
-use Rattle.std.{proofs.Common.{◌<◌, ◌-◌, inr, map, sym, arith}, specs.BTreeMap.{get_by_text}}
+use Rattle.std.{proofs.Common.{◌<◌, inr, map, sym, arith}}
 use Rattle.serde_json.specs.View.{view}
-use Rattle.fm_layout.specs.Made.{sequence_of, struct_of}
 use Rattle.fm_ljson.specs.{Built.{all_of, built}, Views.{node_view}}
 use Rattle.fm_ljson.proofs.Building.{built_too_deep, built_none}
-use Rattle.fm_ljson.proofs.Weighing.{building_refused, refused_node, refused_then, weighed_all, weighed_as, weighed_node, weighed_then, weighing_done, weighing_pushed, weighing_start}
+use Rattle.fm_ljson.proofs.Weighing.{building_refused, refused_node, weighed_as, weighed_node, weighing_done, weighing_pushed}
 use Rattle.fm_ljson.proofs.weigh.+weigh.Goals as goal
 
 pub weigh-returns-then-levels-eq0 : goal.weigh-returns-then-levels-eq0

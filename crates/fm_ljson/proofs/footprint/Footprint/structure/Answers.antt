@@ -8,11 +8,13 @@ loop-i-init c = (omega arith, omega arith, λ ts h. laid_start c.args.members.no
 
 pub loop-i-preserved : goal.loop-i-preserved
 loop-i-preserved c =
-    let wider : c.max-alignment.result ≡ max c.index-members-i.result.alignment c.loop-i.alignment = omega (arith, c.max-alignment.ensures) in
-    (omega (arith, wider, c.loop-i.invariant.0), c.if-size-member-gt-LIMIT.false,
-    λ ts h. one_more c.loop-i.i c.loop-i.size c.loop-i.alignment _ ts c.index-members-i.result (drop (c.loop-i.i + 1) c.args.members.now)
-    (at_member _ _ _ ts c.args.members.now _ c.loop-i-test.true c.index-members-i.is (c.loop-i.invariant.2 ts h))
-    c.if-size-member-ne0.false c.if-size-member-gt-LIMIT.false wider)
+    let wider : c.max-alignment.result ≡ max c.index-members-i.result.alignment c.loop-i.alignment = omega (arith, c.max-alignment.ensures) in (
+      omega (arith, wider, c.loop-i.invariant.0),
+      c.if-size-member-gt-LIMIT.false,
+      λ ts h. one_more c.loop-i.i c.loop-i.size c.loop-i.alignment _ ts c.index-members-i.result (drop (c.loop-i.i + 1) c.args.members.now)
+          (at_member _ _ _ ts c.args.members.now _ c.loop-i-test.true c.index-members-i.is (c.loop-i.invariant.2 ts h))
+          c.if-size-member-ne0.false c.if-size-member-gt-LIMIT.false wider,
+    )
 
 pub returns-then-size-member-ne0 : goal.returns-then-size-member-ne0
 returns-then-size-member-ne0 c = λ ts h.
