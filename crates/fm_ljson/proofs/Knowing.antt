@@ -32,7 +32,7 @@ renamed_none : (s : Result Tree Refusal) → renamed None s ≡ s
 renamed_none (Ok t) = refl
 renamed_none (Err r) = refl
 
--- ---- where a ref stands
+-- ---- what an entry tells
 
 -- what is known of a name, as far as it is
 known_tree : (types : List ℕ → Option Known) (trees : List ℕ → Option Tree) (o : Option Known) (p : Option Tree) (k : Known) → IsKnownIfAny types trees o p
@@ -41,49 +41,7 @@ known_tree types trees None p k h is = absurd (none-some k is)
 known_tree types trees (Some j) None k h is = absurd h
 known_tree types trees (Some j) (Some t) k h is = (t, refl, subst (λ (x : Known). IsKnown types trees x t) (same_Some j k is) h)
 
-known_none : (types : List ℕ → Option Known) (trees : List ℕ → Option Tree) (o : Option Known) (p : Option Tree) → IsKnownIfAny types trees o p → o ≡ None
-    → p ≡ None
-known_none types trees None None h is = refl
-known_none types trees None (Some t) h is = absurd h
-known_none types trees (Some j) p h is = absurd (none-some j (sym is))
-
 module _ (types : List ℕ → Option Known) (trees : List ℕ → Option Tree) (known : AreKnown types trees) where
-  seen_here : (n : ℕ) (name : List ℕ) (k : Known) (t : Tree) → types name ≡ Some k → trees name ≡ Some t → k.place < n → earlier n types trees name ≡ Some t
-  seen_here n name k t is tree here =
-      let yes : nat_lt k.place n ≡ true = grind (arith, nat_tests, here) in
-      ap (λ o. seen n o (trees name)) is ∙ ap (λ b. cond b (trees name) None) yes ∙ tree
-
-  copied_built : (name : Option (List ℕ)) (k : Known) (t l : Tree) (s : Result Tree Refusal) → renamed (option_copied k.name) s ≡ Ok t → Ok l ≡ s
-      → renamed (last_of name (option_copied k.name)) (Ok l) ≡ copied_as name (Some t)
-  copied_built name k t l s made is =
-      ap (renamed (last_of name (option_copied k.name))) is ∙ renamed_again name (option_copied k.name) s ∙ ap (renamed name) made
-
-  -- A type is built where a ref to it stands.
-  pub copied_known : (n : ℕ) (d : Data) (r : Ref) (k : Known) (l : Tree) (x : Result Tree Refusal) → Some r ≡ ref_of d → Some k ≡ types r.of → k.place < n
-      → OrMemory (Ok l) (built (earlier k.before types trees) most_written_levels (view k.layout.now))
-      → OrMemory x (Ok (named (last_of r.name (option_copied k.name)) l)) → OrMemory x (copied (earlier n types trees) (ref_of d))
-  copied_known n d r k l x is has here (inl h) under = cc
-  copied_known n d r k l x is has here (inr h) under =
-      let p = known_tree types trees (types r.of) (trees r.of) k (known r.of) (sym has) in
-      let found : earlier n types trees r.of ≡ Some p.0 = seen_here n r.of k p.0 (sym has) p.1 here in
-      or_memory x _ _
-      (copied_built r.name k p.0 l (built (earlier k.before types trees) most_written_levels (view k.layout.now)) p.2.made h
-      ∙ sym (ap (copied (earlier n types trees)) (sym is) ∙ ap (copied_as r.name) found)) under
-
-  never : (name : Option (List ℕ)) (e : Refusal) (t : Tree) (s : Result Tree Refusal) → renamed name s ≡ Ok t → Err e ≡ s → ⊥
-  never name e t s made is =
-      let no : Err e ≡ Ok t = ap (renamed name) is ∙ made in cc
-
-  -- It was weighed, so only want of memory comes between.
-  pub copied_refused : (n : ℕ) (d : Data) (r : Ref) (k : Known) (e : Refusal) → Some k ≡ types r.of
-      → OrMemory (Err e) (built (earlier k.before types trees) most_written_levels (view k.layout.now)) → OrMemory (Err e) (copied (earlier n types trees) (ref_of d))
-  copied_refused n d r k e has (inl h) = inl h
-  copied_refused n d r k e has (inr h) =
-      let p = known_tree types trees (types r.of) (trees r.of) k (known r.of) (sym has) in
-      absurd (never (option_copied k.name) e p.0 (built (earlier k.before types trees) most_written_levels (view k.layout.now)) p.2.made h)
-
-  -- ---- what an entry tells
-
   below_all : (n : ℕ) (name : List ℕ) (o : Option Known) (p : Option Tree) → IfSome o (λ k. k.place < n) → IsKnownIfAny types trees o p → seen n o p ≡ p
   below_all n name None None h is = refl
   below_all n name None (Some t) h is = absurd is
@@ -133,10 +91,6 @@ module _ (types : List ℕ → Option Known) (trees : List ℕ → Option Tree) 
           footprint = subst (λ f. IsFootprint f (named r.name p.0)) (sym foot) (footprint_named r.name j.footprint p.0 p.2.footprint);
         };
       }
-
-  pub refused_ref : (d : Data) (r : Ref) → Some r ≡ ref_of d → None ≡ types r.of → copied trees (ref_of d) ≡ Err (BadShape 0)
-  refused_ref d r is none =
-      ap (copied trees) (sym is) ∙ ap (copied_as r.name) (known_none types trees (types r.of) (trees r.of) (known r.of) (sym none))
 
 -- ---- without layouts
 

@@ -91,9 +91,6 @@ learning_start types es layout is new =
     record { trees = unknown; known = λ name. tt; safe = λ name. tt; below = λ name. tt; new = new; same = refl } in
     subst (λ (ts : List ℕ → Option Known). IsLearning ts 0 es es layout) (sym is) start
 
-pub can_build : (types : List ℕ → Option Known) (n : ℕ) (all rest : List Numbered) (layout : Data) → IsLearning types n all rest layout → CanBuild types
-can_build types n all rest layout l = record { safe = l.safe; trees = l.trees; known = l.known }
-
 module _ (types : List ℕ → Option Known) (trees : List ℕ → Option Tree) (name : List ℕ) (n : ℕ) (k : Known) (t : Tree)
     (place : k.place ≡ n) (fresh : types name ≡ None) where
   abbrev types' : List ℕ → Option Known
@@ -179,19 +176,6 @@ pub learning_more : (types new : List ℕ → Option Known) (n : ℕ) (all es : 
 learning_more types new n all es e layout k l safe place h defined =
     subst (λ (ts : List ℕ → Option Known). IsLearning ts (n + 1) all es layout) (sym (fun_ext defined))
     (learning_with types n all es e layout k l safe place h)
-
-refused_behind : (trees : List ℕ → Option Tree) (es : List Numbered) (e : Numbered) (layout : Data) (r : Refusal)
-    → IsRefusedSo r (built trees most_written_levels e.layout) → OrMemory (Err r) (built_behind trees (e ∷ es) layout)
-refused_behind trees es e layout r (inl h) = let same : Err r ≡ Err Memory = ap Err h in inl same
-refused_behind trees es e layout r (inr h) = inr (sym (ap (then (λ t. built_behind (knowing e.name t trees) es layout)) h))
-
--- The first refusal is that of the whole.
-pub learning_refused : (types : List ℕ → Option Known) (n : ℕ) (all es : List Numbered) (e : Numbered) (layout : Data) (r : Refusal)
-    → IsLearning types n all (e ∷ es) layout
-    → ((trees : List ℕ → Option Tree) → AreKnown types trees → IsRefusedSo r (built trees most_written_levels e.layout))
-    → OrMemory (Err r) (built_behind unknown all layout)
-learning_refused types n all es e layout r l h =
-    or_memory (Err r) _ _ (sym l.same) (refused_behind l.trees es e layout r (h l.trees l.known))
 
 -- Behind all types the layout is built.
 pub learning_end : (types : List ℕ → Option Known) (n m : ℕ) (all rest : List Numbered) (layout : Data) (r : Result Tree Refusal)

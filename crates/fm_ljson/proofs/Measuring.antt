@@ -79,13 +79,3 @@ entry_item f xs ys i x same here is =
     let at : x ≡ get_or xs i x = is ∙ ap (λ (zs : List NumberedRef). get_or zs i x) same in
     let next : drop i xs ≡ x ∷ drop (i + 1) xs = drop_more xs i x inside ∙ ap (λ (w : NumberedRef). w ∷ drop (i + 1) xs) (sym at) in
     ap (λ (ws : List NumberedRef). f (map numbered_view ws)) next
-
--- ---- what is built
-
--- The layout is built behind the entries that are left.
-pub built_more : (known new : List ℕ → Option Tree) (e : Numbered) (es : List Numbered) (layout : Data) (t : Tree)
-    → OrMemory (Ok t) (built known most_written_levels e.layout) → ((other : List ℕ) → new other ≡ knowing e.name t known other)
-    → built_behind known (e ∷ es) layout ≡ built_behind new es layout
-built_more known new e es layout t made defined =
-    ap (then (λ u. built_behind (knowing e.name u known) es layout)) (sym (not_refused t _ made))
-    ∙ ap (λ known. built_behind known es layout) (sym (fun_ext defined))

@@ -65,12 +65,6 @@ pub weighed_then : (g : Tree → Result Tree Refusal) (r : Result Footprint Refu
 weighed_then g r f (Ok t) is h = h t is
 weighed_then g r f (Err e) is h = absurd is
 
--- What is made of members is weighed by theirs.
-pub weighed_all : (g : Trees → Result Tree Refusal) (r : Result Footprint Refusal) (fs : List Footprint) (s : Result Trees Refusal) → AreFootprintsOf fs s
-    → ((ts : Trees) → AreFootprints fs ts → IsWeighed r (g ts)) → IsWeighed r (then g s)
-weighed_all g r fs (Ok ts) are h = h ts are
-weighed_all g r fs (Err e) are h = absurd are
-
 pub weighed_as : (r : Result Footprint Refusal) (s u : Result Tree Refusal) → s ≡ u → IsWeighed r s → IsWeighed r u
 weighed_as r s u is h = subst (IsWeighed r) is h
 
@@ -106,13 +100,6 @@ pub record IsWeighing (fs : List Footprint) (all rest : Result Trees Refusal) : 
   pub done : List Tree
   pub building : IsBuilding done all rest
   pub weighed : AreFootprints fs (trees done)
-
-pub weighing_start : (all : Result Trees Refusal) → IsWeighing [] all all
-weighing_start all = record { done = []; building = start all; weighed = tt }
-  where
-    start : (all : Result Trees Refusal) → IsBuilding [] all all
-    start (Ok ts) = refl
-    start (Err e) = refl
 
 module _ (build : Data → Result Tree Refusal) (all : Result Trees Refusal) (vs : List json.Value) (i : ℕ) where
   one_pushed : (fs pushed : List Footprint) (f : Footprint) (v : json.Value) (r : Result Tree Refusal)
