@@ -10,7 +10,7 @@ ghost use Rattle.fm_ljson.specs.Known.{AreKnown, CanBuild, earlier};
 ghost use Rattle.fm_ljson.specs.Refs.{ref_of};
 ghost use Rattle.fm_ljson.specs.Views.{content_view, MayBeAligned};
 
-use crate::known::{Known, last_of};
+use crate::known::{Known, LEVELS, last_of};
 use crate::node::{ContentRef, node_of};
 use crate::refs::ref_of;
 use fm_base::Refusal;
@@ -18,9 +18,6 @@ use fm_layout::Layout;
 use serde_json::Value;
 use std::alloc::Global;
 use std::collections::BTreeMap;
-
-/// The most levels that a type is written with.
-const LEVELS: u64 = 127;
 
 /// The layout of a node with so many levels from it down, whose refs are to the first of these types, so many. What a
 /// ref names is built where the ref stands.

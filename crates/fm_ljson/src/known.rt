@@ -17,8 +17,8 @@ use serde_json::Value;
 use std::alloc::Global;
 use std::collections::BTreeMap;
 
-/// The most levels that are written.
-const LEVELS: u64 = 127;
+/// The most levels that are written: JSON nests at most so many.
+pub(crate) const LEVELS: u64 = 127;
 
 /// What is known of a type: what it is written as, and its footprint. It is never built by itself.
 #[derive(Clone, Copy)]

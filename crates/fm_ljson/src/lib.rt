@@ -21,8 +21,9 @@
 //! A ref stands for an equal copy of the type that it names, which an earlier entry defines.
 //!
 //! **Why it is safe.** A text is gone through three times: its nodes are checked, what they stand for is measured, and
-//! only then is a layout built. A text is refused whole at the first node that breaks a rule; nodes are counted from 0,
-//! each before what stands in it. Then the constructors of `fm_layout` may refuse what isn't well formed.
+//! only then are types weighed, in place of being built, and a layout built. A text is refused whole at the first node
+//! that breaks a rule; nodes are counted from 0, each before what stands in it. Then the constructors of `fm_layout` may
+//! refuse what isn't well formed.
 //!
 //! **What is not promised.** That every text of JSON is read: values of more than 127 levels aren't. That a key which
 //! stands twice is refused: the last one counts. That memory is there: a text is read into values first.

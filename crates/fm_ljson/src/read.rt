@@ -25,9 +25,9 @@ const NODES: u64 = 65_536;
 ///
 /// Refused, in this order: `BadJson` where the bytes have no reading as JSON, which nests at most 127 levels;
 /// `BadShape` with the number of the first node that breaks a rule of the format, and where types are named, then with
-/// that of the root of the first layout which is too large, its refs replaced; then, as the layouts are built from the
-/// first to the last, each after what stands in it, the first refusal of a constructor or of `with_alignment`.
-/// `Memory` may come at any time.
+/// that of the root of the first layout which is too large, its refs replaced; then the first refusal of a constructor
+/// or of `with_alignment`, were the layouts built from the first to the last, each after what stands in it. `Memory` may
+/// come at any time.
 pub fn layout_from_json(alloc: Global, bytes: &[u8]) -> Result<Layout, Refusal>
     ensures read { (result ≡ Err Refusal.Memory) ⊎ (result ≡ layout_of_json bytes.now) }
 

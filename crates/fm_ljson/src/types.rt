@@ -12,7 +12,7 @@ ghost use Rattle.fm_ljson.specs.Views.{entry_view, numbered_view, parts_view};
 
 use crate::build::build;
 use crate::document::{EntryRef, entry_of};
-use crate::known::know;
+use crate::known::{LEVELS, know};
 use crate::measure::measure;
 use crate::shape::check;
 use fm_base::Refusal;
@@ -20,9 +20,6 @@ use fm_layout::Layout;
 use serde_json::Value;
 use std::alloc::{AllocError, Global};
 use std::collections::{BTreeMap, BTreeSet};
-
-/// The most levels that are written: JSON nests at most so many.
-const LEVELS: u64 = 127;
 
 /// The number that no node has: no text is so long.
 const NODES: u64 = u64::MAX;
