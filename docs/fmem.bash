@@ -1,4 +1,5 @@
-# Completion of fmem's words for bash: `. docs/fmem.bash`, or a copy named fmem in ~/.local/share/bash-completion/completions.
+# Completion of fmem's words for bash, and of the companions that take them: `. docs/fmem.bash`, or a copy named as each of
+# them in ~/.local/share/bash-completion/completions, where `install.sh` puts it.
 # A layout's paths are those that `fmem layout` prints; of `tally` those of bytes and booleans.
 
 _fmem_paths() { # a layout's file and the types that serve, each between | and |: the layout's paths to such values
@@ -54,6 +55,8 @@ _fmem() {
       [[ $word != "${current#"$quote"}"* ]] || printf '%s\n' "$word"
     done) ;;
     query/1 | stream/1) mapfile -t COMPREPLY < <(_fmem_query "${words[0]}" "${current#"$quote"}")
+      # Where one is left bash would end the quote; by a second one, with a space behind it, the query may go on.
+      [[ -z $quote || ${#COMPREPLY[@]} != 1 ]] || COMPREPLY+=("${COMPREPLY[0]} ")
       compopt -o nospace 2> /dev/null ;;
     layout/0 | migrate/0 | run/0 | sum/3 | query/[02] | stream/[02] | tally/[02])
       compopt -o filenames 2> /dev/null
@@ -61,4 +64,4 @@ _fmem() {
   esac
 }
 
-complete -F _fmem fmem
+complete -F _fmem fmem fmem-explain fmem-json fmem-unsigned
