@@ -4,7 +4,6 @@
 #     bash install.sh --remove [PREFIX]
 # Says each file that it puts or takes away. Folders stay. Where it can't be done the status isn't 0.
 set -eu
-cd "$(dirname "$0")"
 
 remove=
 if [ "${1:-}" = --remove ]; then remove=1; shift; fi
@@ -12,6 +11,8 @@ prefix=${1:-$HOME/.local}
 if [ $# -gt 1 ] || [[ $prefix = -* ]]; then
   echo "install.sh: the words are [--remove] [PREFIX]" >&2; exit 1
 fi
+[[ $prefix = /* ]] || prefix=$PWD/$prefix
+cd "$(dirname "$0")"
 
 places() { # each file of this repository and its place under PREFIX
   local name
