@@ -62,9 +62,9 @@ for crate in $wanted; do
   (cd "$copy" && rt must-fail "$crate") > "$work/said" 2>&1 < /dev/null || true
   told < "$work/said" > "$work/lines"
   # What rt said nothing of was not tried, whatever the reason.
-  for edit in "bench/edits/$crate"/*.edit; do
+  for edit in "$copy/crates/$crate/must-fail"/*.edit; do
     name=$crate/$(basename "$edit" .edit)
-    grep -q "^$name: " "$work/lines" || echo "$name: not tried: $(tail -n 1 "$work/said")" >> "$work/lines"
+    grep -q "^$name: " "$work/lines" || echo "$name: not tried: $(grep -v 'must-fail' "$work/said" | tail -n 1)" >> "$work/lines"
   done
   cat "$work/lines"
   cat "$work/lines" >> "$work/all"
