@@ -189,7 +189,7 @@ class Unsigned(Files):
             ("sum(.i:u32),sum(.e:u32)", self.data, "query refused 35", 5),
             ("sum(.i:u32", self.data, "query refused 50 10", 5), ("sum(.i:u32] ", self.data, "query refused 50 10", 5),
             ("count:u8", self.data, "query refused 50 5", 5), ("sum(.i:u12)", self.data, "query refused 50 6", 5),
-            ("count where .i:u32>=1 or", self.data, "query refused 50 21", 5),
+            ("count where .i:u32>=1 or", self.data, "query refused 50 22", 5),
             ("count where .i:u32<01", self.data, "query refused 50 20", 5),
             ("count where .l:u64>18446744073709551615x", self.data, "query refused 50 39", 5),
             ("count where .l:u64>18446744073709551616", self.data, "query refused 50 38", 5),
@@ -219,7 +219,7 @@ class Explain(Files):
     def test_answers_go_through(self):
         self.assertEqual(self.explained("query", SALES[0], "count,list(.tags[])", SALES[1]), "")
         self.assertEqual(self.explained("layout", SALES[0]), "")
-        self.assertIn("query LAYOUT", " ".join(companion("fmem-explain", "--help")))
+        self.assertIn("fmem-explain query", companion("fmem-explain", "--help")[0])
 
     def test_each_number_of_the_documents(self):
         program = runpy.run_path(os.path.join(HOME, "fmem-explain"))
@@ -244,7 +244,7 @@ class Explain(Files):
             ('{"type":"sequence","count":2,"element":\n {"type":"struct","members":[{"type":"byte"},{"type":"int"}]}}',
              'line 2, column 2: {"type":"struct","members":[{"type":"byte"},{"type":"int"}]}'),
             ('{"version":2,"types":[{"define":"p","layout":{"type":"int"}},{"define":"p",\n"layout":{"type":"int"}}],'
-             '"layout":{"type":"ref","of":"p"}}', 'line 1, column 61: {"define":"p", "layout":{"type":"int"}}'),
+             '"layout":{"type":"ref","of":"p"}}', 'line 1, column 62: {"define":"p", "layout":{"type":"int"}}'),
             ('{"version":2,"types":[{"define":"p","layout":{"type":"int"}}],\n"layout":{"type":"ref","of":"q"}}',
              'line 2, column 10: {"type":"ref","of":"q"}'),
             ('{"version":2,"types":[{"define":"p","layout":{"type":"int"}},\n{"define":"q","layout":{"type":"struct",'
