@@ -16,8 +16,8 @@
 //! (`values_lie_apart`).
 //!
 //! **What is not promised.** A value at the end of each path: one to a group or a sequence has an offset
-//! ([`byte_offset`]), and [`resolve`] refuses it. The list of a layout's values ([`list_places`]) takes memory and goes
-//! down by recursion, once a level.
+//! ([`byte_offset`]) and a layout ([`select`]), and [`resolve`] refuses it. The list of a layout's values
+//! ([`list_places`]) takes memory and goes down by recursion, once a level.
 #![tactic(auto)]
 
 mod dims;
@@ -33,6 +33,6 @@ pub use fm_path_meaning::Dim;
 pub use fm_path_text::{NameText, PathStep, parse_path};
 pub use laws::{lines_are_of_values, places_lie_inside, places_stand_once, values_lie_apart};
 pub use listing::list_places;
-pub use resolution::{byte_offset, resolve};
+pub use resolution::{byte_offset, locate, resolve, select};
 pub use resolved::Resolved;
 pub use value_spec::ValueSpec;

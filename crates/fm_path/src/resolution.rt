@@ -48,6 +48,27 @@ pub fn byte_offset(layout: &Layout, path: &[PathStep]) -> Result<u64, Refusal>
     ensures place { IfOk result (λ at. (u : Tree) × FindsClosed path.now layout.now at u) }
     ensures refused { IfErr result (λ refusal. follow_closed path.now layout.now ≡ Err refusal) }
 {
+    let (offset, _) = locate(layout, path)?;
+    Ok(offset)
+}
+
+/// The layout that the path ends at (`MemoryLayout.select`, Java SE 22), which needs not be a value.
+///
+/// Refused as `byte_offset`. Other than in Java, an element's index may stand in the path, and no step may leave an
+/// index open. Takes no memory.
+pub fn select<'a>(layout: &'a Layout, path: &[PathStep]) -> Result<&'a Layout, Refusal>
+    ensures place { IfOk result (λ end. (at : ℕ) × FindsClosed path.now layout.now at end.now) }
+    ensures refused { IfErr result (λ refusal. follow_closed path.now layout.now ≡ Err refusal) }
+{
+    let (_, end) = locate(layout, path)?;
+    Ok(end)
+}
+
+/// The layout that the path ends at and its offset in bytes, in one pass. Refused as `byte_offset`. Takes no memory.
+pub fn locate<'a>(layout: &'a Layout, path: &[PathStep]) -> Result<(u64, &'a Layout), Refusal>
+    ensures place { IfOk result (λ found. FindsClosed path.now layout.now found.0 found.1.now) }
+    ensures refused { IfErr result (λ refusal. follow_closed path.now layout.now ≡ Err refusal) }
+{
     let _root_size = layout.size();
     let mut offset: u64 = 0;
     let mut here = layout;
@@ -56,7 +77,7 @@ pub fn byte_offset(layout: &Layout, path: &[PathStep]) -> Result<u64, Refusal>
         offset = offset.saturating_add(moved.by);
         here = moved.to;
     }
-    Ok(offset)
+    Ok((offset, here))
 }
 
 /// What an access needs of a value layout; `None` exactly for every other layout.

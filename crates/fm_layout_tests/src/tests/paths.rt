@@ -1,11 +1,11 @@
 use crate::tests::compared::same;
 use crate::tests::record::{named, sale, structure, two};
 use crate::tests::rows::answers;
-use crate::tests::told::{refusal_told, whole};
+use crate::tests::told::{layout_told, refusal_told, whole};
 use fm_base::Refusal;
 use fm_lanes::{Order, ValueKind};
 use fm_layout::Layout;
-use fm_path::{Resolved, byte_offset, list_places, parse_path, resolve};
+use fm_path::{Resolved, byte_offset, list_places, parse_path, resolve, select};
 use std::alloc::Global;
 
 /// Where the path of this text leads to in the layout.
@@ -138,43 +138,46 @@ fn refuses_at_the_first_step(rt: HostRuntime) {
     answers(&rt, rt.alloc(), in_a_sale, NO_VALUES);
 }
 
-/// The path's offset in the layout.
-fn offset_of(alloc: Global, layout: &Layout, text: &str) -> Result<u64, Refusal> {
+/// The path's offset in the layout, and what stands there.
+fn end_of(alloc: Global, layout: &Layout, text: &str) -> Result<String, Refusal> {
     let path = parse_path(alloc, text)?;
-    byte_offset(layout, &path)
+    let offset = byte_offset(layout, &path)?;
+    let end = layout_told(alloc, select(layout, &path)?);
+    Ok(whole(alloc, format!(in alloc; "at {offset} {end}")))
 }
 
-/// The path's offset in what was made, or how the refusal is printed.
-fn offset_told(alloc: Global, made: Result<Layout, Refusal>, text: &str) -> String {
-    let offset = match made {
-        Ok(layout) => offset_of(alloc, &layout, text),
+/// That in what was made, or how the refusal is printed.
+fn end_told(alloc: Global, made: Result<Layout, Refusal>, text: &str) -> String {
+    let end = match made {
+        Ok(layout) => end_of(alloc, &layout, text),
         Err(refusal) => Err(refusal),
     };
-    match offset {
-        Ok(offset) => whole(alloc, format!(in alloc; "at {offset}")),
+    match end {
+        Ok(end) => end,
         Err(refusal) => refusal_told(alloc, refusal),
     }
 }
 
-/// The path's offset in a sale.
-fn offset_in_a_sale(alloc: Global, text: &str) -> String {
-    offset_told(alloc, sale(alloc), text)
+/// Where the path ends in a sale.
+fn end_in_a_sale(alloc: Global, text: &str) -> String {
+    end_told(alloc, sale(alloc), text)
 }
 
-/// Paths into a sale, and their offsets.
-const OFFSETS: &str = "\
-. -> at 0
-.tags -> at 16
-.tags[3] -> at 19
-.#5 -> at 20
+/// Paths into a sale, their offsets, and what stands there: its form, size, alignment and name.
+const ENDS: &str = "\
+. -> at 0 Struct(6) 24 8 .
+.tags -> at 16 Sequence(4) 4 1 .tags
+.tags[3] -> at 19 Value(Byte, Little) 1 1 .
+.price -> at 8 Value(Long, Little) 8 8 .price
+.#5 -> at 20 Padding 4 1 .
 .tags[] -> 34 1
 .id[0:0] -> 34 1
 .nope[] -> 31 0
 .tags[4] -> 33 1";
 
 #[test]
-fn offsets_of_layouts(rt: HostRuntime) {
-    answers(&rt, rt.alloc(), offset_in_a_sale, OFFSETS);
+fn ends_at_any_layout(rt: HostRuntime) {
+    answers(&rt, rt.alloc(), end_in_a_sale, ENDS);
 }
 
 /// A struct of two ints of the same name.
@@ -183,15 +186,15 @@ fn twins(alloc: Global) -> Result<Layout, Refusal> {
     structure(two(alloc, first, named(alloc, ValueKind::Int, "a")))
 }
 
-/// The path's offset in twins.
-fn offset_in_twins(alloc: Global, text: &str) -> String {
-    offset_told(alloc, twins(alloc), text)
+/// Where the path ends in twins.
+fn end_in_twins(alloc: Global, text: &str) -> String {
+    end_told(alloc, twins(alloc), text)
 }
 
-/// Paths into twins, and their offsets.
-const OFFSETS_IN_TWINS: &str = "\
-.a -> at 0
-.#1 -> at 4
+/// Paths into twins, their offsets, and what stands there.
+const ENDS_IN_TWINS: &str = "\
+.a -> at 0 Value(Int, Little) 4 4 .a
+.#1 -> at 4 Value(Int, Little) 4 4 .a
 .#2 -> 31 0";
 
 /// The list of the values of what was made, or how the refusal is printed.
@@ -212,7 +215,7 @@ const TWINS: &str = "size 8\nalignment 4\n.a 0 int little\n.#1 4 int little\n";
 #[test]
 fn the_first_of_a_name_is_meant(rt: HostRuntime) {
     let alloc = rt.alloc();
-    answers(&rt, alloc, offset_in_twins, OFFSETS_IN_TWINS);
+    answers(&rt, alloc, end_in_twins, ENDS_IN_TWINS);
     same(&rt, list_told(alloc, twins(alloc)).as_str(), TWINS);
 }
 

@@ -16,7 +16,7 @@ pub(crate) fn refusal_told(alloc: Global, refusal: Refusal) -> String {
 }
 
 /// What the layout is: its form, its size and alignment, and its name behind a dot.
-fn layout_told(alloc: Global, layout: &Layout) -> String {
+pub(crate) fn layout_told(alloc: Global, layout: &Layout) -> String {
     let form = layout.form();
     let (size, alignment) = (layout.size(), layout.alignment());
     let name = layout.name().unwrap_or("");
