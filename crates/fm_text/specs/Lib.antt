@@ -1,2 +1,4 @@
 pub mod Rows
+pub mod Setting
 pub mod Slices
+pub mod Texts

@@ -4,7 +4,10 @@
 mod laws;
 mod prefix;
 mod slicing;
+mod texts;
+mod zero_ended;
 
 pub use laws::slices_lie_apart;
 pub use prefix::PrefixAllocator;
 pub use slicing::SlicingAllocator;
+pub use texts::set_text;
