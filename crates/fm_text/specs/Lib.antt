@@ -1,3 +1,4 @@
+pub mod Getting
 pub mod Rows
 pub mod Setting
 pub mod Slices

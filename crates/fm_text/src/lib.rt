@@ -3,6 +3,7 @@
 
 mod laws;
 mod prefix;
+mod reading;
 mod slicing;
 mod texts;
 mod zero_ended;
@@ -10,4 +11,4 @@ mod zero_ended;
 pub use laws::slices_lie_apart;
 pub use prefix::PrefixAllocator;
 pub use slicing::SlicingAllocator;
-pub use texts::set_text;
+pub use texts::{get_text, set_text};
