@@ -1,3 +1,4 @@
+mod Allocating
 mod Ending
 mod Fronts
 mod Getting

@@ -1,3 +1,4 @@
+pub mod Allocating
 pub mod Getting
 pub mod Rows
 pub mod Setting

@@ -1,6 +1,7 @@
 //! Slices of a segment that are given in a row.
 #![tactic(auto)]
 
+mod allocation;
 mod laws;
 mod prefix;
 mod reading;
@@ -8,6 +9,7 @@ mod slicing;
 mod texts;
 mod zero_ended;
 
+pub use allocation::allocate_text;
 pub use laws::slices_lie_apart;
 pub use prefix::PrefixAllocator;
 pub use slicing::SlicingAllocator;
