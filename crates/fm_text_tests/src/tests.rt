@@ -1,0 +1,6 @@
+mod calls;
+mod cut_off;
+mod memories;
+mod pools;
+mod slices;
+mod texts;
