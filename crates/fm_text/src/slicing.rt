@@ -1,4 +1,5 @@
-ghost use Rattle.std.specs.Prelude.{◌≡◌, ◌<◌};
+ghost use Rattle.std.specs.Prelude.{◌≡◌, IsTrue};
+ghost use Rattle.std.specs.Int.{is_power_of_two};
 ghost use Rattle.fm_base.specs.Machine.{rounded_up};
 
 use fm_base::Refusal;
@@ -26,13 +27,14 @@ impl Model for SlicingAllocator {
     ghost invariant = { λ s. s.used ≤ s.segment.size };
 }
 
-/// The least multiple of `align` that is at least `place`.
+/// The least multiple of `align`, a power of two, that is at least `place`: by a mask, since a division would cost more than
+/// all else of an allocation.
 fn rounded(place: u64, align: u64) -> u128
-    requires { 0 < align }
+    requires { IsTrue (is_power_of_two align) }
     ensures { result ≡ rounded_up place align }
 {
-    let align = u128::from(align);
-    (u128::from(place) + (align - 1)) / align * align
+    let below = u128::from(align - 1);
+    (u128::from(place) + below) & !below
 }
 
 impl SlicingAllocator {
