@@ -357,7 +357,7 @@ struct record {
     int (*call)(int, void *);
     unsigned long long big;
     bool yes;
-    uint8_t grid[ROWS][3];
+    uint8_t grid[ROWS][(NAME - 4UL) * 2 - 0x15];
     signed s; short int h; long l;
 };
 int f(struct record *it);
@@ -519,8 +519,9 @@ class Layout(Files):
             (["struct", "<if"], ["v1: there are no floats"]), (["struct", "<2y"], ["bad char"]),
             (["struct", "<i", "a,b"], ["names of no value: b"]),
             (["c", os.path.join(self.folder, "none")], ["No such file"]),
-            (["c", self.file("a.h", "struct a { int a:3, b; double c; char d[]; unknown e; };")],
-             ["a: there are no bit fields", "c: there are no floats", "d: its length varies", "e: its type isn't"]),
+            (["c", self.file("a.h", "struct a { int a:3, b; double c; char d[], f[LEN]; unknown e; char g[2**9]; };")],
+             ["a: there are no bit fields", "c: there are no floats", "d: its length varies",
+              "f: its count isn't a number", "e: its type isn't", "g: its count isn't a number"]),
             (["c", self.file("b.h", "int f(void);")], ["no struct"]),
             (["c", self.file("b.h", ""), "c"], ["no struct c"]),
             (["kaitai", self.file("a.ksy", VARIOUS)],
