@@ -1,9 +1,12 @@
 //! A program to begin with: copy this folder, give it a name and a line of its own in `crates.txt`, and change it.
 //!
-//! A sale stands in an arena that two threads share. Its price is put and read through a handle; then one thread adds to
-//! it while the other closes the arena, and whoever comes later is refused. So it goes on each of two days, with a worker
-//! of its own each: the first one's pass is gathered, and the second one gets its number again.
+//! Sales stand side by side in an arena that two threads share. Their prices are put and added up through a handle, in
+//! loops; then one thread adds to the first price while the other closes the arena, and whoever comes later is refused. So
+//! it goes on each of two days, with a worker of its own each: the first one's pass is gathered, and the second one gets
+//! its number again.
 #![tactic(auto)]
+
+mod prices;
 
 ghost use Rattle.std.specs.Prelude.{◌≡◌, IfOk, None, [], length};
 ghost use Rattle.fm_base.specs.Learnt.{AfterClose, CanVisit};
@@ -13,6 +16,7 @@ ghost use Rattle.fm_rule_calls.specs.Told.{view_of_pass};
 ghost use Rattle.fm_gate.specs.Crews.{HasNothing};
 ghost use Rattle.fm_handle.specs.Learnt.{CanPut};
 
+use crate::prices::{SALE_SIZE, SALES, add_up, put_prices};
 use fm_arena::{Arena, Shared, a_worker_can_be_gathered, keeps_its_pool};
 use fm_base::{Kind, Refusal};
 use fm_gate::a_crew_stands;
@@ -32,7 +36,7 @@ use std::thread::{Threads, join_mut};
 const SALE: &str =
     r#"{"type":"struct","members":[{"type":"long","name":"id"},{"type":"long","name":"price"}]}"#;
 
-/// One page of 64 bytes and one slot for the arenas of both days, and a pass for each thread.
+/// One page of 64 bytes, which four sales fill, and one slot for the arenas of both days; a pass for each thread.
 const SHAPE: Shape = Shape {
     passes: 2,
     slots: 1,
@@ -45,8 +49,10 @@ const SHAPE: Shape = Shape {
 /// What was found on a day.
 #[derive(Clone, Copy, Debug)]
 struct Found {
-    /// The price that was put.
+    /// The first sale's price, as it was put.
     put: Value,
+    /// What the prices of all sales come to.
+    total: i64,
     /// What the thread that added found, or that it was too late.
     added: Result<Value, Refusal>,
     /// What is found once the arena is closed.
@@ -68,8 +74,8 @@ fn main(rt: HostRuntime) -> ExitCode {
 fn print_day(rt: &HostRuntime, day: u32, found: Found) -> std::io::Result<()> {
     let in_time = found.added == Ok(found.put) || found.added == Err(Refusal::Closed);
     println!(rt;
-        "day {day}: put {:?}\nadded or too late {in_time}\nafter {:?}",
-        found.put, found.after
+        "day {day}: put {:?}, {} in all\nadded or too late {in_time}\nafter {:?}",
+        found.put, found.total, found.after
     )
 }
 
@@ -119,7 +125,7 @@ fn price_of_a_sale(alloc: Global) -> Result<VarHandle, Refusal>
     Ok(price)
 }
 
-/// Puts a price, adds to it in one thread while the other closes the arena, and looks at it afterwards.
+/// Puts prices, adds to the first in one thread while the other closes the arena, and looks at it afterwards.
 fn share<R: Threads + Wait + Sync>(
     rt: &R,
     price: &VarHandle,
@@ -139,17 +145,24 @@ fn share<R: Threads + Wait + Sync>(
     keeps_its_pool();
     a_worker_can_be_gathered();
     let arena = Arena::start(rt, ours, Kind::Shared)?;
-    let sale = arena.allocate(rt, ours, 16, 8)?;
-    price.set(rt, ours, &sale, 0, &[], Value::Long(250))?;
-    let put = price.get(ours, &sale, 0, &[])?;
+    let sales = arena.allocate(rt, ours, SALES * SALE_SIZE, 8)?;
+    put_prices(rt, price, ours, &sales)?;
+    let total = add_up(price, ours, &sales)?;
+    let first = sales.as_slice(0, SALE_SIZE)?;
+    let put = price.get(ours, &first, 0, &[])?;
     theirs.meet(ours.note());
-    let (added, closed) = race(rt, price, ours, theirs, arena, &sale, Value::Long(50));
+    let (added, closed) = race(rt, price, ours, theirs, arena, &first, Value::Long(50));
     closed?;
-    let after = price.get(ours, &sale, 0, &[]);
-    Ok(Found { put, added, after })
+    let after = price.get(ours, &first, 0, &[]);
+    Ok(Found {
+        put,
+        total,
+        added,
+        after,
+    })
 }
 
-/// Closes the arena while the worker adds to the price in a thread of its own.
+/// Closes the arena while the worker adds to the first sale's price in a thread of its own.
 fn race<R: Threads + Wait + Sync>(
     rt: &R,
     price: &VarHandle,
@@ -174,7 +187,7 @@ fn race<R: Threads + Wait + Sync>(
     )
 }
 
-/// The worker's part: it adds to the price, or comes too late.
+/// The worker's part: it adds to the first sale's price, or comes too late.
 fn add<R: Wait>(
     rt: &R,
     price: &VarHandle,
