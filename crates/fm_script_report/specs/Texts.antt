@@ -1,7 +1,7 @@
 -- The text of a report.
 use Rattle.std.specs.{Prelude.{ℕ, Bool, true, false, List, [], ◌∷◌, ◌++◌, codes}, Fmt.{decimal, signed_decimal}, List.{flat_map}}
-use Rattle.hex.specs.Hex.{encode_lower}
 use Rattle.fm_base.specs.Printed.{refusal_text}
+use Rattle.fm_base_text.specs.Hex.{hex_text}
 use Rattle.fm_script_lines.specs.declared.reply.Reply.{Reply, TheVariants.{Fine, Place, Number, Truth, Kept, Ended, Refused, Skipped}}
 use Rattle.fm_script_report.specs.{declared.{arena.AliveArena.{AliveArena}, line.ReportLine.{ReportLine}}, Views.{ReportView}}
 
@@ -22,11 +22,6 @@ reply_text Skipped = codes "skipped"
 -- a line's text, an arrow, and the reply
 abbrev pub line_text : ReportLine → List ℕ
 line_text l = l.text ++ (codes " -> " ++ (reply_text l.reply ++ 10 ∷ []))
-
--- a space and the bytes, in lower case; nothing where there are none
-abbrev pub hex_text : List ℕ → List ℕ
-hex_text [] = []
-hex_text (b ∷ bytes) = codes " " ++ encode_lower (b ∷ bytes)
 
 abbrev pub arena_text : AliveArena → List ℕ
 arena_text a = codes "bytes " ++ (a.name ++ (hex_text a.bytes ++ 10 ∷ []))

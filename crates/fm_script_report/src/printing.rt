@@ -1,11 +1,12 @@
 ghost use Rattle.std.specs.Prelude.{◌≡◌, ◌++◌, IfOk, OnOk, IfErr, string_bytes};
 ghost use Rattle.std.specs.List.{flat_map};
-ghost use Rattle.fm_script_report.specs.Texts.{arena_text, hex_text, line_text, reply_text, report_text, truth_text};
+ghost use Rattle.fm_script_report.specs.Texts.{arena_text, line_text, reply_text, report_text, truth_text};
 
 use crate::arena::AliveArena;
 use crate::line::ReportLine;
 use crate::report::Report;
 use fm_base::Refusal;
+use fm_base_text::push_bytes;
 use fm_path_text::NameText;
 use fm_script_lines::Reply;
 use std::alloc::{AllocError, Global};
@@ -96,17 +97,4 @@ fn push_name(text: &mut String, name: &NameText) -> Result<(), AllocError>
         Ok(name) => text.push_str(name),
         Err(_) => unreachable!(),
     }
-}
-
-/// Adds a space and the bytes, if there are some.
-fn push_bytes(alloc: Global, text: &mut String, bytes: &[u8]) -> Result<(), AllocError>
-    ensures { OnOk result (string_bytes text.new ≡ string_bytes text.old ++ hex_text bytes.now) }
-{
-    if bytes.is_empty() {
-        return Ok(());
-    }
-    text.push(' ')?;
-    let digits = hex::encode(alloc, bytes)?;
-    text.push_str(digits.as_str())?;
-    Ok(())
 }
