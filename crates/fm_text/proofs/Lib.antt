@@ -6,4 +6,5 @@ mod Looking
 mod LookingAlone
 mod Rows
 mod Setting
+mod Slices
 mod Zeros

@@ -1,41 +1,9 @@
 -- Slices of one allocator, call by call.
-use Rattle.std.proofs.Common.{◌≡◌, ℕ, ◌+◌, ◌-◌, ◌/◌, ◌%◌, ◌≤◌, Bool, true, false, List, [], ◌∷◌, All, refl, ap, ◌∙◌, subst, Ok, Err, arith, if◌then◌else◌, nat_le}
-use Rattle.std.proofs.{lemmas.{Bool.Decides.{nat_tests}, List.{Elements.{All-cons, All-nil}, Kept.{AllPairs-cons}}}, Math.Nat.{mul-mod_left}}
-use Rattle.std.specs.{Int.{is_power_of_two}, List.{AllPairs}}
-use Rattle.fm_base.{specs.{declared.{refusal.Refusal.{TheVariants.{BadAlignment, Bounds}}}, Machine.{rounded_up}}, proofs.Growing.{le-rounded_up, power_pos}}
-use Rattle.fm_segment.specs.{Overlap.{AreApart}, Region.{Region, part_of}}
-use Rattle.fm_text.specs.Slices.{Slicing, next_offset}
-use Rattle.fm_text.specs.Rows.{Slice, slice, given, not_given, LiesFrom, LieInRow, LieInRows, LieApart}
-
--- a slice that was given: at a power of two, at an offset from which it fits
-record IsGiven (s r : Region) (off size align : ℕ) : Type 0 where
-  power : is_power_of_two align ≡ true
-  fits : off + size ≤ s.size
-  is : r ≡ part_of off size s
-
--- What passed both tests.
-given_by : (s r : Region) (off size align : ℕ) (pow fit : Bool) → is_power_of_two align ≡ pow → nat_le (off + size) s.size ≡ fit
-    → Ok r ≡ (if pow then (if fit then Ok (part_of off size s) else Err Bounds) else Err BadAlignment) → IsGiven s r off size align
-given_by s r off size align true true p f e = record { power = p; fits = grind (arith, nat_tests); is = cc }
-given_by s r off size align true false p f e = absurd (cc)
-given_by s r off size align false fit p f e = absurd (cc)
-
--- A slice that was given lies behind what was, in the segment, aligned.
-lies : (x : Slicing) (r : Region) (size align : ℕ) → IsGiven x.segment r (next_offset x align) size align → LiesFrom x.segment x.used (slice r align)
-lies x r size align g =
-    let s = x.segment in
-    let pos = power_pos align g.power in
-    let up = le-rounded_up (x.segment.first + x.used) align pos in
-    let first : r.first ≡ x.segment.first + (rounded_up (x.segment.first + x.used) align - x.segment.first) = ap (λ (y : Region). y.first) g.is in
-    let bytes : r.size ≡ size = ap (λ (y : Region). y.size) g.is in
-    let fits = g.fits in
-    let at : r.first ≡ rounded_up (x.segment.first + x.used) align = omega arith in
-    record {
-      arena = ap (λ (y : Region). y.arena) g.is;
-      behind = omega arith;
-      inside = omega arith;
-      aligned = ap (λ n. n % align) at ∙ mul-mod_left ((s.first + x.used + (align - 1)) / align) align;
-    }
+use Rattle.std.proofs.Common.{◌≡◌, ℕ, ◌+◌, ◌-◌, ◌≤◌, List, [], ◌∷◌, All, subst, arith}
+use Rattle.std.{proofs.lemmas.List.{Elements.{All-cons, All-nil}, Kept.{AllPairs-cons}}, specs.List.{AllPairs}}
+use Rattle.fm_segment.specs.{Overlap.{AreApart}, Region.{Region}}
+use Rattle.fm_text.specs.Rows.{Slice, given, not_given, LieInRow, LieInRows, LieApart}
+use Rattle.fm_text.proofs.Slices.{lies_from}
 
 -- Rows of one segment, by what is behind.
 row_at : (s t : Region) (m n : ℕ) (xs : List Slice) → s ≡ t → m ≡ n → LieInRow s m xs → LieInRow t n xs
@@ -45,8 +13,7 @@ row_at s t m n xs e h l = subst (λ (r : Region). LieInRow r n xs) e (subst (λ 
 pub lie_in_rows : LieInRows
 lie_in_rows x end [] g = tt
 lie_in_rows x end (a ∷ xs) (given y size align r call rest) =
-    let g = given_by x.segment r (next_offset x align) size align _ _ refl refl call.answer in
-    (lies x r size align g, row_at y.segment x.segment y.used (r.first + r.size - x.segment.first) xs call.segment call.used (lie_in_rows y end xs rest))
+    (lies_from x size align r call.answer, row_at y.segment x.segment y.used (r.first + r.size - x.segment.first) xs call.segment call.used (lie_in_rows y end xs rest))
 lie_in_rows x end (a ∷ xs) (not_given y size align e call rest) =
     row_at y.segment x.segment y.used x.used (a ∷ xs) call.segment call.used (lie_in_rows y end (a ∷ xs) rest)
 

@@ -1,5 +1,5 @@
 -- The slice that an allocator gives next (`SegmentAllocator.slicingAllocator`, Java SE 22).
-use Rattle.std.specs.{Prelude.{◌≡◌, ℕ, ◌+◌, ◌-◌, Result, Ok, Err, if◌then◌else◌}, Int.{is_power_of_two}}
+use Rattle.std.specs.{Prelude.{◌≡◌, ℕ, ◌+◌, ◌-◌, ◌%◌, ◌≤◌, Result, Ok, Err, if◌then◌else◌}, Int.{is_power_of_two}}
 use Rattle.fm_base.specs.{declared.refusal.Refusal.{Refusal, TheVariants.{BadAlignment}}, Machine.{rounded_up}}
 use Rattle.fm_segment.specs.{Region.{Region}, Slices.{slice_of}}
 
@@ -23,6 +23,14 @@ next_slice x size align = if is_power_of_two align then slice_of (next_offset x 
 abbrev pub used_after : Slicing → Result Region Refusal → ℕ
 used_after x (Ok r) = r.first + r.size - x.segment.first
 used_after x (Err e) = x.used
+
+-- so many bytes of the segment, none of which is behind, at a multiple of this alignment
+pub record LiesFrom (x : Slicing) (size align : ℕ) (r : Region) : Type 0 where
+  pub arena : r.arena ≡ x.segment.arena
+  pub bytes : r.size ≡ size
+  pub behind : x.segment.first + x.used ≤ r.first
+  pub inside : r.first + r.size ≤ x.segment.first + x.segment.size
+  pub aligned : r.first % align ≡ 0
 
 -- of `allocate`
 pub record Allocates (old new : Slicing) (size align : ℕ) (result : Result Region Refusal) : Type 0 where

@@ -8,9 +8,8 @@ ghost use Rattle.fm_text.specs.Texts.{IsText, text_bytes, zero_at};
 use fm_base::{ArenaId, Memory, Refusal};
 use fm_segment_access::{get_piece, piece_width};
 use std::alloc::{AllocError, Global};
-use std::str;
 
-/// Room for so many bytes is made at most before more are known to come.
+/// For so many bytes room is made at first, where there are as many.
 const ROOM: u64 = 64;
 
 /// The text from `place` on, up to the first byte that is 0, in `size` bytes. Each byte is looked at once for a 0, and once

@@ -1,4 +1,4 @@
-ghost use Rattle.std.specs.Prelude.{◌≡◌, IsTrue};
+ghost use Rattle.std.specs.Prelude.{◌≡◌, IfOk, IsTrue};
 ghost use Rattle.std.specs.Int.{is_power_of_two};
 ghost use Rattle.fm_base.specs.Machine.{rounded_up};
 
@@ -38,7 +38,7 @@ fn rounded(place: u64, align: u64) -> u128
 }
 
 impl SlicingAllocator {
-    ghost use Rattle.fm_text.specs.Slices.{Allocates, slicing};
+    ghost use Rattle.fm_text.specs.Slices.{Allocates, LiesFrom, slicing};
 
     /// All bytes of the segment are to be given.
     pub fn over(s: Segment) -> SlicingAllocator
@@ -62,7 +62,8 @@ impl SlicingAllocator {
     /// Refused, in this order: `BadAlignment` where `align` is no power of two, `Bounds` where the bytes pass the
     /// segment's end. A refused call gives nothing and skips nothing.
     pub fn allocate(&mut self, size: u64, align: u64) -> Result<Segment, Refusal>
-        ensures { Allocates self.old self.new size align result }
+        ensures slice { Allocates self.old self.new size align result }
+        ensures lies { IfOk result (LiesFrom self.old size align) }
     {
         if !align.is_power_of_two() {
             return Err(Refusal::BadAlignment);

@@ -3,4 +3,5 @@ mod cut_off;
 mod memories;
 mod pools;
 mod slices;
+mod story;
 mod texts;
