@@ -9,3 +9,4 @@ pub mod Lone
 pub mod Placing
 pub mod Putting
 pub mod Telling
+mod Texts

@@ -1,10 +1,11 @@
-ghost use Rattle.std.specs.Prelude.{◌≡◌, ◌+◌, ◌%◌, ◌≤◌, length, take, drop, IfOk};
+ghost use Rattle.std.specs.Prelude.{◌≡◌, ◌≢◌, ◌+◌, ◌%◌, ◌≤◌, length, take, drop, Err, IfOk};
 ghost use Rattle.std.specs.Result.{result_err};
 ghost use Rattle.fm_layout.specs.Parts.{IsValue};
 ghost use Rattle.fm_layout.specs.Size.{size_of};
 ghost use Rattle.fm_layout.specs.Tree.{alignment_of};
 ghost use Rattle.fm_mono.specs.Shown.{view_of};
 ghost use Rattle.fm_segment.specs.Alone.{Means};
+ghost use Rattle.fm_text.specs.Texts.{IsTextOf, text_bytes};
 ghost use Rattle.fm_top_load.specs.Held.{IsReady, loaded_in};
 ghost use Rattle.fm_top_load.specs.Reading.{ReadsSome};
 ghost use Rattle.fm_top_load.specs.Whole.{IsWhole, TellsLoad};
@@ -12,12 +13,13 @@ ghost use Rattle.fm_top_load.specs.Whole.{IsWhole, TellsLoad};
 use crate::held::{RECORD_FILE_LIMIT, open_held};
 use crate::load_fault::LoadFault;
 use crate::loading::load_into;
-use fm_base::Kind;
+use fm_base::{Kind, Refusal};
 use fm_io::Files;
 use fm_lanes::Value;
 use fm_layout::Layout;
 use fm_mono::Mono;
 use fm_segment::Segment;
+use fm_text::get_text;
 use std::alloc::Global;
 use std::marker::Model;
 use std::sync::Wait;
@@ -69,6 +71,23 @@ impl Loaded {
         match self.segment.get(&mut self.memory, layout, place) {
             Ok(v) => v,
             // The arena is alive, its owner reads, and the value fits.
+            Err(_) => unreachable!(),
+        }
+    }
+
+    /// The text in `size` bytes from a place on: those before the first byte that is 0.
+    ///
+    /// Refused, in this order: `NoZero` where no byte is 0, `NotText` with the length of the longest front of the text's
+    /// bytes that is UTF-8. `Memory` may come in place of any answer.
+    pub fn text(&mut self, alloc: Global, place: u64, size: u64) -> Result<String, Refusal>
+        requires within { place + size ≤ length self.old }
+        ensures text { result ≢ Err Refusal.Memory →
+            IsTextOf (take size (drop place self.old)) (text_bytes result) }
+        ensures same { self.new ≡ self.old }
+    {
+        match self.segment.as_slice(place, size) {
+            Ok(slice) => get_text(alloc, &mut self.memory, &slice, 0),
+            // The segment has these bytes.
             Err(_) => unreachable!(),
         }
     }
