@@ -1,1 +1,4 @@
+mod Behind
+mod Digits
+mod Found
 mod Planned
