@@ -3,7 +3,7 @@ use Rattle.std.proofs.Common.{◌≡◌, ℕ, Bool, true, false, List, length, t
 use Rattle.std.{specs.{Str.{IsUtf8, IsValidUpTo, is_utf8}}, proofs.lemmas.{List.{take_all}, Str.{IsUtf8-from_is_utf8, is_utf8-from_IsUtf8, utf8_valid_len-IsValidUpTo}}}
 use Rattle.fm_base.specs.declared.refusal.Refusal.{Refusal, TheVariants.{NotText, NoZero}}
 use Rattle.fm_text.specs.Texts.{zero_at, IsText}
-use Rattle.fm_top_texts.specs.Lines.{front_text, text_of, whole_text, TextsAreThese}
+use Rattle.fm_top_texts.specs.{Laws.{BytesHaveOneText}, Lines.{front_text, text_of, whole_text}}
 
 -- bytes that are no text are it up to there
 no_text : (bytes : List ℕ) (at : ℕ) → IsValidUpTo bytes at → is_utf8 bytes ≡ false
@@ -25,7 +25,7 @@ front_is : (bytes : List ℕ) (result : Result (List ℕ) Refusal) (n : ℕ) →
 front_is bytes result n zero is = whole_is (take n bytes) result is ∙ sym (ap (front_text bytes) zero)
 
 -- bytes have no other text
-pub text_is : TextsAreThese
+pub text_is : BytesHaveOneText
 text_is bytes (Ok text) (n, zero, is) = front_is bytes (Ok text) n zero is
 text_is bytes (Err NoZero) none = sym (ap (front_text bytes) none)
 text_is bytes (Err (NotText at)) (n, zero, is) = front_is bytes (Err (NotText at)) n zero is

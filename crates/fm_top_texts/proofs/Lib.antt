@@ -1,4 +1,5 @@
 mod Behind
 mod Digits
 mod Found
+pub mod OnePlan
 mod Planned

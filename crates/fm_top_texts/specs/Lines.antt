@@ -1,9 +1,9 @@
 -- What is printed of the texts of a file's records.
-use Rattle.std.specs.{Prelude.{◌≡◌, ℕ, ◌+◌, ◌*◌, ◌/◌, if◌then◌else◌, Option, None, Some, Result, Ok, Err, List, [], ◌∷◌, ◌++◌, length, take, drop, codes}}
+use Rattle.std.specs.{Prelude.{ℕ, ◌+◌, ◌*◌, ◌/◌, if◌then◌else◌, Option, None, Some, Result, Ok, Err, List, [], ◌∷◌, ◌++◌, length, take, drop, codes}}
 use Rattle.std.specs.{List.{flat_map, range_with_len}, Str.{is_utf8}, Str.Lossy.{utf8_valid_len}}
 use Rattle.hex.specs.Hex.{encode_lower}
 use Rattle.fm_base.specs.{declared.refusal.Refusal.{Refusal, TheVariants.{NotText, NoZero}}, Printed.{refusal_text}}
-use Rattle.fm_text.specs.Texts.{zero_at, IsTextOf}
+use Rattle.fm_text.specs.Texts.{zero_at}
 use Rattle.fm_top_texts.specs.declared.plan.TextPlan.{TextPlan}
 
 -- ---- the text that bytes have
@@ -19,10 +19,6 @@ front_text bytes (Some n) = whole_text (take n bytes)
 -- the bytes before the first 0 as a text
 abbrev pub text_of : List ℕ → Result (List ℕ) Refusal
 text_of bytes = front_text bytes (zero_at bytes)
-
--- bytes have no other text
-abbrev pub TextsAreThese : Type 0
-TextsAreThese = (bytes : List ℕ) (result : Result (List ℕ) Refusal) → IsTextOf bytes result → result ≡ text_of bytes
 
 -- ---- lines
 

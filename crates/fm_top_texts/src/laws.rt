@@ -1,6 +1,14 @@
-ghost use Rattle.fm_top_texts.specs.Lines.{TextsAreThese};
+ghost use Rattle.fm_top_texts.specs.Laws.{BytesHaveOneText, PathsHaveOnePlan, PathsHaveOneRefusal, RefusedPathsHaveNoPlan};
 
 /// Does nothing. What it promises holds of all bytes: what is printed of them is their text, or why they have none.
-pub fn texts_are_these()
-    ensures { TextsAreThese }
+pub fn bytes_have_one_text()
+    ensures { BytesHaveOneText }
+{}
+
+/// Does nothing. What it promises holds of every layout and the text of every path: it comes to one plan, or is refused
+/// for one reason.
+pub fn paths_have_one_plan()
+    ensures plan { PathsHaveOnePlan }
+    ensures refusal { PathsHaveOneRefusal }
+    ensures apart { RefusedPathsHaveNoPlan }
 {}

@@ -6,6 +6,6 @@ mod lines;
 mod plan;
 mod writing;
 
-pub use laws::texts_are_these;
+pub use laws::{bytes_have_one_text, paths_have_one_plan};
 pub use plan::{TextPlan, plan_texts};
 pub use writing::write_texts;
