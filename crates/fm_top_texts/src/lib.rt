@@ -1,4 +1,8 @@
-//! What `texts` computes: the texts that end with a byte 0 in the fields of a file's records.
+//! The texts of a file's records, in fields that end with a byte 0.
+//!
+//! [`plan_texts`] follows a path to a sequence of byte values and tells where its bytes lie in a record; [`write_texts`]
+//! writes a line for each record of a loaded file. A text ends at its first 0 and is UTF-8, or the line tells why there is
+//! none.
 #![tactic(auto)]
 
 mod laws;
