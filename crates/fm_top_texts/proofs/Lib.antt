@@ -1,5 +1,4 @@
 mod Behind
-mod Digits
 mod Found
 pub mod OnePlan
 mod Planned

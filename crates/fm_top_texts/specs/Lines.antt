@@ -1,8 +1,8 @@
 -- What is printed of the texts of a file's records.
 use Rattle.std.specs.{Prelude.{ℕ, ◌+◌, ◌*◌, ◌/◌, if◌then◌else◌, Option, None, Some, Result, Ok, Err, List, [], ◌∷◌, ◌++◌, length, take, drop, codes}}
 use Rattle.std.specs.{List.{flat_map, range_with_len}, Str.{is_utf8}, Str.Lossy.{utf8_valid_len}}
-use Rattle.hex.specs.Hex.{encode_lower}
 use Rattle.fm_base.specs.{declared.refusal.Refusal.{Refusal, TheVariants.{NotText, NoZero}}, Printed.{refusal_text}}
+use Rattle.fm_base_text.specs.Hex.{hex_text}
 use Rattle.fm_text.specs.Texts.{zero_at}
 use Rattle.fm_top_texts.specs.declared.plan.TextPlan.{TextPlan}
 
@@ -21,11 +21,6 @@ abbrev pub text_of : List ℕ → Result (List ℕ) Refusal
 text_of bytes = front_text bytes (zero_at bytes)
 
 -- ---- lines
-
--- a space and the bytes in hex, in lower case; nothing where there are none
-abbrev pub hex_text : List ℕ → List ℕ
-hex_text [] = []
-hex_text (b ∷ bytes) = codes " " ++ encode_lower (b ∷ bytes)
 
 abbrev pub told_text : Result (List ℕ) Refusal → List ℕ
 told_text (Ok text) = codes "text" ++ hex_text text
