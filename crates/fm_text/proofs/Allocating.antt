@@ -1,5 +1,5 @@
 -- A text that is allocated: the bytes are given, and then it is put.
-use Rattle.std.proofs.Common.{◌≡◌, inl, inr, ℕ, ◌+◌, ◌≤◌, Bool, true, false, ◌&&◌, nat_lt, nat_le, if◌then◌else◌, List, [], ◌∷◌, ◌++◌, length, take, drop, refl, sym, ap, subst, ◌∙◌, arith, Result, Ok, Err}
+use Rattle.std.proofs.Common.{◌≡◌, inl, inr, ℕ, ◌+◌, ◌≤◌, true, nat_lt, nat_le, if◌then◌else◌, List, [], ◌∷◌, ◌++◌, length, take, drop, refl, sym, ap, subst, ◌∙◌, arith, Result, Ok, Err}
 use Rattle.std.proofs.lemmas.{Bool.{le-leb}, List.{length-append}}
 use Rattle.fm_base.specs.declared.{caller.Caller.{Caller}, arena_id.ArenaId.{ArenaId}, refusal.Refusal.{Refusal, TheVariants.{ReadOnly, Bounds, Closed, WrongThread}}}
 use Rattle.fm_base.specs.{Arenas.{has_arena}, Calls.{Entry}, Does.{DoesAllocate}, Outcomes.{Nature, Lasts}, View.{View, Did, IsByItself, but_loans}}
@@ -10,14 +10,7 @@ use Rattle.fm_segment_access.proofs.{PuttingAlone.{pieces_put, puts_alone}, Alon
 use Rattle.fm_segment.{specs.{Alone.{bytes_of_region}, Fills.{DoesAfter}, Puts.{checked_put}, Region.{Region, region_of}}}
 use Rattle.fm_arena.specs.Arenas.{placed, AfterAllocate}
 use Rattle.fm_text.specs.{Allocating.{GivesThenPuts, DoesAllocateText, AfterAllocateText}, Setting.{text_size, DoesSetText, AfterSetText}, Texts.{zero_ended}}
-use Rattle.fm_text.proofs.Ending.{are_bytes}
-
-and_false : (b : Bool) → (b && false) ≡ false
-and_false true = refl
-and_false false = refl
-
-abbrev unit_ok : Result (Unit {0}) Refusal
-unit_ok = Ok tt
+use Rattle.fm_text.proofs.{Ending.{are_bytes}, Setting.{unit_ok, and_false}}
 
 -- A segment that is open to writes takes as many bytes as it has.
 takes_all : (id : ArenaId) (first n : ℕ) → checked_put (region_of id first n) 0 n ≡ Ok tt
@@ -91,6 +84,7 @@ module _ {nature : Nature} {old mid new : View} {id : ArenaId} {r : Region} (tex
         makes = Makes-then old mid new first.own next.own first.makes next.makes;
       }
 
+  -- What was known and given stays so.
   lasts : {result : Result (Unit {0}) Refusal} → AfterSetText mid new r 0 text result → Lasts old new
   lasts set = let d = both set in Makes-lasts old new d.own d.makes
 

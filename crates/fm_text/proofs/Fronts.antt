@@ -27,6 +27,7 @@ longest_on bs m n false e l =
       ];
     }
 
+-- The one that std searches for.
 longest_of : (bs : List ℕ) (m : ℕ) → IsLongest bs m (valid_len_up_to bs m)
 longest_of bs zero = record { within = omega arith; front = IsUtf8-nil; longest = λ k p q. absurd (omega arith) }
 longest_of bs (suc m) = longest_on bs m (valid_len_up_to bs m) _ refl (longest_of bs m)

@@ -11,10 +11,12 @@ use Rattle.fm_text.proofs.{Looking.{reading}, LookingAlone.{look_alone}}
 
 -- ---- it ends outside
 
+-- A step does, which is a visit.
 step_outside : (c : Caller) (id : ArenaId) (end : ℕ) (x : Reading) (own : List Entry) (y : Reading) → LooksOn c id end x own y → EndsOutside own
 step_outside c id end x own y s =
     ap (inside_after None) s.reads.piece.visits ∙ visit_ends_outside None c id ((Read id (x.at / 8), Found s.reads.piece.word) ∷ [])
 
+-- So does its end.
 last_outside : (c : Caller) (id : ArenaId) (end : ℕ) (x : Reading) (own : List Entry) (result : Result (List ℕ) Refusal) → EndsLooking c id end x own result
     → EndsOutside own
 last_outside c id end x own (Err Closed) e = ap (inside_after None) e.2
@@ -24,11 +26,13 @@ last_outside c id end x own (Err (NotText k)) e = ap (inside_after None) e.1
 last_outside c id end x own (Ok t) e = ap (inside_after None) e.1
 last_outside c id end x own (Err other) e = ap (inside_after None) e.1
 
+-- So does a run.
 runs_outside : (c : Caller) (id : ArenaId) (place end : ℕ) (result : Result (List ℕ) Refusal) (own : List Entry) → Looks c id place end result own
     → EndsOutside own
 runs_outside c id place end result own run =
     run_outside (LooksOn c id end) (EndsLooking c id end) (step_outside c id end) (last_outside c id end) (reading place []) own result run
 
+-- So does the call.
 looks_outside : (c : Caller) (id : ArenaId) (place end : ℕ) (result : Result (List ℕ) Refusal) (own : List Entry) → DoesLook c id place end result own
     → EndsOutside own
 looks_outside c id place end (Err WrongThread) own d = ap (inside_after None) d.2
@@ -41,17 +45,19 @@ looks_outside c id place end (Err other) own d = runs_outside c id place end (Er
 
 -- ---- why it is refused
 
--- Where a visit was refused, or bytes aren't text, there is a byte.
+-- Where a visit was refused, there is a byte.
 closed_some : (c : Caller) (id : ArenaId) (end : ℕ) (x : Reading) (own : List Entry) → Run (LooksOn c id end) (EndsLooking c id end) x own (Err Closed)
     → x.at < end
 closed_some c id end x own (ends e) = e.1
 closed_some c id end x own (goes_on y first rest step run) = step.reads.more
 
+-- Where bytes aren't text, there is one too.
 not_text_some : (c : Caller) (id : ArenaId) (end k : ℕ) (x : Reading) (own : List Entry) → zero_at x.bytes ≡ None
     → Run (LooksOn c id end) (EndsLooking c id end) x own (Err (NotText k)) → x.at < end
 not_text_some c id end k x own none (ends e) = let some = e.0.1 in absurd (let no : ⊥ = cc in no)
 not_text_some c id end k x own none (goes_on y first rest step run) = step.reads.more
 
+-- A refusal with which no run ends doesn't come.
 other_none : (c : Caller) (id : ArenaId) (end : ℕ) (x : Reading) (own : List Entry) (e : Refusal) → ((x : Reading) (own : List Entry)
     → EndsLooking c id end x own (Err e) → ⊥) → Run (LooksOn c id end) (EndsLooking c id end) x own (Err e) → ⊥
 other_none c id end x own e never (ends l) = never x own l
@@ -64,6 +70,7 @@ module _ (r : Region) (offset : ℕ) (fits : offset ≤ r.size) where
   abbrev until : ℕ
   until = r.first + offset + (r.size - offset)
 
+  -- The cause of each refusal.
   cause : (c : Caller) (result : Result (List ℕ) Refusal) (own : List Entry) → DoesLook c r.arena from until result own → IfErr result (TextCause r offset c)
   cause c (Ok t) own d = tt
   cause c (Err WrongThread) own d = (let some = d.0 in omega arith, d.1)
@@ -75,18 +82,20 @@ module _ (r : Region) (offset : ℕ) (fits : offset ≤ r.size) where
 
 -- ---- of a segment
 
--- The rest of a segment.
+-- the rest of a segment from an offset on
 record IsRest (r part : Region) (offset : ℕ) : Type 0 where
   fits : offset ≤ r.size
   is : part ≡ part_of offset (r.size - offset) r
 
+-- The rest that was found.
 rest_by : (r part : Region) (offset : ℕ) (b : Bool) → nat_le offset r.size ≡ b → (if b then Ok (part_of offset (r.size - offset) r) else Err Bounds) ≡ Ok part
     → IsRest r part offset
 rest_by r part offset true e h = record { fits = grind (arith, nat_tests); is = cc }
 rest_by r part offset false e h = absurd (let no : ⊥ = cc in no)
 
-past_by : (r : Region) (offset : ℕ) (e : Refusal) (b : Bool) → nat_le offset r.size ≡ b → (if b then Ok (part_of offset (r.size - offset) r) else Err Bounds) ≡ Err e
-    → (r.size < offset) × (Bounds ≡ e)
+-- Where there is none, the offset is past the end.
+past_by : (r : Region) (offset : ℕ) (e : Refusal) (b : Bool) → nat_le offset r.size ≡ b
+    → (if b then Ok (part_of offset (r.size - offset) r) else Err Bounds) ≡ Err e → (r.size < offset) × (Bounds ≡ e)
 past_by r offset e true t h = absurd (let no : ⊥ = cc in no)
 past_by r offset e false t h = (grind (arith, nat_tests), cc)
 

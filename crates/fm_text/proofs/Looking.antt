@@ -44,6 +44,7 @@ module _ {old now : View} {id : ArenaId} {place end at : ℕ} {bytes : List ℕ}
       let some : place < end = omega arith in
       refused_as r some (going_refused p.going (Err Closed) r (p.none, more, refl) d)
     where
+      -- The refusals of a run, as they are answered.
       refused_as : {next : View} (r : Refusal) → place < end → Did old next (DoesRefuse old.caller id (λ es. Looks old.caller id place end (Err Closed) es) r)
           → Did old next (DoesLook old.caller id place end (Err r))
       refused_as {next} WrongThread some d = said old next _ _ (λ own x. (some, x.0, x.1)) d
@@ -71,6 +72,7 @@ module _ {old now : View} {id : ArenaId} {place end at : ℕ} {bytes : List ℕ}
   -- One piece more.
   module _ {next : View} (width v : ℕ) (all : List ℕ) (more : at < end) (w : width ≡ piece_width at end) (is : all ≡ bytes ++ bytes_of width v)
       (out : next.inside ≡ None) (d : Did now next (DoesGetPiece now.caller id at width (Ok v))) where
+    -- It is a step.
     step : LooksOn old.caller id end (reading at bytes) d.own (reading (at + width) all)
     step = record {
       none = p.none;
@@ -83,9 +85,11 @@ module _ {old now : View} {id : ArenaId} {place end at : ℕ} {bytes : List ℕ}
       };
     }
 
+    -- It goes on.
     on : Going (LooksOn old.caller id end) (EndsLooking old.caller id end) old next id (reading place []) (reading (at + width) all) (p.own ++ d.own)
     on = going_more p.going (reading (at + width) all) d.does.0 d.makes step
 
+    -- It isn't the start any more.
     begun : 1 ≤ width → ¬ (reading (at + width) all ≡ reading place [])
     begun some same =
         let above = p.above in
@@ -94,7 +98,9 @@ module _ {old now : View} {id : ArenaId} {place end at : ℕ} {bytes : List ℕ}
 
     -- With no 0 in it.
     pub looking_on : 1 ≤ width → at + width ≤ end → zero_at all ≡ None → IsLooking old next id place end (at + width) all
-    looking_on some below none = let above = p.above in record { below = below; above = omega arith; outside = out; none = none; own = p.own ++ d.own; going = on }
+    looking_on some below none =
+        let above = p.above in
+        record { below = below; above = omega arith; outside = out; none = none; own = p.own ++ d.own; going = on }
 
     -- There is no memory for it.
     pub looking_wants : 1 ≤ width → Did old next (DoesLook old.caller id place end (Err Memory))

@@ -111,6 +111,7 @@ module _ (old new : View) (id : ArenaId) (place end : ℕ) (begins : place ≤ e
   abbrev range : List ℕ
   range = take (end - place) (drop place (bytes_of_arena old.state id))
 
+  -- What a run of visits finds.
   look_alone_by : (result : Result (List ℕ) Refusal) → IsByItself old → (d : Did old new (λ own. Looks old.caller id place end result own))
       → LookFinds old.state new.state id range result
   look_alone_by result alone d =
@@ -121,12 +122,14 @@ module _ (old new : View) (id : ArenaId) (place end : ℕ) (begins : place ≤ e
       let f = look_runs old.limit old.caller id place end old.state (reading place []) d.own result start d.does m.0 in
       record { finds = f.finds; same = m.1 ∙ f.same }
 
+  -- What was found, as it is told.
   look_as : (result : Result (List ℕ) Refusal) → (Finds old.state id range result → Tells old id range result) → LookFinds old.state new.state id range result
       → LookTells old new id range result
   look_as result f l = record { tells = f l.finds; same = l.same }
 
-  run_of : (result : Result (List ℕ) Refusal) (P : List Entry → Type 0) → ((own : List Entry) → P own → Looks old.caller id place end result own) → Did old new P
-      → Did old new (λ own. Looks old.caller id place end result own)
+  -- What was done, as a run of visits.
+  run_of : (result : Result (List ℕ) Refusal) (P : List Entry → Type 0) → ((own : List Entry) → P own → Looks old.caller id place end result own)
+      → Did old new P → Did old new (λ own. Looks old.caller id place end result own)
   run_of result P f d = record { own = d.own; does = f d.own d.does; makes = d.makes }
 
   -- What the only caller is told.

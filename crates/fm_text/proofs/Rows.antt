@@ -13,7 +13,8 @@ row_at s t m n xs e h l = subst (λ (r : Region). LieInRow r n xs) e (subst (λ 
 pub lie_in_rows : LieInRows
 lie_in_rows x end [] g = tt
 lie_in_rows x end (a ∷ xs) (given y size align r call rest) =
-    (lies_from x size align r call.answer, row_at y.segment x.segment y.used (r.first + r.size - x.segment.first) xs call.segment call.used (lie_in_rows y end xs rest))
+    let more = lie_in_rows y end xs rest in
+    (lies_from x size align r call.answer, row_at y.segment x.segment y.used (r.first + r.size - x.segment.first) xs call.segment call.used more)
 lie_in_rows x end (a ∷ xs) (not_given y size align e call rest) =
     row_at y.segment x.segment y.used x.used (a ∷ xs) call.segment call.used (lie_in_rows y end (a ∷ xs) rest)
 
@@ -36,5 +37,6 @@ row_apart s used (a ∷ xs) l =
     AllPairs-cons R a xs (apart_from s a (a.region.first + a.region.size - s.first) xs (omega arith) (omega arith) l.1)
     (row_apart s (a.region.first + a.region.size - s.first) xs l.1)
 
+-- Over every list of calls no two do.
 pub lie_apart : LieApart
 lie_apart x end xs g = row_apart x.segment x.used xs (lie_in_rows x end xs g)

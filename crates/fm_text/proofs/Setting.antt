@@ -10,10 +10,11 @@ use Rattle.fm_text.specs.Setting.{text_size, AfterSetText}
 pub is_shut : (r : Region) (offset n : ℕ) → 0 < n → r.read_only ≡ true → checked_put r offset n ≡ Err ReadOnly
 is_shut r offset n some read_only = rw (lt-ltb 0 n some, read_only) refl
 
-abbrev unit_ok : Result (Unit {0}) Refusal
+abbrev pub unit_ok : Result (Unit {0}) Refusal
 unit_ok = Ok tt
 
-and_false : (b : Bool) → (b && false) ≡ false
+-- A test that fails fails behind any other.
+pub and_false : (b : Bool) → (b && false) ≡ false
 and_false true = refl
 and_false false = refl
 

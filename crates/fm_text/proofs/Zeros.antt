@@ -7,6 +7,7 @@ use Rattle.fm_text.specs.Texts.{zero_at}
 abbrev first_zero : List ℕ → ℕ
 first_zero bs = position_or_len (λ b. b == 0) bs
 
+-- It is an index, or the length.
 first_zero-le : (xs : List ℕ) → first_zero xs ≤ length xs
 first_zero-le xs = prefix_len-le-length (λ b. not (b == 0)) xs
 
@@ -26,6 +27,7 @@ some_by : (k n m : ℕ) (b : Bool) → nat_lt n m ≡ b → cond b (Some n) None
 some_by k n m true e h = (cc, grind (arith, nat_tests))
 some_by k n m false e h = absurd (cc)
 
+-- An index, moved up.
 plus : ℕ → Option ℕ → Option ℕ
 plus k None = None
 plus k (Some n) = Some (k + n)
@@ -36,6 +38,7 @@ unfolding plus
 shifted k n m true e = let l : nat_lt (k + n) (k + m) ≡ true = grind (arith, nat_tests) in ap (λ b. cond b (Some (k + n)) None) l
 shifted k n m false e = let l : nat_lt (k + n) (k + m) ≡ false = grind (arith, nat_tests) in ap (λ b. cond b (Some (k + n)) None) l
 
+-- The first 0 behind a list with none.
 zero_behind : (xs ys : List ℕ) → zero_at xs ≡ None → zero_at (xs ++ ys) ≡ plus (length xs) (zero_at ys)
 zero_behind xs ys h =
     let all : first_zero xs ≡ length xs = none_by (first_zero xs) (length xs) _ refl h (first_zero-le xs) in

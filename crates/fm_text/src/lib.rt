@@ -4,10 +4,10 @@
 //! **The problem.** Who cuts one allocation into many counts sizes and alignments by hand, and two parts may share a
 //! byte. And a name in a record says nowhere how long it is: it ends at a byte 0, which may be missing.
 //!
-//! **The idea.** A [`SlicingAllocator`] has a segment, and counts how many of its bytes are behind: each slice begins at
-//! the next place that fits its alignment, and where it ends the next one may begin. A [`PrefixAllocator`] gives the
-//! first bytes anew with each call. A text is put with its 0 as one run of pieces ([`set_text`]), and read piece by piece
-//! up to the first one with a 0 ([`get_text`]); [`allocate_text`] gives it a segment of just its bytes.
+//! **The idea.** A [`SlicingAllocator`] has a segment, and counts how many of its bytes are behind: each slice begins
+//! at the next place that fits its alignment, and where it ends the next one may begin. A [`PrefixAllocator`] gives the
+//! first bytes anew with each call. A text is put with its 0 as one run of pieces ([`set_text`]), and read piece by
+//! piece up to the first one with a 0 ([`get_text`]); [`allocate_text`] gives it a segment of just its bytes.
 //!
 //! ```
 //! let mut fields = SlicingAllocator::over(record);
@@ -18,12 +18,12 @@
 //! ```
 //!
 //! **Why it is safe.** No slice passes the segment's end or shares a byte with another, over every list of calls
-//! ([`slices_lie_apart`]), and no sum wraps. A text is found only in its segment: with no 0 in it there is none. A caller
-//! by itself gets the text of all the bytes there.
+//! ([`slices_lie_apart`]), and no sum wraps. A text is found only in its segment: with no 0 in it there is none. A
+//! caller by itself gets the text of all the bytes there.
 //!
 //! **What is not promised.** That a text is one step: others may write between two pieces, or close the arena, and then
-//! the pieces before stay as they were put. What [`get_text`] answers is then the text of the bytes that it read. It alone
-//! takes memory of its own, for its answer.
+//! the pieces before stay as they were put. What [`get_text`] answers is then the text of the bytes that it read. It
+//! alone takes memory of its own, for its answer.
 #![tactic(auto)]
 
 mod allocation;

@@ -18,8 +18,8 @@ impl PrefixAllocator {
         PrefixAllocator { segment: s }
     }
 
-    /// The first `size` bytes, at a place that is a multiple of `align` bytes: the same ones as a call before gave. They
-    /// are as they were.
+    /// The first `size` bytes, at a place that is a multiple of `align` bytes: the same ones as a call before gave.
+    /// They are as they were.
     ///
     /// Refused, in this order: `BadAlignment` where `align` is no power of two, `Bounds` where the segment has fewer
     /// bytes, `Misaligned` where its first place is no multiple of `align`.

@@ -12,8 +12,8 @@ use std::alloc::{AllocError, Global};
 /// For so many bytes room is made at first, where there are as many.
 const ROOM: u64 = 64;
 
-/// The text from `place` on, up to the first byte that is 0, in `size` bytes. Each byte is looked at once for a 0, and once
-/// for UTF-8.
+/// The text from `place` on, up to the first byte that is 0, in `size` bytes. Each byte is looked at once for a 0, and
+/// once for UTF-8.
 ///
 /// Refused, in this order: `WrongThread`, `Closed`, `NoZero`, `NotText`. `Memory` may come at any piece.
 pub(crate) fn get_text_at<M: Memory>(
@@ -44,7 +44,8 @@ pub(crate) fn get_text_at<M: Memory>(
     Err(Refusal::NoZero)
 }
 
-/// Puts the lowest `width` bytes of a number behind others, the lowest first. There is room for `room` bytes in all then.
+/// Puts the lowest `width` bytes of a number behind others, the lowest first. There is room for `room` bytes in all
+/// then.
 fn push_number(
     bytes: &mut Vec<u8>,
     number: u64,

@@ -35,10 +35,10 @@ pub fn set_text<R: Wait, M: Memory>(
 
 /// The text from an offset on, up to the first byte that is 0 (`MemorySegment.getString`, Java SE 22).
 ///
-/// Refused, in this order: `Bounds` where the offset is past the segment's size, `WrongThread`, `Closed`, `NoZero` where
-/// no byte up to the segment's end is 0, `NotText` with the length of the longest front that is UTF-8; at an offset that
-/// is the size `NoZero` alone. `Memory` may come after any piece. The lowest piece comes first, each in a visit of its
-/// own, and none behind the first one with a 0; others may write between.
+/// Refused, in this order: `Bounds` where the offset is past the segment's size, `WrongThread`, `Closed`, `NoZero`
+/// where no byte up to the segment's end is 0, `NotText` with the length of the longest front that is UTF-8; at an
+/// offset that is the size `NoZero` alone. `Memory` may come after any piece. The lowest piece comes first, each in a
+/// visit of its own, and none behind the first one with a 0; others may write between.
 pub fn get_text<M: Memory>(
     alloc: Global,
     m: &mut M,

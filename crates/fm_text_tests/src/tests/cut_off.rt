@@ -58,7 +58,8 @@ fn longs_of(m: &mut Shared, s: &Segment) -> Longs
     [s.get(m, &long, 0), s.get(m, &long, 8), s.get(m, &long, 16)]
 }
 
-/// A memory whose other pass closes an arena at the turn `at`; that arena, and 24 bytes with a text from the offset 4 on.
+/// A memory whose other pass closes an arena at the turn `at`; that arena, and 24 bytes with a text from the offset 4
+/// on.
 fn scene<'a, R: Abort + Wait>(
     rt: &'a R,
     pool: &'a Pool,

@@ -10,7 +10,8 @@ pub loop-at-init : goal.loop-at-init
 loop-at-init g c =
     let out = c.requires.outside in
     let start : c.args.place ≤ c.args.place + c.args.size = omega arith in
-    subst (λ (bs : List ℕ). IsLooking (g.M.Memory.view c.args.m.now) (g.M.Memory.view c.args.m.now) c.args.arena c.args.place (c.args.place + c.args.size) c.args.place bs)
+    let now = g.M.Memory.view c.args.m.now in
+    subst (λ (bs : List ℕ). IsLooking now now c.args.arena c.args.place (c.args.place + c.args.size) c.args.place bs)
     (sym c.new-bytes.ensures.items) (looking_starts c.args.place (c.args.place + c.args.size) start out)
 
 pub get_piece-requires : goal.get_piece-requires
@@ -38,16 +39,19 @@ returns-in_err-push_number g c =
     rw (p.1, p.2) (looking_wants c.loop-at.invariant c.piece_width-width.result c.in_ok-piece.piece _ c.loop-at-test.true w.value refl
     c.get_piece.ensures.outside c.in_ok-piece.ensures.did w.some)
 
+-- The same, where the bytes are seen as a slice from an index on.
 piece_at : (all deref seen piece : List ℕ) (k : ℕ) → all ≡ seen ++ piece → deref ≡ all → k ≡ length seen
     → take (length deref - k) (drop k deref) ≡ piece
 piece_at all deref seen piece k e d n =
     (λ j. take (length (d j) - n j) (drop (n j) (d j))) ∙ piece_is all seen piece e
 
+-- The first 0 of the piece is that of all.
 some_at : (all deref seen piece : List ℕ) (k n : ℕ) → all ≡ seen ++ piece → deref ≡ all → k ≡ length seen → zero_at seen ≡ None
     → Some n ≡ zero_at (take (length deref - k) (drop k deref)) → zero_at all ≡ Some (k + n)
 some_at all deref seen piece k n e d is none f =
     ap zero_at e ∙ (some_zero_behind seen piece n none (ap zero_at (sym (piece_at all deref seen piece k e d is)) ∙ sym f) ∙ ap (λ m. Some (m + n)) (sym is))
 
+-- A piece with none leaves none.
 none_at : (all deref seen piece : List ℕ) (k : ℕ) → all ≡ seen ++ piece → deref ≡ all → k ≡ length seen → zero_at seen ≡ None
     → None ≡ zero_at (take (length deref - k) (drop k deref)) → zero_at all ≡ None
 none_at all deref seen piece k e d is none f =
@@ -59,7 +63,10 @@ returns-in-Some g c =
     let i = c.loop-at.invariant in
     let all = c.push_number.new.bytes.items in
     let pushed : all ≡ c.loop-at.bytes.items ++ bytes_of c.piece_width-width.result c.in_ok-piece.piece = c.in_ok-push_number.ensures in
-    let z = some_at all c.deref.result.now c.loop-at.bytes.items _ c.len-seen.result c.in-Some.n pushed c.deref.ensures.value (let e = c.len-seen.ensures in let l = c.loop-at.bytes.ok in search (rules, e, l)) i.none c.in-Some.ensures.first in
+    let e = c.len-seen.ensures in
+    let l = c.loop-at.bytes.ok in
+    let z = some_at all c.deref.result.now c.loop-at.bytes.items _ c.len-seen.result c.in-Some.n pushed c.deref.ensures.value (search (rules, e, l)) i.none
+    c.in-Some.ensures.first in
     looking_found i c.piece_width-width.result c.in_ok-piece.piece all c.loop-at-test.true w.value pushed c.get_piece.ensures.outside c.in_ok-piece.ensures.did
     (c.len-seen.result + c.in-Some.n) _ w.some z (subst (λ (bs : List ℕ). IsText bs (text_bytes c.text_of.result)) c.truncate.ensures.items c.text_of.ensures)
 
@@ -69,6 +76,9 @@ loop-at-preserved g c =
     let i = c.loop-at.invariant in
     let all = c.push_number.new.bytes.items in
     let pushed : all ≡ c.loop-at.bytes.items ++ bytes_of c.piece_width-width.result c.in_ok-piece.piece = c.in_ok-push_number.ensures in
-    let z = none_at all c.deref.result.now c.loop-at.bytes.items _ c.len-seen.result pushed c.deref.ensures.value (let e = c.len-seen.ensures in let l = c.loop-at.bytes.ok in search (rules, e, l)) i.none c.in_default.ensures.first in
+    let e = c.len-seen.ensures in
+    let l = c.loop-at.bytes.ok in
+    let z = none_at all c.deref.result.now c.loop-at.bytes.items _ c.len-seen.result pushed c.deref.ensures.value (search (rules, e, l)) i.none
+    c.in_default.ensures.first in
     rw c.from-at.ensures (looking_on i c.piece_width-width.result c.in_ok-piece.piece all c.loop-at-test.true w.value pushed c.get_piece.ensures.outside
     c.in_ok-piece.ensures.did w.some w.before_end z)
