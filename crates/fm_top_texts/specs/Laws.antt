@@ -9,11 +9,11 @@ use Rattle.fm_top_texts.specs.{declared.plan.TextPlan.{TextPlan}, Lines.{text_of
 abbrev pub BytesHaveOneText : Type 0
 BytesHaveOneText = (bytes : List ℕ) (result : Result (List ℕ) Refusal) → IsTextOf bytes result → result ≡ text_of bytes
 
--- a path comes to one plan
+-- a path comes to no two plans
 abbrev pub PathsHaveOnePlan : Type 0
 PathsHaveOnePlan = (path : List ℕ) (t : Tree) (p q : TextPlan) → IsTextPlanned path t p → IsTextPlanned path t q → p ≡ q
 
--- it is refused for one reason
+-- it is refused for no two reasons
 abbrev pub PathsHaveOneRefusal : Type 0
 PathsHaveOneRefusal = (path : List ℕ) (t : Tree) (e f : Refusal) → IsTextUnplanned path t e → IsTextUnplanned path t f → e ≡ f
 

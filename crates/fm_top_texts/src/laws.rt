@@ -1,6 +1,7 @@
 ghost use Rattle.fm_top_texts.specs.Laws.{BytesHaveOneText, PathsHaveOnePlan, PathsHaveOneRefusal, RefusedPathsHaveNoPlan};
 
-/// Does nothing. What it promises holds of all bytes: what is printed of them is their text, or why they have none.
+/// Does nothing. What it promises holds of all bytes: they have no other text, and no other reason to have none, than
+/// what is printed of them.
 pub fn bytes_have_one_text()
     ensures { BytesHaveOneText }
 {}

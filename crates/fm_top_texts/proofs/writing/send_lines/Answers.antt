@@ -12,7 +12,7 @@ loop-k-preserved g c =
     let more = lines_between p file (k + 1) n in
     let same = c.loop-k.invariant.same in
     record {
-      way = goes_on (record_line p c.loop-k.loaded k) more c.loop-k.invariant.way c.in_ok-send_text.ensures.sends
+      way = goes_on {rest = lines_between p file k n} (record_line p c.loop-k.loaded k) more c.loop-k.invariant.way c.in_ok-send_text.ensures.sends
           (next_line p file k n (rw c.len.ensures at c.loop-k-test.true) ∙ ap (λ f. record_line p f k ++ more) (sym same));
       same = c.send_text.ensures.same ∙ same;
     }
@@ -25,5 +25,5 @@ returns-in_err-send_text-clause-sends g c =
     let k = c.loop-k.k in
     let n = length file / p.size in
     let more = lines_between p file (k + 1) n in
-    rw (q.1, q.2) (stops (record_line p c.loop-k.loaded k) more c.loop-k.invariant.way c.in_err-send_text.ensures.sends
+    rw (q.1, q.2) (stops {rest = lines_between p file k n} (record_line p c.loop-k.loaded k) more c.loop-k.invariant.way c.in_err-send_text.ensures.sends
     (next_line p file k n (rw c.len.ensures at c.loop-k-test.true) ∙ ap (λ f. record_line p f k ++ more) (sym c.loop-k.invariant.same)))
