@@ -1,4 +1,4 @@
-ghost use Rattle.std.specs.Prelude.{◌≡◌, None};
+ghost use Rattle.std.specs.Prelude.{◌≡◌};
 ghost use Rattle.fm_rule_calls.specs.Told.{view_of_pass};
 ghost use Rattle.fm_segment.specs.Learnt.{CanUse};
 ghost use Rattle.fm_arena.specs.Shares.{CanShare};
@@ -12,7 +12,6 @@ use fm_layout::Layout;
 use fm_rule::{Pass, Pool};
 use fm_segment::Segment;
 use fm_text::allocate_text;
-use std::alloc::AllocGlobal;
 use std::marker::Model;
 use std::process::Abort;
 use std::sync::Wait;

@@ -1,15 +1,13 @@
 ghost use Rattle.std.specs.Prelude.{◌≡◌, ◌≢◌, None};
-ghost use Rattle.fm_base.specs.Learnt.{CanVisit};
 ghost use Rattle.fm_rule_calls.specs.Told.{view_of_pass};
 ghost use Rattle.fm_segment.specs.Access.{IsKnown};
-ghost use Rattle.fm_segment.specs.Learnt.{CanUse};
 ghost use Rattle.fm_arena.specs.Lasting.{SamePool};
 ghost use Rattle.fm_arena.specs.Shares.{CanShare};
 ghost use Rattle.fm_memory_doubles.specs.Beside.{AreBeside};
 
 use crate::tests::calls::{gets, same, sets};
 use fm_arena::{Arena, Shared, keeps_its_pool};
-use fm_base::{Kind, Memory, Refusal};
+use fm_base::{Kind, Refusal};
 use fm_rule::{Pass, Pool};
 use fm_segment::Segment;
 use fm_text::allocate_text;
