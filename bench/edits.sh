@@ -48,8 +48,14 @@ below() { # the crate and the repository's crates below it, by crates.txt
     END { walk(top) }' crates.txt
 }
 sum_below() { # one sum of all that an edit of the crate is tried over
-  { rt version; for at in $(below "$1"); do grep "^$at\b" crates.txt; find "crates/$at"/{src,specs,proofs} -type f 2> /dev/null | sort | xargs sha256sum; done; } |
-    sha256sum | cut -d' ' -f1
+  local at
+  {
+    rt version
+    for at in $(below "$1"); do
+      grep "^$at\b" crates.txt
+      find "crates/$at" -path '*/out' -prune -o \( -name '*.rt' -o -name '*.antt' \) -type f -print | sort | xargs sha256sum
+    done
+  } | sha256sum | cut -d' ' -f1
 }
 
 # The tree without what checks left; the copy's own such work stays.
