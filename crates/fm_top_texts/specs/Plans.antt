@@ -1,5 +1,5 @@
 -- Where the text of a record stands that a path comes to, and why a path is refused.
-use Rattle.std.specs.Prelude.{◌≡◌, ◌≢◌, ℕ, ◌+◌, ◌≤◌, Bool, true, false, if◌then◌else◌, Option, Some, None, Err, List}
+use Rattle.std.specs.Prelude.{◌≡◌, ◌≢◌, ℕ, ◌+◌, ◌<◌, ◌≤◌, Bool, true, false, if◌then◌else◌, Option, Some, None, Err, List}
 use Rattle.fm_base.specs.declared.refusal.Refusal.{Refusal, TheVariants.{Memory, Unsupported}}
 use Rattle.fm_lanes.specs.declared.value_kind.ValueKind.TheVariants.{Byte}
 use Rattle.fm_layout.specs.{Tree.{Tree, Value, Sequence}, Size.{size_of}}
@@ -35,3 +35,7 @@ pub data IsTextUnplanned (text : List ℕ) (t : Tree) : Refusal → Type 0 where
 -- the text's bytes are a record's
 abbrev pub LiesWithin : TextPlan → Type 0
 LiesWithin p = p.offset + p.count ≤ p.size
+
+-- records have bytes, and among those of each are the text's
+abbrev pub IsOfRecords : TextPlan → Type 0
+IsOfRecords p = (0 < p.size) × LiesWithin p

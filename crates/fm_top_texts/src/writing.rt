@@ -11,11 +11,7 @@ use fm_io::{Fault, PIECE, Sink, send_piece, send_rest};
 use fm_top_load::Loaded;
 use std::alloc::Global;
 
-/// Writes a line for each record of a file that was loaded, in their order: `text`, a space and the text's bytes in hex;
-/// `text` alone where it is empty; `refused` and the refusal where there is none. What is left behind the last record
-/// has no line.
-///
-/// Each text is read as its line is made, and lines are written as they are made. After a fault a prefix was written.
+/// Writes the lines of all records.
 pub fn write_texts<O: Sink>(
     alloc: Global,
     out: &mut O,

@@ -6,7 +6,7 @@ use fm_base::Refusal;
 use fm_io::{MemSink, SureFiles, SureSink};
 use fm_ljson::layout_from_json;
 use fm_top_load::{Loaded, load};
-use fm_top_texts::{TextPlan, plan_texts, write_texts};
+use fm_top_texts::{RecordTexts, TextPlan, plan_texts};
 use std::alloc::{AllocGlobal, Global};
 use std::process::Abort;
 use std::sync::Wait;
@@ -35,7 +35,8 @@ fn printed<R: AllocGlobal + Wait + Abort>(rt: &R, layout: &str, path: &str, file
         Err(refusal) => return format!(in rt.alloc(); "{refusal}").expect(rt, "memory"),
     };
     let mut sink = SureSink::new(rt.alloc());
-    write_texts(rt.alloc(), &mut sink, &mut loaded(rt, file), &plan).expect(rt, "a sink");
+    let mut texts = RecordTexts::of(plan, loaded(rt, file));
+    texts.write(rt.alloc(), &mut sink).expect(rt, "a sink");
     let lines = sink.written().to_vec(rt.alloc()).expect(rt, "memory");
     String::from_utf8(lines)
         .expect(rt, "text")
@@ -118,7 +119,7 @@ fn long_answer<R: AllocGlobal + Wait + Abort>(rt: &R, failing: Vec<u64>) -> (boo
     if plan.size == 0 {
         return (false, 0);
     }
-    let answer = write_texts(rt.alloc(), &mut sink, &mut loaded(rt, &records), &plan);
+    let answer = RecordTexts::of(plan, loaded(rt, &records)).write(rt.alloc(), &mut sink);
     (answer.is_ok(), sink.written().len())
 }
 
