@@ -5,13 +5,12 @@ use Rattle.fm_base.specs.declared.refusal.Refusal.{Refusal}
 use Rattle.fm_lanes.specs.declared.value_kind.ValueKind.{ValueKind}
 use Rattle.fm_layout.specs.Tree.{Tree}
 use Rattle.fm_ljson.specs.Answer.{layout_of_json}
-use Rattle.fm_records_query.specs.Plan.{Plan}
 use Rattle.fm_top_load.specs.Limits.{record_file_limit}
 use Rattle.fm_top.specs.Causes.{LacksFile, HasLongFile, HasRefusedLayout, HasRefusedQuery, HasRaggedFile, HasRefusedScript}
 use Rattle.fm_top.specs.Outcome.{Outcome, RecordsEnd, no_file, too_many, uneven, even, IsSummed, layout_outcome, shows, layout_file_limit, too_long}
-use Rattle.fm_top.specs.Queries.{IsRecordLayout, IsPlanned, IsAnswered, records_limit, TextEnds, unplanned, planned, AskEnds, no_layout, long_layout, bad_layout, over_layout}
+use Rattle.fm_top.specs.Queries.{IsRecordLayout, PlanOf, size_in, ComesTo, EndsOver, records_limit, TextEnds, unplanned, planned, AskEnds, no_layout, long_layout, bad_layout, over_layout}
 use Rattle.fm_top.specs.{Run.{EndsBy}, Scripts.{ScriptEnds, no_script, long_script, bad_script, ran}, Words.{Request, Sum, Layout, Ask, Demo, Run}}
-use Rattle.fm_top.specs.declared.{command.{layout_text.LayoutText.{LayoutText}, question.Question.{Question}}, outcome.status.Status.{Status}}
+use Rattle.fm_top.specs.declared.{command.{layout_text.LayoutText.{LayoutText}, wish.Wish.{Wish, TheVariants.{Answer, Texts}}}, outcome.status.Status.{Status}}
 use Rattle.fm_top.specs.declared.outcome.status.Status.TheVariants.{Answered, Missing, LayoutRefused, QueryRefused, Ragged, TooLong, ScriptRefused}
 
 -- the cause of a status: an answer needs none, and what is no outcome's status has none
@@ -54,26 +53,31 @@ layout_cause : (text : LayoutText) (name : List ℕ) (first last : Option (List 
 layout_cause text name None last = refl
 layout_cause text name (Some bytes) last = listed_cause text name bytes last (nat_lt layout_file_limit (length bytes)) (layout_of_json bytes) refl refl
 
--- that of a query or a tally
-module _ (q : Question) (threads : ℕ) (layout text file bytes : List ℕ) (t : Tree) (is : IsRecordLayout q bytes t) where
-  plan_cause : (p : Plan) (last : Option (List ℕ)) (o : Outcome) → IsPlanned q text t p → RecordsEnd (records_limit q) p.size file (IsAnswered q threads p) last o
-      → CauseOf o.status (Ask q threads layout text file) (Some bytes) last
+-- whole records are answered
+pub over_answered : (w : Wish) (p : PlanOf w) (bytes : List ℕ) (o : Outcome) → EndsOver w p bytes o → o.status ≡ Answered
+over_answered (Answer q threads) p bytes o ends = ap (λ (y : Outcome). y.status) ends.outcome
+over_answered Texts p bytes o ends = ap (λ (y : Outcome). y.status) ends
+
+-- that of what is asked of records
+module _ (w : Wish) (layout text file bytes : List ℕ) (t : Tree) (is : IsRecordLayout w bytes t) where
+  plan_cause : (p : PlanOf w) (last : Option (List ℕ)) (o : Outcome) → ComesTo w text t p → RecordsEnd (records_limit w) (size_in w p) file (EndsOver w p) last o
+      → CauseOf o.status (Ask w layout text file) (Some bytes) last
   plan_cause p last o plan no_file = inr (p, (t, is, plan), refl)
   plan_cause p last o plan (too_many all long) = inr (p, (t, is, plan), long)
   plan_cause p last o plan (uneven all short rest) = (p, (t, is, plan), (short, rest))
   plan_cause p last o plan (even all x short whole answer) =
-      answer_cause (Ask q threads layout text file) (Some bytes) (Some all) x (ap (λ (y : Outcome). y.status) (sym answer.outcome))
+      answer_cause (Ask w layout text file) (Some bytes) (Some all) x (sym (over_answered w p all x answer))
 
-  text_cause : (last : Option (List ℕ)) (o : Outcome) → TextEnds q threads text t file last o → CauseOf o.status (Ask q threads layout text file) (Some bytes) last
+  text_cause : (last : Option (List ℕ)) (o : Outcome) → TextEnds w text t file last o → CauseOf o.status (Ask w layout text file) (Some bytes) last
   text_cause last o (unplanned e refused) = (t, is, e, refused)
   text_cause last o (planned p x plan ends) = plan_cause p last x plan ends
 
-ask_cause : (q : Question) (threads : ℕ) (layout text file : List ℕ) (first last : Option (List ℕ)) (o : Outcome)
-    → AskEnds q threads layout text file last first o → CauseOf o.status (Ask q threads layout text file) first last
-ask_cause q threads layout text file first last o no_layout = inl refl
-ask_cause q threads layout text file first last o (long_layout bytes long) = inl long
-ask_cause q threads layout text file first last o (bad_layout bytes e refused) = (e, refused)
-ask_cause q threads layout text file first last o (over_layout bytes t x is ends) = text_cause q threads layout text file bytes t is last x ends
+ask_cause : (w : Wish) (layout text file : List ℕ) (first last : Option (List ℕ)) (o : Outcome)
+    → AskEnds w layout text file last first o → CauseOf o.status (Ask w layout text file) first last
+ask_cause w layout text file first last o no_layout = inl refl
+ask_cause w layout text file first last o (long_layout bytes long) = inl long
+ask_cause w layout text file first last o (bad_layout bytes e refused) = (e, refused)
+ask_cause w layout text file first last o (over_layout bytes t x is ends) = text_cause w layout text file bytes t is last x ends
 
 -- a script's
 script_cause : (file : List ℕ) (first last : Option (List ℕ)) (o : Outcome) → ScriptEnds file first o → CauseOf o.status (Run file) first last
@@ -87,6 +91,6 @@ pub end_cause : (request : Request) (first last : Option (List ℕ)) (o : Outcom
 end_cause (Sum size at kind file) first last o ends = sum_cause size at kind file first last o ends
 end_cause (Layout text file) first last o is = subst (λ (x : Outcome). CauseOf x.status (Layout text file) first last) (sym is)
     (layout_cause text file first last)
-end_cause (Ask q threads layout text file) first last o ends = ask_cause q threads layout text file first last o ends
+end_cause (Ask w layout text file) first last o ends = ask_cause w layout text file first last o ends
 end_cause (Demo threads count) first last o ends = answer_cause (Demo threads count) first last o (ap (λ (x : Outcome). x.status) (sym ends.outcome))
 end_cause (Run file) first last o ends = script_cause file first last o ends

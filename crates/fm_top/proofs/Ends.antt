@@ -2,11 +2,10 @@
 use Rattle.std.proofs.{Common.{◌≡◌, ℕ, List, Option, Some, Result, Ok, Err, ap, sym, subst, ◌∙◌, arith}, lemmas.Result.{IfOk-weaker}}
 use Rattle.fm_io.{specs.{declared.fault.Fault.{Fault, TheVariants.{Failed, Memory}}, View.{FilesView, Leaves}}, proofs.Left.{leaves_none}}
 use Rattle.fm_top.specs.{Causes.{LacksFile}, Ending.{shown, TellsMisses}, Ends.{EndsFile, EndsRequest, ShowsFiles}, Found.{OfFile}}
-use Rattle.fm_top.specs.{Outcome.{Outcome, no_file, too_many, uneven, even}, Queries.{PlanEnds}, Reading.{first_limit}, Run.{EndsBy}}
-use Rattle.fm_top.specs.{Words.{Request, first_file, last_file}, declared.{command.question.Question.{Question}, outcome.ending.Ending.{Ending}}}
-use Rattle.fm_top.{specs.declared.outcome.status.Status.{Status}, proofs.{Causes.{CauseOf, end_cause}, Outcomes.{some_end}}}
+use Rattle.fm_top.specs.{Outcome.{Outcome, no_file, too_many, uneven, even}, Queries.{PlanEnds, PlanOf}, Reading.{first_limit}, Run.{EndsBy}}
+use Rattle.fm_top.specs.{Words.{Request, first_file, last_file}, declared.{command.wish.Wish.{Wish}, outcome.ending.Ending.{Ending}}}
+use Rattle.fm_top.{specs.declared.outcome.status.Status.{Status}, proofs.{Causes.{CauseOf, end_cause, over_answered}, Outcomes.{some_end}}}
 use Rattle.fm_top.proofs.ReadFor.{first_reads, not_read, read_since}
-use Rattle.fm_records_query.specs.Plan.{Plan}
 use Rattle.fm_top.specs.declared.outcome.status.Status.TheVariants as status
 
 module _ {old new : FilesView} (left : Leaves ⊥ ⊥ old new) where
@@ -56,6 +55,10 @@ module _ {name : List ℕ} {limit : ℕ} {Needs : Type 0} {Has : Option (List �
     files = shows_found (leaves_none _ (λ e. e) (λ e. e)) there;
   }
 
+  -- nor for want of memory
+  pub unread_wanting : {files : FilesView} {end : Result Ending Fault} → end ≡ Err Memory → EndsFile name limit Needs Has files files end
+  unread_wanting is = rw is (record { outcome = tt; reads = not_read; files = shows_wanting (leaves_none _ (λ e. e) (λ e. e)) })
+
   -- the same end is seen by other definitions
   pub ends_as : {old new : FilesView} {result : Result Ending Fault} {Wants : Type 0} {Ends : Option (List ℕ) → Outcome → Type 0} → (Needs → Wants)
       → ((found : Option (List ℕ)) (o : Outcome) → Has found o → Ends found o) → EndsFile name limit Needs Has old new result
@@ -90,10 +93,10 @@ first_found request bytes last o there ends is =
     there (subst (λ (s : Status). CauseOf s request (Some bytes) last) is (end_cause request (Some bytes) last o ends))
 
 -- that of a plan over a record file that was found
-pub plan_found : (q : Question) (threads : ℕ) (p : Plan) (file bytes : List ℕ) (found : Option (List ℕ)) (o : Outcome) → found ≡ Some bytes → PlanEnds q threads p file found o
+pub plan_found : (w : Wish) (p : PlanOf w) (file bytes : List ℕ) (found : Option (List ℕ)) (o : Outcome) → found ≡ Some bytes → PlanEnds w p file found o
     → o.status ≡ status.Missing → ⊥
-plan_found q threads p file bytes found o some no_file is = absurd (cc)
-plan_found q threads p file bytes found o some (too_many all long) is = let same : status.TooLong ≡ status.Missing = is in absurd (cc)
-plan_found q threads p file bytes found o some (uneven all short rest) is = let same : status.Ragged ≡ status.Missing = is in absurd (cc)
-plan_found q threads p file bytes found o some (even all x short whole answer) is =
-    let same : status.Answered ≡ status.Missing = sym (ap (λ (y : Outcome). y.status) answer.outcome) ∙ is in absurd (cc)
+plan_found w p file bytes found o some no_file is = absurd (cc)
+plan_found w p file bytes found o some (too_many all long) is = let same : status.TooLong ≡ status.Missing = is in absurd (cc)
+plan_found w p file bytes found o some (uneven all short rest) is = let same : status.Ragged ≡ status.Missing = is in absurd (cc)
+plan_found w p file bytes found o some (even all x short whole answer) is =
+    let same : status.Answered ≡ status.Missing = sym (over_answered w p all x answer) ∙ is in absurd (cc)

@@ -4,7 +4,7 @@ use Rattle.std.specs.{Fmt.{decimal}, Prelude.{String, string_bytes}, declared.al
 use Rattle.std.proofs.lemmas.{Fmt.{decimal_injective}}
 use Rattle.fm_lanes.{specs.{Named.{kind_text}, declared.value_kind.ValueKind.{ValueKind}}, proofs.Naming.{kind_text-injective}}
 use Rattle.fm_top_options.specs.Options.{texts}
-use Rattle.fm_top.specs.Words.{IsUpTo, HasValue, IsSum, five}
+use Rattle.fm_top.specs.Words.{IsUpTo, HasValue, IsSum, IsTexts, five, four}
 
 -- words spell numbers at which no value of the kind that they name stands, so no sum is spelled with them
 pub no_sum : (command size at type_word file name : List ℕ) (n m n' m' : ℕ) (kind kind' : ValueKind) → n < 2 ^ 64 → m < 2 ^ 64
@@ -28,6 +28,19 @@ pub five_texts : (words : List (String Global)) (v w x y z : String Global) (a b
     → texts words ≡ five a b c d e
 five_texts (p ∷ q ∷ r ∷ s ∷ t ∷ []) v w x y z a b c d e low high is_v is_w is_x is_y is_z is_a is_b is_c is_d is_e = cc
 five_texts words v w x y z a b c d e low high is_v is_w is_x is_y is_z is_a is_b is_c is_d is_e = absurd (omega arith)
+
+-- four words and their texts
+pub four_texts : (words : List (String Global)) (v w x y : String Global) (a b c d : List ℕ) → 4 ≤ length words → length words < 5
+    → v ≡ get_or words 0 v → w ≡ get_or words 1 w → x ≡ get_or words 2 x → y ≡ get_or words 3 y
+    → a ≡ string_bytes v → b ≡ string_bytes w → c ≡ string_bytes x → d ≡ string_bytes y → texts words ≡ four a b c d
+four_texts (p ∷ q ∷ r ∷ s ∷ []) v w x y a b c d low high is_v is_w is_x is_y is_a is_b is_c is_d = cc
+four_texts words v w x y a b c d low high is_v is_w is_x is_y is_a is_b is_c is_d = absurd (omega arith)
+
+-- words that are spelled so ask for no texts
+pub no_texts : (words other : List (List ℕ)) → words ≡ other → ((layout path file : List ℕ) → IsTexts other layout path file → ⊥)
+    → (layout path file : List ℕ) → IsTexts words layout path file → ⊥
+no_texts words other same none layout path file asks =
+    none layout path file (subst (λ (all : List (List ℕ)). IsTexts all layout path file) same asks)
 
 -- words that are spelled so ask for no sum
 pub none_summed : (words other : List (List ℕ)) → words ≡ other

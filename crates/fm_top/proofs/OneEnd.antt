@@ -10,11 +10,12 @@ use Rattle.fm_records_query.{specs.Plan.{Plan}, proofs.{Lists.{one_list, one_lis
 use Rattle.fm_records_query.{proofs.OneRefusal.{no_record_once, one_refusal}, specs.Records.{IsRecord, IsNoRecord}}
 use Rattle.fm_top.specs.{Demos.{DemoEnds, made_text}, Laws.{PrintAlike, HaveOneOutcome}}
 use Rattle.fm_top.specs.Outcome.{Outcome, RecordsEnd, no_file, too_many, uneven, even, IsSummed, layout_refused, query_refused}
-use Rattle.fm_top.specs.Queries.{IsRecordLayout, IsNoRecordLayout, IsLayoutRefused, IsSmall, records_limit, IsPlanned, IsUnplanned, IsAnswered, TextEnds, unplanned, planned, AskEnds, no_layout, long_layout, bad_layout, over_layout}
+use Rattle.fm_top.specs.Queries.{IsRecordLayout, IsNoRecordLayout, IsLayoutRefused, IsSmall, records_limit, PlanOf, size_in, ComesTo, ComesToNone, EndsOver, PlanEnds, IsPlanned, IsUnplanned, TextEnds, unplanned, planned, AskEnds, no_layout, long_layout, bad_layout, over_layout}
 use Rattle.fm_top.specs.{Tallies.{IsTallied, IsPathRefused, no_list, no_bytes}, Run.{HasOutcome, IsOutcomeOver, faulty, asked}}
-use Rattle.fm_top.specs.{Words.{Request, Sum, Layout, Ask, Demo, Run, Asks, IsRun}, declared.command.question.Question.{Question}}
+use Rattle.fm_top.specs.{Words.{Request, Sum, Layout, Ask, Demo, Run, Asks, IsRun}, declared.command.{question.Question.{Question}, wish.Wish.{Wish, TheVariants.{Answer, Texts}}}}
 use Rattle.fm_top.{specs.declared.command.question.Question.TheVariants.{Query, Stream, Tally}, proofs.{Comes.{over_told}, Requests.{same_request}}}
 use Rattle.fm_top_load.specs.Limits.{record_file_limit}
+use Rattle.fm_top_texts.proofs.OnePlan as texts
 use Rattle.fm_workers.specs.Counts.{IsTally}
 
 -- what is one outcome is printed alike
@@ -50,8 +51,9 @@ records_once limit size file Answers one found o x (even bytes o' a whole answer
 summed_once : (size at : ℕ) (kind : ValueKind) → PrintOne (IsSummed size at kind)
 summed_once size at kind bytes o x a b = alike o x (a ∙ sym b)
 
-answered_once : (q : Question) (threads : ℕ) (p : Plan) → PrintOne (IsAnswered q threads p)
-answered_once q threads p bytes o x a b = alike_by o x _ _ a.outcome b.outcome (record { status = refl; text = refl })
+answered_once : (w : Wish) (p : PlanOf w) → PrintOne (EndsOver w p)
+answered_once (Answer q threads) p bytes o x a b = alike_by o x _ _ a.outcome b.outcome (record { status = refl; text = refl })
+answered_once Texts p bytes o x a b = alike o x (a ∙ sym b)
 
 -- ---- texts
 
@@ -81,15 +83,27 @@ planned_once Query text t p r a b = one_plan text t p r a b
 planned_once Stream text t p r a b = one_plan text t p r a b
 planned_once Tally text t p r a b = one_list text t p r a.list b.list
 
-text_once : (q : Question) (threads : ℕ) (text : List ℕ) (t : Tree) (file : List ℕ) (found : Option (List ℕ)) (o x : Outcome) → TextEnds q threads text t file found o
-    → TextEnds q threads text t file found x → PrintAlike o x
-text_once q threads text t file found o x (unplanned e a) (unplanned f b) =
-    alike o x (ap query_refused (unplanned_once q text t e f a b))
-text_once q threads text t file found o x (unplanned e a) (planned p x' b ends) = absurd (refused_not_planned q text t p e a b)
-text_once q threads text t file found o x (planned p o' a ends) (unplanned f b) = absurd (refused_not_planned q text t p f b a)
-text_once q threads text t file found o x (planned p o' a ends) (planned r x' b ends') =
-    records_once (records_limit q) r.size file (IsAnswered q threads r) (answered_once q threads r) found o x
-    (subst (λ (y : Plan). RecordsEnd (records_limit q) y.size file (IsAnswered q threads y) found o) (planned_once q text t p r a b) ends) ends'
+-- so is any other text
+none_not_some : (w : Wish) (text : List ℕ) (t : Tree) (p : PlanOf w) (e : Refusal) → ComesToNone w text t e → ComesTo w text t p → ⊥
+none_not_some (Answer q threads) text t p e denied is = refused_not_planned q text t p e denied is
+none_not_some Texts text t p e denied is = texts.refused_has_none text t p e denied is
+
+none_once : (w : Wish) (text : List ℕ) (t : Tree) (e f : Refusal) → ComesToNone w text t e → ComesToNone w text t f → e ≡ f
+none_once (Answer q threads) text t e f a b = unplanned_once q text t e f a b
+none_once Texts text t e f a b = texts.one_refusal text t e f a b
+
+some_once : (w : Wish) (text : List ℕ) (t : Tree) (p r : PlanOf w) → ComesTo w text t p → ComesTo w text t r → p ≡ r
+some_once (Answer q threads) text t p r a b = planned_once q text t p r a b
+some_once Texts text t p r a b = texts.one_plan text t p r a b
+
+text_once : (w : Wish) (text : List ℕ) (t : Tree) (file : List ℕ) (found : Option (List ℕ)) (o x : Outcome) → TextEnds w text t file found o
+    → TextEnds w text t file found x → PrintAlike o x
+text_once w text t file found o x (unplanned e a) (unplanned f b) = alike o x (ap query_refused (none_once w text t e f a b))
+text_once w text t file found o x (unplanned e a) (planned p x' b ends) = absurd (none_not_some w text t p e a b)
+text_once w text t file found o x (planned p o' a ends) (unplanned f b) = absurd (none_not_some w text t p f b a)
+text_once w text t file found o x (planned p o' a ends) (planned r x' b ends') =
+    records_once (records_limit w) (size_in w r) file (EndsOver w r) (answered_once w r) found o x
+    (subst (λ (y : PlanOf w). PlanEnds w y file found o) (some_once w text t p r a b) ends) ends'
 
 -- ---- layouts
 
@@ -100,42 +114,42 @@ not_no_record t ElementRagged is denied = denied.1 is.even
 not_no_record t e is denied = denied
 
 -- nor is it one of which no records are
-admits : (q : Question) (t : Tree) (e : Refusal) → IsRecord t → IsSmall q t → IsNoRecordLayout q (Ok t) e → ⊥
-admits q t e is small (inl denied) = not_no_record t e is denied
-admits q t e is small (inr large) = large.1 small
+admits : (w : Wish) (t : Tree) (e : Refusal) → IsRecord t → IsSmall w t → IsNoRecordLayout w (Ok t) e → ⊥
+admits w t e is small (inl denied) = not_no_record t e is denied
+admits w t e is small (inr large) = large.1 small
 
-not_layout_refused : (q : Question) (bytes : List ℕ) (t : Tree) (e : Refusal) → IsRecordLayout q bytes t → IsLayoutRefused q bytes e → ⊥
-not_layout_refused q bytes t e is denied =
-    admits q t e is.records is.small (subst (λ (r : Result Tree Refusal). IsNoRecordLayout q r e) is.read denied.refused)
+not_layout_refused : (w : Wish) (bytes : List ℕ) (t : Tree) (e : Refusal) → IsRecordLayout w bytes t → IsLayoutRefused w bytes e → ⊥
+not_layout_refused w bytes t e is denied =
+    admits w t e is.records is.small (subst (λ (r : Result Tree Refusal). IsNoRecordLayout w r e) is.read denied.refused)
 
 -- a layout's file is refused for one reason
-no_layout_once : (q : Question) (r : Result Tree Refusal) (e f : Refusal) → IsNoRecordLayout q r e → IsNoRecordLayout q r f → e ≡ f
-no_layout_once q (Err x) e f a b = a ∙ sym b
-no_layout_once q (Ok t) e f (inl a) (inl b) = no_record_once t e f a b
-no_layout_once q (Ok t) e f (inl a) (inr b) = absurd (not_no_record t e b.0 a)
-no_layout_once q (Ok t) e f (inr a) (inl b) = absurd (not_no_record t f a.0 b)
-no_layout_once q (Ok t) e f (inr a) (inr b) = a.2 ∙ sym b.2
+no_layout_once : (w : Wish) (r : Result Tree Refusal) (e f : Refusal) → IsNoRecordLayout w r e → IsNoRecordLayout w r f → e ≡ f
+no_layout_once w (Err x) e f a b = a ∙ sym b
+no_layout_once w (Ok t) e f (inl a) (inl b) = no_record_once t e f a b
+no_layout_once w (Ok t) e f (inl a) (inr b) = absurd (not_no_record t e b.0 a)
+no_layout_once w (Ok t) e f (inr a) (inl b) = absurd (not_no_record t f a.0 b)
+no_layout_once w (Ok t) e f (inr a) (inr b) = a.2 ∙ sym b.2
 
-same_layouts : (q : Question) (bytes : List ℕ) (t u : Tree) → IsRecordLayout q bytes t → IsRecordLayout q bytes u → t ≡ u
-same_layouts q bytes t u a b =
+same_layouts : (w : Wish) (bytes : List ℕ) (t u : Tree) → IsRecordLayout w bytes t → IsRecordLayout w bytes u → t ≡ u
+same_layouts w bytes t u a b =
     let one = a.read in
     let two = b.read in
     cc
 
-ask_once : (q : Question) (threads : ℕ) (layout text file : List ℕ) (last first : Option (List ℕ)) (o x : Outcome) → AskEnds q threads layout text file last first o
-    → AskEnds q threads layout text file last first x → PrintAlike o x
-ask_once q threads layout text file last first o x no_layout no_layout = alike o x refl
-ask_once q threads layout text file last first o x (long_layout bytes a) (long_layout bytes' b) = alike o x refl
-ask_once q threads layout text file last first o x (long_layout bytes a) (bad_layout bytes' f b) = absurd (omega (arith, a, b.short))
-ask_once q threads layout text file last first o x (long_layout bytes a) (over_layout bytes' u x' b ends) = absurd (omega (arith, a, b.short))
-ask_once q threads layout text file last first o x (bad_layout bytes e a) (long_layout bytes' b) = absurd (omega (arith, b, a.short))
-ask_once q threads layout text file last first o x (bad_layout bytes e a) (bad_layout bytes' f b) =
-    alike o x (ap layout_refused (no_layout_once q (layout_of_json bytes) e f a.refused b.refused))
-ask_once q threads layout text file last first o x (bad_layout bytes e a) (over_layout bytes' u x' b ends) = absurd (not_layout_refused q bytes u e b a)
-ask_once q threads layout text file last first o x (over_layout bytes t o' a ends) (long_layout bytes' b) = absurd (omega (arith, b, a.short))
-ask_once q threads layout text file last first o x (over_layout bytes t o' a ends) (bad_layout bytes' f b) = absurd (not_layout_refused q bytes t f a b)
-ask_once q threads layout text file last first o x (over_layout bytes t o' a ends) (over_layout bytes' u x' b ends') =
-    text_once q threads text u file last o x (subst (λ (v : Tree). TextEnds q threads text v file last o) (same_layouts q bytes t u a b) ends) ends'
+ask_once : (w : Wish) (layout text file : List ℕ) (last first : Option (List ℕ)) (o x : Outcome) → AskEnds w layout text file last first o
+    → AskEnds w layout text file last first x → PrintAlike o x
+ask_once w layout text file last first o x no_layout no_layout = alike o x refl
+ask_once w layout text file last first o x (long_layout bytes a) (long_layout bytes' b) = alike o x refl
+ask_once w layout text file last first o x (long_layout bytes a) (bad_layout bytes' f b) = absurd (omega (arith, a, b.short))
+ask_once w layout text file last first o x (long_layout bytes a) (over_layout bytes' u x' b ends) = absurd (omega (arith, a, b.short))
+ask_once w layout text file last first o x (bad_layout bytes e a) (long_layout bytes' b) = absurd (omega (arith, b, a.short))
+ask_once w layout text file last first o x (bad_layout bytes e a) (bad_layout bytes' f b) =
+    alike o x (ap layout_refused (no_layout_once w (layout_of_json bytes) e f a.refused b.refused))
+ask_once w layout text file last first o x (bad_layout bytes e a) (over_layout bytes' u x' b ends) = absurd (not_layout_refused w bytes u e b a)
+ask_once w layout text file last first o x (over_layout bytes t o' a ends) (long_layout bytes' b) = absurd (omega (arith, b, a.short))
+ask_once w layout text file last first o x (over_layout bytes t o' a ends) (bad_layout bytes' f b) = absurd (not_layout_refused w bytes t f a b)
+ask_once w layout text file last first o x (over_layout bytes t o' a ends) (over_layout bytes' u x' b ends') =
+    text_once w text u file last o x (subst (λ (v : Tree). TextEnds w text v file last o) (same_layouts w bytes t u a b) ends) ends'
 
 -- ---- demonstrations
 
@@ -160,8 +174,8 @@ request_once : (request : Request) (contents : Contents) (o x : Outcome) → IsO
 request_once (Sum size at kind file) contents o x one a b =
     records_once record_file_limit size file (IsSummed size at kind) (summed_once size at kind) (file_of contents file) o x a b
 request_once (Layout text file) contents o x one a b = alike o x (a ∙ sym b)
-request_once (Ask q threads layout text file) contents o x one a b =
-    ask_once q threads layout text file (file_of contents file) (file_of contents layout) o x a b
+request_once (Ask w layout text file) contents o x one a b =
+    ask_once w layout text file (file_of contents file) (file_of contents layout) o x a b
 request_once (Demo threads count) contents o x one a b = demo_once count o x a b
 request_once (Run file) contents o x one a b = absurd one
 

@@ -7,8 +7,8 @@ use Rattle.fm_layout.specs.Tree.{Tree}
 use Rattle.fm_base.specs.declared.refusal.Refusal.{Refusal, TheVariants.{Memory}}
 use Rattle.fm_top.specs.{Ending.{shown}, Found.{IsFound, OfFound}}
 use Rattle.fm_top.specs.Outcome.{Outcome, RecordsEnd, uneven, even, ragged, layout_of_file, too_long, layout_refused, query_refused, layout_file_limit}
-use Rattle.fm_top.specs.{Queries.{IsLayoutRefused, IsUnplanned, TextEnds, unplanned, AskEnds, bad_layout}, Run.{HasOutcome}, Words.{Ask}}
-use Rattle.fm_top.specs.declared.{outcome.ending.Ending.{Ending}, command.{layout_text.LayoutText.{LayoutText}, question.Question.{Question}}}
+use Rattle.fm_top.specs.{Queries.{ComesToNone, IsLayoutRefused, TextEnds, unplanned, AskEnds, bad_layout}, Run.{HasOutcome}, Words.{Ask}}
+use Rattle.fm_top.specs.declared.{outcome.ending.Ending.{Ending}, command.{layout_text.LayoutText.{LayoutText}, wish.Wish.{Wish}}}
 use Rattle.fm_top_load.specs.Whole.{IsWhole, IsOver}
 
 -- ---- what is found
@@ -41,32 +41,32 @@ long_layout_ends text bytes long =
     let test : nat_lt layout_file_limit (length bytes) ≡ true = (Decides-ltb layout_file_limit (length bytes)).1 long in
     rw test refl
 
--- ---- queries and tallies
+-- ---- what is asked of records
 
-module _ (q : Question) (threads : ℕ) (layout text file : List ℕ) (told : Option Contents) (o : Outcome) where
+module _ (w : Wish) (layout text file : List ℕ) (told : Option Contents) (o : Outcome) where
   -- the layout's file was read, and then the record file, of which the files still tell the same
   pub ask-whole : {bytes given : List ℕ} {later : Option Contents} → IsWhole told layout bytes → given ≡ bytes → later ≡ told
-      → OfFound later file (λ found. AskEnds q threads layout text file found (Some given) o) → HasOutcome (Ask q threads layout text file) told o
+      → OfFound later file (λ found. AskEnds w layout text file found (Some given) o) → HasOutcome (Ask w layout text file) told o
   ask-whole {bytes} {given} {later} whole same held ends =
-      let of_bytes = subst (λ (b : List ℕ). OfFound later file (λ found. AskEnds q threads layout text file found (Some b) o)) same ends in
-      (Some bytes, whole, subst (λ (x : Option Contents). OfFound x file (λ found. AskEnds q threads layout text file found (Some bytes) o)) held of_bytes)
+      let of_bytes = subst (λ (b : List ℕ). OfFound later file (λ found. AskEnds w layout text file found (Some b) o)) same ends in
+      (Some bytes, whole, subst (λ (x : Option Contents). OfFound x file (λ found. AskEnds w layout text file found (Some bytes) o)) held of_bytes)
 
 -- what an outcome of all that may be found is, is one of what is found
 pub some_end : (told : Option Contents) (name : List ℕ) (P : Option (List ℕ) → Type 0) → ((found : Option (List ℕ)) → P found) → OfFound told name P
 some_end told name P each = let found = some_found told name in (found.0, found.1, each found.0)
 
 -- whatever is found of the record file
-module _ (q : Question) (threads : ℕ) (text file : List ℕ) (found : Option (List ℕ)) (o : Outcome) where
+module _ (w : Wish) (text file : List ℕ) (found : Option (List ℕ)) (o : Outcome) where
   -- the layout is refused
-  pub refused-layout : (layout bytes : List ℕ) (e : Refusal) → IsLayoutRefused q bytes e ⊎ (e ≡ Memory) → e ≢ Memory → o ≡ layout_refused e
-      → AskEnds q threads layout text file found (Some bytes) o
+  pub refused-layout : (layout bytes : List ℕ) (e : Refusal) → IsLayoutRefused w bytes e ⊎ (e ≡ Memory) → e ≢ Memory → o ≡ layout_refused e
+      → AskEnds w layout text file found (Some bytes) o
   refused-layout layout bytes e (inr memory) other is = absurd (other memory)
   refused-layout layout bytes e (inl denied) other is =
-      subst (λ (x : Outcome). AskEnds q threads layout text file found (Some bytes) x) (sym is) (bad_layout bytes e denied)
+      subst (λ (x : Outcome). AskEnds w layout text file found (Some bytes) x) (sym is) (bad_layout bytes e denied)
 
   -- the text is refused
-  pub refused-text : (t : Tree) (e : Refusal) → (e ≢ Memory → IsUnplanned q text t e) → e ≢ Memory → o ≡ query_refused e → TextEnds q threads text t file found o
-  refused-text t e denied other is = subst (λ (x : Outcome). TextEnds q threads text t file found x) (sym is) (unplanned e (denied other))
+  pub refused-text : (t : Tree) (e : Refusal) → (e ≢ Memory → ComesToNone w text t e) → e ≢ Memory → o ≡ query_refused e → TextEnds w text t file found o
+  refused-text t e denied other is = subst (λ (x : Outcome). TextEnds w text t file found x) (sym is) (unplanned e (denied other))
 
 -- the rest of so many bytes behind the last whole record was taken
 module _ (limit size : ℕ) (bytes : List ℕ) (Answers : List ℕ → Outcome → Type 0) {n rest : ℕ} (short : length bytes ≤ limit)

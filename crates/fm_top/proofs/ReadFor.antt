@@ -1,9 +1,8 @@
 -- What is read for a request.
 use Rattle.std.proofs.{Common.{◌≡◌, ℕ, List, [], ◌++◌, Option, None, Some, refl, sym, subst}, lemmas.List.{append-nil}}
 use Rattle.fm_io.{specs.{Files.{Contents}, Reads.{Read, ReadsOn, Next, Ended}}, proofs.Followed.{ReadsOn-none, ReadsOn-append}}
-use Rattle.fm_records_query.specs.Plan.{Plan}
 use Rattle.fm_top.specs.{Causes.{IsAsked}, Outcome.{layout_file_limit}, Reading.{ReadsIf, AreReadsOf, first_limit, last_limit, ReadsFor}}
-use Rattle.fm_top.specs.{Queries.{records_limit}, Words.{Request, Ask, first_file, last_file}, declared.command.question.Question.{Question}}
+use Rattle.fm_top.specs.{Queries.{PlanOf, records_limit}, Words.{Request, Ask, first_file, last_file}, declared.command.wish.Wish.{Wish}}
 use Rattle.fm_top_load.specs.{Reading.{ReadsUpTo}, Whole.{IsWhole}}
 
 none_of : (name : Option (List ℕ)) (limit : ℕ) → AreReadsOf name limit []
@@ -49,14 +48,14 @@ first_reads request told {old} {new} is reads = record {
 }
 
 -- both files were read, the second for what was found in the first
-pub ask_both : (q : Question) (threads : ℕ) (layout text file : List ℕ) (told : Option Contents) {bytes given : List ℕ} {old mid new : Option (List Read)}
+pub ask_both : (w : Wish) (layout text file : List ℕ) (told : Option Contents) {bytes given : List ℕ} {old mid new : Option (List Read)}
     → IsWhole told layout bytes → given ≡ bytes → ReadsUpTo old mid layout layout_file_limit (λ next. next ≡ Ended)
-    → ReadsIf mid new file (records_limit q) ((p : Plan) × IsAsked q (Some given) text p) → ReadsFor (Ask q threads layout text file) told old new
-ask_both q threads layout text file told {bytes} {given} {old} {mid} {new} whole same first last = record {
+    → ReadsIf mid new file (records_limit w) ((p : PlanOf w) × IsAsked w (Some given) text p) → ReadsFor (Ask w layout text file) told old new
+ask_both w layout text file told {bytes} {given} {old} {mid} {new} whole same first last = record {
   first = first.reads;
   last = last.reads;
   noted = ReadsOn-append old mid new first.reads last.reads first.noted last.noted;
   first_is = first.follow;
   last_is = last.follow;
-  in_place = λ some. (first.goes, (Some bytes, whole, subst (λ (b : List ℕ). (p : Plan) × IsAsked q (Some b) text p) same (last.needed some)));
+  in_place = λ some. (first.goes, (Some bytes, whole, subst (λ (b : List ℕ). (p : PlanOf w) × IsAsked w (Some b) text p) same (last.needed some)));
 }

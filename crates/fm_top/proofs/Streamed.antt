@@ -10,7 +10,7 @@ use Rattle.fm_top_stream.specs.{Chunks.{stream_file_limit}, Faults.{TellsStream}
 use Rattle.fm_top_stream.specs.declared.stream_fault.StreamFault.TheVariants.{Missing, Ragged, Read, TooLong}
 use Rattle.fm_top.specs.{Ending.{TellsMisses, shown}, Ends.{EndsFile, ShowsFiles}, Found.{IsFound}}
 use Rattle.fm_top.specs.{Outcome.{Outcome, answered_by_pool, even, missing, no_file, ragged, too_long, too_many, uneven}, Queries.{PlanEnds}}
-use Rattle.fm_top.{specs.declared.{command.question.Question.TheVariants.{Stream}, outcome.ending.Ending.{Ending}}, proofs.Outcomes.{long_found}}
+use Rattle.fm_top.{specs.declared.{command.{question.Question.TheVariants.{Stream}, wish.Wish.TheVariants.{Answer}}, outcome.ending.Ending.{Ending}}, proofs.Outcomes.{long_found}}
 use Rattle.fm_top.proofs.ReadFor.{read_for}
 use Rattle.fm_top.specs.declared.outcome.status.Status.TheVariants as status
 
@@ -33,12 +33,12 @@ tells_as {old} {new} {name} {p} is tells = subst (λ (x : StreamFault). TellsStr
 
 -- it ends so for the file of this name
 abbrev Ends : FilesView → FilesView → List ℕ → Plan → (threads : ℕ) → Result Ending Fault → Type 0
-Ends old new name p threads result = EndsFile name stream_file_limit ⊤ (PlanEnds Stream threads p name) old new result
+Ends old new name p threads result = EndsFile name stream_file_limit ⊤ (PlanEnds (Answer Stream threads) p name) old new result
 
 module _ {old new : FilesView} {name : List ℕ} {p : Plan} {threads : ℕ} (reads : ReadsSome old.reads new.reads name stream_file_limit) where
   -- An end that is no miss.
   ends_found : {why : Option StreamFault} {ending : Ending} (found : Option (List ℕ)) → Leaves (why ≡ Some Read) (why ≡ Some Missing) old new
-      → ¬ (why ≡ Some Read) → ¬ (why ≡ Some Missing) → IsFound old.holds name found → PlanEnds Stream threads p name found (shown ending)
+      → ¬ (why ≡ Some Read) → ¬ (why ≡ Some Missing) → IsFound old.holds name found → PlanEnds (Answer Stream threads) p name found (shown ending)
       → (ending.status ≡ status.Missing → ⊥) → Ends old new name p threads (Ok ending)
   ends_found found left fine there is ends other = record {
     outcome = (found, is, ends);
@@ -64,7 +64,7 @@ module _ {old new : FilesView} {name : List ℕ} {p : Plan} {threads : ℕ} (rea
       let r = tells.ragged rest refl in
       let some = r.some in
       ends_found (Some r.bytes) tells.left (λ e. absurd (cc)) (λ e. absurd (cc)) r.is_file
-      (subst (λ (o : Outcome). PlanEnds Stream threads p name (Some r.bytes) o) (sym (is ∙ ap ragged r.is))
+      (subst (λ (o : Outcome). PlanEnds (Answer Stream threads) p name (Some r.bytes) o) (sym (is ∙ ap ragged r.is))
       (uneven r.bytes r.short (λ none. absurd (omega (arith, some, r.is, none)))))
       (λ e. let same : status.Ragged ≡ status.Missing = sym (ap (λ (o : Outcome). o.status) is) ∙ e in absurd (cc))
 
@@ -73,13 +73,13 @@ module _ {old new : FilesView} {name : List ℕ} {p : Plan} {threads : ℕ} (rea
   ends_long tells {ending} is =
       let found = long_found old.holds name stream_file_limit (tells.too_long refl) in
       ends_found (Some found.0) tells.left (λ e. absurd (cc)) (λ e. absurd (cc)) found.1
-      (subst (λ (o : Outcome). PlanEnds Stream threads p name (Some found.0) o) (sym is) (too_many found.0 found.2))
+      (subst (λ (o : Outcome). PlanEnds (Answer Stream threads) p name (Some found.0) o) (sym is) (too_many found.0 found.2))
       (λ e. let same : status.TooLong ≡ status.Missing = sym (ap (λ (o : Outcome). o.status) is) ∙ e in absurd (cc))
 
   -- There is none.
   pub ends_missing : TellsStream old new name p (Some Missing) → {ending : Ending} → shown ending ≡ missing name → Ends old new name p threads (Ok ending)
   ends_missing tells {ending} is = record {
-    outcome = (None, tells.absent refl, subst (λ (o : Outcome). PlanEnds Stream threads p name None o) (sym is) no_file);
+    outcome = (None, tells.absent refl, subst (λ (o : Outcome). PlanEnds (Answer Stream threads) p name None o) (sym is) no_file);
     reads = read_for reads tt;
     files = shows_by tells.left (record {
       rose = λ e. tells.left.misses.rose refl;

@@ -5,6 +5,6 @@ use Rattle.fm_top.specs.declared.command.Subcommand.TheVariants as command
 abbrev pub request_of : Subcommand → Request
 request_of (command.Sum words) = Sum words.size words.at words.kind words.file.now
 request_of (command.Layout words) = Layout words.text words.file.now
-request_of (command.Ask words) = Ask words.question words.threads words.layout.now words.text.now words.file.now
+request_of (command.Ask words) = Ask words.wish words.layout.now words.text.now words.file.now
 request_of (command.Demo words) = Demo words.threads words.count
 request_of (command.Run words) = Run words.file.now

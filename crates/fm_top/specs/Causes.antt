@@ -4,12 +4,11 @@ use Rattle.fm_base.specs.declared.refusal.Refusal.{Refusal}
 use Rattle.fm_io.specs.Files.{Contents}
 use Rattle.fm_layout.specs.Tree.{Tree}
 use Rattle.fm_ljson.specs.Answer.{layout_of_json}
-use Rattle.fm_records_query.specs.Plan.{Plan}
 use Rattle.fm_script_text.specs.Scripts.{IsRefused as IsScriptRefused}
 use Rattle.fm_top_load.specs.Limits.{record_file_limit}
 use Rattle.fm_top.specs.{Found.{file_under}, Outcome.{layout_file_limit, script_file_limit}}
-use Rattle.fm_top.specs.Queries.{IsRecordLayout, IsLayoutRefused, IsPlanned, IsUnplanned, records_limit}
-use Rattle.fm_top.specs.{Words.{Request, Sum, Layout, Ask, Demo, Run, first_file, last_file}, declared.command.question.Question.{Question}}
+use Rattle.fm_top.specs.Queries.{IsRecordLayout, IsLayoutRefused, PlanOf, size_in, ComesTo, ComesToNone, records_limit}
+use Rattle.fm_top.specs.{Words.{Request, Sum, Layout, Ask, Demo, Run, first_file, last_file}, declared.command.wish.Wish.{Wish}}
 
 -- it holds of what these files have under the request's names
 abbrev pub OverFiles : (Request → Option (List ℕ) → Option (List ℕ) → Type 0) → Request → Contents → Type 0
@@ -20,12 +19,12 @@ abbrev pub IsRefused : Result Tree Refusal → Type 0
 IsRefused r = (refusal : Refusal) × (r ≡ Err refusal)
 
 -- over records of the layout that was found the text comes to this plan
-abbrev pub IsAsked : Question → Option (List ℕ) → List ℕ → Plan → Type 0
-IsAsked q found text p = IsSomeAnd found (λ bytes. (t : Tree) × IsRecordLayout q bytes t × IsPlanned q text t p)
+abbrev pub IsAsked : (w : Wish) → Option (List ℕ) → List ℕ → PlanOf w → Type 0
+IsAsked w found text p = IsSomeAnd found (λ bytes. (t : Tree) × IsRecordLayout w bytes t × ComesTo w text t p)
 
 -- a file is missing
 abbrev pub LacksFile : Request → Option (List ℕ) → Option (List ℕ) → Type 0
-LacksFile (Ask q threads layout text file) first last = (first ≡ None) ⊎ ((p : Plan) × IsAsked q first text p × (last ≡ None))
+LacksFile (Ask w layout text file) first last = (first ≡ None) ⊎ ((p : PlanOf w) × IsAsked w first text p × (last ≡ None))
 LacksFile (Demo threads count) first last = ⊥
 LacksFile request first last = first ≡ None
 
@@ -37,8 +36,8 @@ IsLong found limit = IsSomeAnd found (λ bytes. limit < length bytes)
 abbrev pub HasLongFile : Request → Option (List ℕ) → Option (List ℕ) → Type 0
 HasLongFile (Sum size at kind file) first last = IsLong first record_file_limit
 HasLongFile (Layout text file) first last = IsLong first layout_file_limit
-HasLongFile (Ask q threads layout text file) first last =
-    IsLong first layout_file_limit ⊎ ((p : Plan) × IsAsked q first text p × IsLong last (records_limit q))
+HasLongFile (Ask w layout text file) first last =
+    IsLong first layout_file_limit ⊎ ((p : PlanOf w) × IsAsked w first text p × IsLong last (records_limit w))
 HasLongFile (Demo threads count) first last = ⊥
 HasLongFile (Run file) first last = IsLong first script_file_limit
 
@@ -46,13 +45,13 @@ HasLongFile (Run file) first last = IsLong first script_file_limit
 abbrev pub HasRefusedLayout : Request → Option (List ℕ) → Option (List ℕ) → Type 0
 HasRefusedLayout (Layout text file) first last =
     IsSomeAnd first (λ bytes. (length bytes ≤ layout_file_limit) × IsRefused (layout_of_json bytes))
-HasRefusedLayout (Ask q threads layout text file) first last = IsSomeAnd first (λ bytes. (e : Refusal) × IsLayoutRefused q bytes e)
+HasRefusedLayout (Ask w layout text file) first last = IsSomeAnd first (λ bytes. (e : Refusal) × IsLayoutRefused w bytes e)
 HasRefusedLayout request first last = ⊥
 
 -- the query or the path is refused
 abbrev pub HasRefusedQuery : Request → Option (List ℕ) → Option (List ℕ) → Type 0
-HasRefusedQuery (Ask q threads layout text file) first last =
-    IsSomeAnd first (λ bytes. (t : Tree) × IsRecordLayout q bytes t × (e : Refusal) × IsUnplanned q text t e)
+HasRefusedQuery (Ask w layout text file) first last =
+    IsSomeAnd first (λ bytes. (t : Tree) × IsRecordLayout w bytes t × (e : Refusal) × ComesToNone w text t e)
 HasRefusedQuery request first last = ⊥
 
 -- what was found is within the limit, and its length is no multiple of the size
@@ -62,7 +61,7 @@ IsUneven found limit size = IsSomeAnd found (λ bytes. (length bytes ≤ limit) 
 -- the record file is no whole number of records
 abbrev pub HasRaggedFile : Request → Option (List ℕ) → Option (List ℕ) → Type 0
 HasRaggedFile (Sum size at kind file) first last = IsUneven first record_file_limit size
-HasRaggedFile (Ask q threads layout text file) first last = (p : Plan) × IsAsked q first text p × IsUneven last (records_limit q) p.size
+HasRaggedFile (Ask w layout text file) first last = (p : PlanOf w) × IsAsked w first text p × IsUneven last (records_limit w) (size_in w p)
 HasRaggedFile request first last = ⊥
 
 -- the script is refused

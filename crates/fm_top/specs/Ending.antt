@@ -3,7 +3,7 @@ use Rattle.std.specs.Prelude.{◌≡◌, ◌≢◌, ◌↔◌, ℕ, List, ◌++�
 use Rattle.fm_io.specs.{Count.{Rose}, declared.fault.Fault.{Fault, TheVariants.{Failed}}}
 use Rattle.fm_records.specs.Texts.{answer_text}
 use Rattle.fm_top.specs.{Outcome.{Outcome, missing, too_long}, declared.outcome.{answered.Answered.{Answered}, ending.Ending.{Ending}, status.Status.{Status}}}
-use Rattle.fm_top.specs.declared.outcome.{status.Status.TheVariants.{Missing}, output.Output.{Output, TheVariants.{Whole, Bytes, NoFile, Answer, Both}}}
+use Rattle.fm_top.specs.declared.outcome.{status.Status.TheVariants.{Missing}, output.Output.{Output, TheVariants.{Whole, Bytes, NoFile, Answer, Both, Texts}}}
 use Rattle.fm_top_load.specs.declared.load_fault.LoadFault.{LoadFault}
 use Rattle.fm_top_load.specs.declared.load_fault.LoadFault.TheVariants as fault
 
@@ -16,6 +16,7 @@ text_of (Bytes bytes) = bytes.items
 text_of (NoFile file) = (missing file.now).text
 text_of (Answer answered) = answered_text answered
 text_of (Both first second) = answered_text first ++ answered_text second
+text_of (Texts lines) = lines
 
 abbrev pub shown : Ending → Outcome
 shown ending = record { status = ending.status; text = text_of ending.text; left = ending.left }

@@ -2,8 +2,7 @@
 use Rattle.std.specs.Prelude.{◌≡◌, ◌≢◌, ℕ, ◌+◌, List, [], ◌++◌, Option, None, Some}
 use Rattle.fm_io.specs.{Files.{Contents}, Reads.{Read, ReadsOn, At, Ended, Follow, next_after}}
 use Rattle.fm_top_load.specs.{Limits.{record_file_limit}, Reading.{piece_limit}}
-use Rattle.fm_records_query.specs.Plan.{Plan}
-use Rattle.fm_top.specs.{Causes.{IsAsked}, Found.{OfFile}, Outcome.{layout_file_limit, script_file_limit}, Queries.{records_limit}}
+use Rattle.fm_top.specs.{Causes.{IsAsked}, Found.{OfFile}, Outcome.{layout_file_limit, script_file_limit}, Queries.{PlanOf, records_limit}}
 use Rattle.fm_top.specs.Words.{Request, Sum, Layout, Ask, Demo, Run, first_file, last_file}
 
 -- A file was read so, if at all; where it was, this holds.
@@ -22,18 +21,18 @@ AreReadsOf (Some name) limit reads = Follow name piece_limit (limit + 1) (At 0) 
 abbrev pub first_limit : Request → ℕ
 first_limit (Sum size at kind file) = record_file_limit
 first_limit (Layout text file) = layout_file_limit
-first_limit (Ask q threads layout text file) = layout_file_limit
+first_limit (Ask wish layout text file) = layout_file_limit
 first_limit (Demo threads count) = 0
 first_limit (Run file) = script_file_limit
 
 -- the most bytes of the file that is read behind it
 abbrev pub last_limit : Request → ℕ
-last_limit (Ask q threads layout text file) = records_limit q
+last_limit (Ask wish layout text file) = records_limit wish
 last_limit request = record_file_limit
 
 -- for this that was found first, a second file is read: the layout and the text stand
 abbrev pub NeedsLast : Request → Option (List ℕ) → Type 0
-NeedsLast (Ask q threads layout text file) first = (p : Plan) × IsAsked q first text p
+NeedsLast (Ask wish layout text file) first = (p : PlanOf wish) × IsAsked wish first text p
 NeedsLast request first = ⊥
 
 -- What was read for a request: its first file, and behind that its last one, which is read only where the first was read to its end and needs it.

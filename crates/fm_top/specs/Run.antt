@@ -25,7 +25,7 @@ code_of ScriptRefused = 10
 abbrev pub EndsBy : Request → Option (List ℕ) → Option (List ℕ) → Outcome → Type 0
 EndsBy (Sum size at kind file) first last o = SumEnds size at kind file first o
 EndsBy (Layout text file) first last o = o ≡ layout_outcome text file first
-EndsBy (Ask q threads layout text file) first last o = AskEnds q threads layout text file last first o
+EndsBy (Ask wish layout text file) first last o = AskEnds wish layout text file last first o
 EndsBy (Demo threads count) first last o = DemoEnds count o
 EndsBy (Run file) first last o = ScriptEnds file first o
 

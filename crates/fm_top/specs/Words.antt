@@ -2,7 +2,7 @@
 use Rattle.std.specs.{Prelude.{◌≡◌, ℕ, ◌+◌, ◌%◌, ◌≢◌, ◌<◌, ◌≤◌, List, [], ◌∷◌, codes, slice_index, Option, None, Some}, Fmt.{decimal}}
 use Rattle.fm_lanes.specs.{declared.value_kind.ValueKind.{ValueKind}, Kind.{width_of}, Named.{kind_text}}
 use Rattle.fm_top_options.specs.Options.{Say}
-use Rattle.fm_top.specs.declared.command.{layout_text.LayoutText.{LayoutText}, question.Question.{Question}}
+use Rattle.fm_top.specs.declared.command.{layout_text.LayoutText.{LayoutText}, question.Question.{Question}, wish.Wish.{Wish, TheVariants.{Answer, Texts}}}
 use Rattle.fm_top.specs.declared.command.layout_text.LayoutText.TheVariants as layout_text
 use Rattle.fm_top.specs.declared.command.question.Question.TheVariants as question
 
@@ -12,8 +12,8 @@ pub data Request : Type 0 where
   Sum : (size at : ℕ) (kind : ValueKind) (file : List ℕ) → Request
   -- this text of the layout that the file has
   Layout : (text : LayoutText) (file : List ℕ) → Request
-  -- what this text asks of the records of the file, by the layout that its file has, on so many threads
-  Ask : (question : Question) (threads : ℕ) (layout text file : List ℕ) → Request
+  -- what this text asks of the records of the file, by the layout that its file has
+  Ask : (wish : Wish) (layout text file : List ℕ) → Request
   -- what two queries answer over so many records that are made, on so many threads
   Demo : (threads count : ℕ) → Request
   -- what the script of this file does
@@ -23,13 +23,13 @@ pub data Request : Type 0 where
 abbrev pub first_file : Request → Option (List ℕ)
 first_file (Sum size at kind file) = Some file
 first_file (Layout text file) = Some file
-first_file (Ask question threads layout text file) = Some layout
+first_file (Ask wish layout text file) = Some layout
 first_file (Demo threads count) = None
 first_file (Run file) = Some file
 
 -- the name of the file that is read behind it, if a second one is read
 abbrev pub last_file : Request → Option (List ℕ)
-last_file (Ask question threads layout text file) = Some file
+last_file (Ask wish layout text file) = Some file
 last_file request = None
 
 -- a value of this kind stands at byte `at` of each record of `size` bytes, aligned to its width in each record
@@ -45,6 +45,9 @@ two a b = a ∷ b ∷ []
 
 abbrev pub three : List ℕ → List ℕ → List ℕ → List (List ℕ)
 three a b c = a ∷ b ∷ c ∷ []
+
+abbrev pub four : List ℕ → List ℕ → List ℕ → List ℕ → List (List ℕ)
+four a b c d = a ∷ b ∷ c ∷ d ∷ []
 
 abbrev pub five : List ℕ → List ℕ → List ℕ → List ℕ → List ℕ → List (List ℕ)
 five a b c d e = a ∷ b ∷ c ∷ d ∷ e ∷ []
@@ -105,9 +108,16 @@ question_word question.Query = codes "query"
 question_word question.Stream = codes "stream"
 question_word question.Tally = codes "tally"
 
--- `query [--threads N] LAYOUT QUERY FILE`, `stream` with the same words, or `tally [--threads N] LAYOUT PATH FILE`
-abbrev pub IsAsk : List (List ℕ) → Question → ℕ → List ℕ → List ℕ → List ℕ → Type 0
-IsAsk words q threads layout text file = IsThreaded words (question_word q) threads (three layout text file)
+-- `texts LAYOUT PATH FILE`
+pub record IsTexts (words : List (List ℕ)) (layout path file : List ℕ) : Type 0 where
+  pub spelled : words ≡ four (codes "texts") layout path file
+  pub layout_word : IsFileWord layout
+  pub file_word : IsFileWord file
+
+-- `query [--threads N] LAYOUT QUERY FILE`, `stream` with the same words, or `tally [--threads N] LAYOUT PATH FILE`; or `texts`
+abbrev pub IsAsk : List (List ℕ) → Wish → List ℕ → List ℕ → List ℕ → Type 0
+IsAsk words (Answer q threads) layout text file = IsThreaded words (question_word q) threads (three layout text file)
+IsAsk words Texts layout text file = IsTexts words layout text file
 
 -- so many records may be made
 abbrev pub IsCount : ℕ → Type 0
@@ -122,14 +132,19 @@ pub record IsDemo (words : List (List ℕ)) (threads count : ℕ) : Type 0 where
 abbrev pub Asks : List (List ℕ) → Request → Type 0
 Asks words (Sum size at kind file) = IsSum words size at kind file
 Asks words (Layout text file) = IsLayout words text file
-Asks words (Ask q threads layout text file) = IsAsk words q threads layout text file
+Asks words (Ask wish layout text file) = IsAsk words wish layout text file
 Asks words (Demo threads count) = IsDemo words threads count
 Asks words (Run file) = IsRun words file
+
+-- what some words ask of records
+abbrev pub CanBeWished : Wish → Type 0
+CanBeWished (Answer q threads) = AreThreads threads
+CanBeWished Texts = Unit {0}
 
 -- what some words ask for
 abbrev pub CanBeAsked : Request → Type 0
 CanBeAsked (Sum size at kind file) = HasValue size at kind
-CanBeAsked (Ask q threads layout text file) = AreThreads threads
+CanBeAsked (Ask wish layout text file) = CanBeWished wish
 CanBeAsked (Demo threads count) = AreThreads threads × IsCount count
 CanBeAsked request = Unit {0}
 

@@ -14,14 +14,17 @@ mod number;
 mod question;
 mod script;
 mod sum;
+mod texts;
 mod threaded;
 mod threads;
+mod wish;
 
 use crate::command::ask::ask_words;
 use crate::command::demo::demo_words;
 use crate::command::layout::layout_words;
 use crate::command::script::script_words;
 use crate::command::sum::sum_words;
+use crate::command::texts::texts_words;
 pub use ask::AskCommand;
 pub use demo::DemoCommand;
 pub use layout::LayoutCommand;
@@ -30,6 +33,7 @@ pub use question::Question;
 pub use script::RunCommand;
 use std::alloc::{AllocError, Global};
 pub use sum::SumCommand;
+pub use wish::Wish;
 
 /// What the words ask for.
 #[derive(Clone, Copy)]
@@ -61,6 +65,9 @@ pub fn command_of<'a>(
     }
     if let Some(sum) = sum_words(words) {
         return Ok(Some(Subcommand::Sum(sum)));
+    }
+    if let Some(ask) = texts_words(words) {
+        return Ok(Some(Subcommand::Ask(ask)));
     }
     if let Some(ask) = ask_words(alloc, words, "query", Question::Query)? {
         return Ok(Some(Subcommand::Ask(ask)));

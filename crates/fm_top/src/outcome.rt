@@ -24,6 +24,7 @@ mod stream;
 mod sum;
 mod sum_values;
 mod tally;
+mod texts;
 mod unloaded;
 mod wanting;
 

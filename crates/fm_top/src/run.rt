@@ -4,7 +4,7 @@ ghost use Rattle.fm_top.specs.Ran.{Ran};
 ghost use Rattle.fm_top.specs.Run.{traces_of};
 ghost use Rattle.fm_top.specs.Words.{AreFaulty};
 
-use crate::outcome::{Ending, Kept, Status, ending_of};
+use crate::outcome::{Kept, Status, ending_of};
 use fm_io::{Fault, Files, Gate, Sink};
 use std::alloc::{AllocGlobal, Global};
 use std::random::RandomSource;
@@ -46,8 +46,7 @@ where
     *kept = Kept::new();
     match ending_of(rt, alloc, words, files, gate) {
         Ok(ending) => {
-            let status = ending.print(alloc, out);
-            let Ending { left, .. } = ending;
+            let (status, left) = ending.print(alloc, out);
             *kept = Kept::of(left);
             status.code()
         }

@@ -1,17 +1,18 @@
 ghost use Rattle.std.specs.Prelude.{◌≡◌, IfOk, IfSome, IfNone, List, ℕ};
 ghost use Rattle.fm_top_options.specs.Options.{lent, texts};
 ghost use Rattle.fm_top.specs.Words.{IsAsk, question_word, three};
+ghost use Rattle.fm_top.specs.declared.command.wish.Wish.TheVariants as wish;
 
 use crate::command::question::Question;
 use crate::command::threaded::{Threaded, threaded_words};
+use crate::command::wish::Wish;
 use std::alloc::{AllocError, Global};
 
-/// `query [--threads N] LAYOUT QUERY FILE`, `stream` with the same words, or `tally [--threads N] LAYOUT PATH FILE`: what
-/// this text asks of the records of the file, by the layout that its file has.
+/// `query [--threads N] LAYOUT QUERY FILE`, `stream` with the same words, `tally [--threads N] LAYOUT PATH FILE`, or
+/// `texts LAYOUT PATH FILE`: what this text asks of the records of the file, by the layout that its file has.
 #[derive(Clone, Copy)]
 pub struct AskCommand<'a> {
-    pub question: Question,
-    pub threads: u64,
+    pub wish: Wish,
     pub layout: &'a str,
     pub text: &'a str,
     pub file: &'a str,
@@ -26,9 +27,9 @@ pub fn ask_words<'a>(
 ) -> Result<Option<AskCommand<'a>>, AllocError>
     requires { command.now ≡ question_word question }
     ensures found { IfOk result (λ found. IfSome found (λ ask.
-        IsAsk (texts words.now) ask.question ask.threads ask.layout.now ask.text.now ask.file.now)) }
+        IsAsk (texts words.now) ask.wish ask.layout.now ask.text.now ask.file.now)) }
     ensures none { IfOk result (λ found. IfNone found ((threads : ℕ) (layout text file : List ℕ) →
-        IsAsk (texts words.now) question threads layout text file → ⊥)) }
+        IsAsk (texts words.now) (wish.Answer question threads) layout text file → ⊥)) }
 {
     match threaded_words(alloc, words, command)? {
         Some(said) => Ok(ask_by(question, &said)),
@@ -39,7 +40,7 @@ pub fn ask_words<'a>(
 /// The same of what the words say.
 fn ask_by<'a>(question: Question, said: &Threaded<'a>) -> Option<AskCommand<'a>>
     ensures found { IfSome result (λ ask.
-        (ask.question ≡ question) × (ask.threads ≡ said.now.threads)
+        (ask.wish ≡ wish.Answer question said.now.threads)
         × (lent said.now.words.items ≡ three ask.layout.now ask.text.now ask.file.now)) }
     ensures none { IfNone result ((layout text file : List ℕ) →
         lent said.now.words.items ≡ three layout text file → ⊥) }
@@ -48,8 +49,7 @@ fn ask_by<'a>(question: Question, said: &Threaded<'a>) -> Option<AskCommand<'a>>
         return None;
     };
     Some(AskCommand {
-        question,
-        threads: said.threads,
+        wish: Wish::Answer(question, said.threads),
         layout: *layout,
         text: *text,
         file: *file,

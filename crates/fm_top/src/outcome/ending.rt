@@ -134,19 +134,21 @@ impl<'a> Ending<'a> {
         Ok(Ending::answered(Output::Whole(text)))
     }
 
-    /// Writes the text, and answers the status that this leaves.
-    pub fn print<O: Sink>(&self, alloc: Global, out: &mut O) -> Status
-        ensures prints { Prints (shown self.now) (O.view out.old)
-            (O.view out.new) result }
-        ensures missing { result ≡ Status.Missing → self.now.status ≡ Status.Missing }
-        ensures quiet { result ≢ Status.Unwritten → (O.view out.new).faults ≡
+    /// Writes the text, and answers the status that this comes to, and what is left.
+    pub fn print<O: Sink>(self, alloc: Global, out: &mut O) -> (Status, Left)
+        ensures prints { Prints (shown self.entry) (O.view out.old)
+            (O.view out.new) result.0 }
+        ensures left { result.1 ≡ self.entry.left }
+        ensures missing { result.0 ≡ Status.Missing → self.entry.status ≡ Status.Missing }
+        ensures quiet { result.0 ≢ Status.Unwritten → (O.view out.new).faults ≡
             (O.view out.old).faults }
         ensures faults_stay { (O.view out.old).faults ≤ (O.view out.new).faults }
     {
-        match self.text.write(alloc, out) {
-            Ok(()) => self.status,
-            Err(Fault::Failed) => Status::Unwritten,
-            Err(Fault::Memory) => Status::NoMemory,
+        let Ending { status, text, left } = self;
+        match text.write(alloc, out) {
+            Ok(()) => (status, left),
+            Err(Fault::Failed) => (Status::Unwritten, left),
+            Err(Fault::Memory) => (Status::NoMemory, left),
         }
     }
 

@@ -10,6 +10,14 @@ use fm_records_query::{Query, parse_list, parse_query};
 use fm_workers::is_tally;
 use std::alloc::Global;
 
+/// What a pool is to answer: the query that the text of a question comes to, with so many threads.
+#[derive(Drop)]
+pub struct PoolPlan {
+    pub question: Question,
+    pub threads: u64,
+    pub query: Query,
+}
+
 /// The query that this text comes to: it is a query's, or that of a path whose values are counted.
 ///
 /// Refused: as `parse_query`; as `parse_list`, and then `Unsupported` where the path leads to no bytes or booleans.

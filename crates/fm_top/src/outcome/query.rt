@@ -3,6 +3,7 @@ ghost use Rattle.fm_top.specs.Ending.{shown};
 ghost use Rattle.fm_top.specs.Queries.{PlanEnds};
 ghost use Rattle.fm_top.specs.Words.{AreThreads};
 ghost use Rattle.fm_top.specs.declared.command.question.Question.TheVariants as question;
+ghost use Rattle.fm_top.specs.declared.command.wish.Wish.TheVariants as wish;
 
 use crate::outcome::answered::Answered;
 use crate::outcome::ending::Ending;
@@ -28,7 +29,7 @@ pub fn queried_ending<'a, R: Threads + Wait + Sync, G: Gate>(
     requires short { length pooled ≤ RECORD_FILE_LIMIT }
     requires threads { AreThreads threads }
     ensures { IfOk result (λ ending. (file : List ℕ) →
-        PlanEnds question.Query threads q file (Some pooled) (shown ending)) }
+        PlanEnds (wish.Answer question.Query threads) q file (Some pooled) (shown ending)) }
 {
     let rest = rest_of(pooled.len(), &q);
     if rest != 0 {

@@ -3,6 +3,7 @@ ghost use Rattle.fm_top.specs.Ends.{EndsFile};
 ghost use Rattle.fm_top.specs.Queries.{PlanEnds};
 ghost use Rattle.fm_top.specs.Words.{AreThreads};
 ghost use Rattle.fm_top.specs.declared.command.question.Question.TheVariants as question;
+ghost use Rattle.fm_top.specs.declared.command.wish.Wish.TheVariants as wish;
 
 use crate::outcome::answered::Answered;
 use crate::outcome::ending::Ending;
@@ -27,7 +28,7 @@ pub fn streamed_ending<'a, R: Threads + Wait + Sync, F: Files, G: Gate>(
     requires threads { AreThreads threads }
     requires small { q.size ≤ MOST_CHUNK }
     ensures { EndsFile file.now STREAM_FILE_LIMIT ⊤
-        (PlanEnds question.Stream threads q file.now)
+        (PlanEnds (wish.Answer question.Stream threads) q file.now)
         (F.view files.old)
         (F.view files.new) result }
 {

@@ -3,6 +3,7 @@ ghost use Rattle.fm_top.specs.Ending.{shown};
 ghost use Rattle.fm_top.specs.Queries.{PlanEnds};
 ghost use Rattle.fm_top.specs.Words.{AreThreads};
 ghost use Rattle.fm_top.specs.declared.command.question.Question.TheVariants as question;
+ghost use Rattle.fm_top.specs.declared.command.wish.Wish.TheVariants as wish;
 ghost use Rattle.fm_workers.specs.Counts.{IsTally};
 
 use crate::outcome::ending::Ending;
@@ -30,7 +31,7 @@ pub fn tallied_ending<'a, R: Threads + Wait + Sync, G: Gate>(
     requires threads { AreThreads threads }
     requires tally { IsTally q.now }
     ensures { IfOk result (λ ending. (file : List ℕ) →
-        PlanEnds question.Tally threads q.now file (Some pooled) (shown ending)) }
+        PlanEnds (wish.Answer question.Tally threads) q.now file (Some pooled) (shown ending)) }
 {
     let rest = rest_of(pooled.len(), q);
     if rest != 0 {

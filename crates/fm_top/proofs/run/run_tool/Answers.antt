@@ -5,7 +5,7 @@ use Rattle.fm_top.proofs.run.run_tool.Goals as goal
 pub returns-in-Ok-clause-ran : goal.returns-in-Ok-clause-ran
 returns-in-Ok-clause-ran g c =
     let print = c.print-status.ensures in
-    rw (c.of.ensures, c.code.ensures) (ran_printed c.in-Ok.ensures.ends print.prints print.missing print.quiet print.faults_stay)
+    rw (c.of.ensures, print.left, c.code.ensures) (ran_printed c.in-Ok.ensures.ends print.prints print.missing print.quiet print.faults_stay)
 
 pub returns-in-Err-Failed-clause-ran : goal.returns-in-Err-Failed-clause-ran
 returns-in-Err-Failed-clause-ran g c =

@@ -1,7 +1,12 @@
 use Rattle.std.proofs.Common.{ℕ, List, subst, sym}
 use Rattle.fm_top_options.specs.Options.{texts}
-use Rattle.fm_top.{specs.Words.{IsThreaded, three}, proofs.{Numbers.{on_none}, Requests.{no_ask}, Threaded.{of_none, of_some}}}
+use Rattle.std.proofs.lemmas.Option.{IfSome_then}
+use Rattle.fm_top.{specs.Words.{IsThreaded, three}, proofs.{Numbers.{on_none}, Requests.{is_ask, no_ask}, Threaded.{of_none, of_some}}}
 use Rattle.fm_top.proofs.command.ask.ask_words.Goals as goal
+
+pub returns-in-Some-clause-found : goal.returns-in-Some-clause-found
+returns-in-Some-clause-found c =
+    IfSome_then c.ask_by.result c.ask_by.ensures.found (λ ask. is_ask c.args.question c.requires (of_some _ c.in-Some.is c.in_ok-said.ensures.found))
 
 pub returns-in-Some-clause-none : goal.returns-in-Some-clause-none
 returns-in-Some-clause-none c =

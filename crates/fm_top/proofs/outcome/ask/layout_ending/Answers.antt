@@ -1,5 +1,5 @@
-use Rattle.std.proofs.Common.{Err, ap, ◌∙◌}
-use Rattle.fm_top.{specs.{Ending.{shown}, Queries.{over_layout}}, proofs.{Ends.{ends_as, other_end, unread_ends}, Outcomes.{refused-layout}}}
+use Rattle.std.proofs.Common.{Err, ap, rules, ◌∙◌}
+use Rattle.fm_top.{specs.{Ending.{shown}, Queries.{over_layout}}, proofs.{Ends.{ends_as, other_end, unread_ends, unread_wanting}, Outcomes.{refused-layout}}}
 use Rattle.fm_top.proofs.Planned.{of_err, of_ok}
 use Rattle.fm_top.proofs.outcome.ask.layout_ending.Goals as goal
 
@@ -14,6 +14,9 @@ returns-in_ok-layout_refused-in-Err g c =
     let ask = c.args.ask.now in
     let end = c.in_ok-layout_refused-in-Err in
     let denied = of_err _ c.in_ok-layout.ensures.same c.in-Err.is c.record_layout.ensures.refused in
-    unread_ends (λ found. refused-layout ask.question ask.threads ask.text.now ask.file.now found (shown end.field-0) ask.layout.now c.args.bytes.now c.in-Err.refusal
+    unread_ends (λ found. refused-layout ask.wish ask.text.now ask.file.now found (shown end.field-0) ask.layout.now c.args.bytes.now c.in-Err.refusal
     denied (λ is. c.in_ok-layout.ensures.other (c.in-Err.is ∙ ap Err is)) end.ensures)
     (other_end end.ensures (λ e. absurd (cc)))
+
+pub returns-in_err-layout_refused-in-Err : goal.returns-in_err-layout_refused-in-Err
+returns-in_err-layout_refused-in-Err g c = unread_wanting (search rules)

@@ -1,0 +1,10 @@
+use crate::command::question::Question;
+
+/// What a user wishes to know of the records of a file.
+#[derive(Clone, Copy, PartialEq, Eq)]
+pub enum Wish {
+    /// What a pool answers, with so many threads.
+    Answer(Question, u64),
+    /// The text that each of them has in a field.
+    Texts,
+}
