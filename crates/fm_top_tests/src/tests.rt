@@ -2,6 +2,7 @@ mod compared;
 mod demos;
 mod endings;
 mod faults;
+mod fields;
 mod files;
 mod gates;
 mod guesses;

@@ -21,6 +21,7 @@ demo --threads 1 3 -> 0 count 3|sum(.amount) -126243|min(.amount) -50000|max(.am
 query Sale count Ragged -> 6 ragged 1|
 stream Sale count Ragged -> 6 ragged 1|
 stream Sale count Empty -> 0 count 0|
+texts Sale .tags Sales -> 0 refused 61|text 05|
 layout nofile -> 2 missing nofile|";
 
 /// The first and the last lines are those of no worker.

@@ -38,6 +38,7 @@ layout Sale -> 0 none
 migrate Sale -> 0 none
 tally Sale .tags[] Empty -> 0 kept
 sum 8 0 long Sales -> 0 none
+texts Sale .tags Sales -> 0 none
 query --threads 16 Sale count Sales -> 0 kept
 query -> 1 none
 tally Sale .price Sales -> 5 none
@@ -86,7 +87,8 @@ query Sale count, Sales -> 8 none
 stream Sale count Sales -> 8 kept
 query -> 8 none
 demo 3 -> 8 kept
-sum 8 0 long Sales -> 8 none";
+sum 8 0 long Sales -> 8 none
+texts Sale .tags Sales -> 8 none";
 
 #[test]
 fn it_is_kept_where_the_answer_is_not_written(rt: HostRuntime) {
