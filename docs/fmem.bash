@@ -1,12 +1,23 @@
 # Completion of fmem's words for bash, and of the companions that take them: `. docs/fmem.bash`, or a copy named as each of
 # them in ~/.local/share/bash-completion/completions, where `install.sh` puts it.
-# A layout's paths are those that `fmem layout` prints; of `tally` those of bytes and booleans.
+# A layout's paths are those that `fmem layout` prints; of `tally` those of bytes and booleans, of `texts` those of
+# sequences of bytes, with [0] for each [] before the last one.
 
 _fmem_paths() { # a layout's file and the types that serve, each between | and |: the layout's paths to such values
   local path at type rest
   while read -r path at type rest; do
     [[ $path = size || $path = alignment || $2 != *"|$type|"* ]] || printf '%s\n' "$path"
   done < <(fmem layout "$1" 2> /dev/null)
+}
+
+_fmem_rows() { # a layout's file: the paths to its sequences of bytes
+  local path
+  while read -r path; do
+    [[ $path = *'[]' ]] || continue
+    path=${path%'[]'}
+    path=${path//'[]'/[0]}
+    printf '%s\n' "${path:-.}"
+  done < <(_fmem_paths "$1" '|byte|')
 }
 
 _fmem_query() { # a layout's file and a query's first part: what its last piece may become, behind all before it
@@ -28,7 +39,7 @@ _fmem() {
   current=${COMP_WORDS[COMP_CWORD]} command=${COMP_WORDS[1]}
   COMPREPLY=()
   if [ "$COMP_CWORD" = 1 ]; then
-    mapfile -t COMPREPLY < <(compgen -W 'sum layout migrate query stream tally demo run' -- "$current")
+    mapfile -t COMPREPLY < <(compgen -W 'sum layout migrate query stream tally texts demo run' -- "$current")
     return
   fi
   for ((k = 2; k < COMP_CWORD; k++)); do # the words that aren't of the option
@@ -54,11 +65,14 @@ _fmem() {
     tally/1) mapfile -t COMPREPLY < <(_fmem_paths "${words[0]}" '|byte|boolean|' | while read -r word; do
       [[ $word != "${current#"$quote"}"* ]] || printf '%s\n' "$word"
     done) ;;
+    texts/1) mapfile -t COMPREPLY < <(_fmem_rows "${words[0]}" | while read -r word; do
+      [[ $word != "${current#"$quote"}"* ]] || printf '%s\n' "$word"
+    done) ;;
     query/1 | stream/1) mapfile -t COMPREPLY < <(_fmem_query "${words[0]}" "${current#"$quote"}")
       # Where one is left bash would end the quote; by a second one, with a space behind it, the query may go on.
       [[ -z $quote || ${#COMPREPLY[@]} != 1 ]] || COMPREPLY+=("${COMPREPLY[0]} ")
       compopt -o nospace 2> /dev/null ;;
-    layout/0 | migrate/0 | run/0 | sum/3 | query/[02] | stream/[02] | tally/[02])
+    layout/0 | migrate/0 | run/0 | sum/3 | query/[02] | stream/[02] | tally/[02] | texts/[02])
       compopt -o filenames 2> /dev/null
       mapfile -t COMPREPLY < <(compgen -f -- "$current") ;;
   esac
