@@ -228,7 +228,7 @@ class Explain(Files):
             for line in document:
                 heading = line if line.startswith("## ") else heading
                 row = re.match(r"\| (\d+)", line)
-                if row:
+                if row and heading != "## Texts\n":  # these come with status 0
                     (statuses if heading == "## Statuses\n" else numbers).add(int(row[1]))
         self.assertEqual(set(program["STATUSES"]) | {4, 5}, statuses)
         self.assertEqual(set(program["REFUSALS"]) - {6}, numbers)
@@ -269,12 +269,18 @@ class Explain(Files):
         said = self.explained("tally", "--threads=2", "--", SALES[0], ".price", SALES[1])
         self.assertTrue(said.endswith("\n.price\n^^^^^^\n"), said)
         self.assertTrue(self.explained("tally", SALES[0], ".tags[9]", SALES[1]).endswith("\n.tags[9]\n     ^^^\n"))
+        for path, under in (
+            (".tags[]", "     ^^"), (".price", "^^^^^^"), (".nope", "^^^^^"), ("--", "^"), ("--threads", "^"),
+        ):
+            said = self.explained("texts", SALES[0], path, SALES[1])
+            self.assertTrue(said.endswith(f"\n{path}\n{under}\n"), said)
 
     def test_other_statuses(self):
         script = self.file("script", "pool 1 1 8 1000 1\nfirst open a\n")
         for words, text in (
             (["run", script], "line 2: first open a"), (["layout", SALES[0] + "x"], "no file has this name"),
             (["layout", HOME], "a read failed"), (["query", SALES[0], "count"], "fmem query [--threads N] LAYOUT"),
+            (["texts", SALES[0], ".tags"], "fmem texts LAYOUT PATH FILE"),
             (["sum", "16", "8", "long", os.path.join(EXAMPLES, "ragged")], "ragged 1: "), ([], "fmem sum SIZE"),
             (["help"], "fmem run FILE"),
         ):
@@ -303,6 +309,15 @@ class Json(Files):
         lines = [json.loads(line) for line in output.splitlines()]
         self.assertEqual((lines[0], lines[-1]), ({"value": -1, "count": 1}, {"total": 8}))
         self.assertEqual(companion("fmem-json", "sum", "24", "8", "long", SALES[1])[0], '{"sum": 210}\n')
+
+    def test_texts(self):
+        field = self.file("layout", '{"type":"sequence","count":4,"element":{"type":"byte"}}')
+        names = ["ada", "", 'a"\n', "\u00fc", "\u20ac"]
+        data = self.file("data", b"".join(name.encode().ljust(4, b"\0") for name in names) + b"a\xff\0\0" + b"full")
+        output, said, status = companion("fmem-json", "texts", field, ".", data)
+        wanted = [*({"text": name} for name in names), {"refused": [60, 1]}, {"refused": [61]}]
+        self.assertEqual(([json.loads(line) for line in output.splitlines()], said, status), (wanted, "", 0))
+        self.assertEqual(companion("fmem-json", "texts", field, ".[0]", data), ("", "query refused 50 1\n", 5))
 
     def test_what_is_no_answer(self):
         found = companion("fmem-json", "query", SALES[0], "sum(.nope)", SALES[1])
