@@ -1,0 +1,5 @@
+mod Alone
+mod Learning
+mod Loading
+mod Places
+mod Visiting

@@ -1,0 +1,5 @@
+use Rattle.fm_visit.proofs.Visiting.{visited_elsewhere}
+use Rattle.fm_visit.proofs.visit.Visit.put_words.Goals as goal
+
+pub returns-then-is_elsewhere : goal.returns-then-is_elsewhere
+returns-then-is_elsewhere g c = visited_elsewhere c.requires.inside (c.is_elsewhere.ensures.yes c.if-is_elsewhere.true)

@@ -1,0 +1,4 @@
+pub mod Acts
+pub mod Learnt
+pub mod Visiting
+pub mod Within
