@@ -1,0 +1,4 @@
+mod calls;
+mod memories;
+mod story;
+mod works;
