@@ -6,11 +6,13 @@ use fm_top_load::load;
 use std::alloc::Global;
 use std::sync::Wait;
 
-/// The bytes of a record whose text is got, those before its text, and those in which its text stands.
+/// The bytes of a record.
 const SIZE: u64 = 32;
 
+/// The bytes of a record that stand before those with its text.
 const AT: u64 = 4;
 
+/// The bytes that a record has for its text.
 const ROOM: u64 = 20;
 
 /// Gets the text of each record of a file so often, and answers how many bytes they have in all; none where one has none.
