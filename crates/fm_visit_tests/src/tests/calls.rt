@@ -1,6 +1,6 @@
 ghost use Rattle.std.specs.Prelude.{◌≡◌, ◌^◌, ◌≤◌, true, None, length};
 ghost use Rattle.fm_base.specs.Outcomes.{Lasts};
-ghost use Rattle.fm_segment.specs.Learnt.{CanUse, CanUseBoth};
+ghost use Rattle.fm_segment.specs.Learnt.{CanUse};
 ghost use Rattle.fm_visit.specs.Learnt.{IsIn};
 
 use fm_base::{Kind, Memory, Refusal};
