@@ -2,14 +2,14 @@ ghost use Rattle.std.specs.Prelude.{◌≡◌, ◌≤◌, ◌++◌, length, OnOk
 ghost use Rattle.fm_base_text.specs.Hex.{hex_text};
 ghost use Rattle.hex.specs.Hex.{encode_lower};
 
-use std::alloc::{AllocError, Global};
+use std::alloc::AllocError;
 use std::str;
 
 /// How many bytes are spelled at once: their digits wait on the stack.
 const PIECE: usize = 16;
 
 /// Adds a space and the bytes as digits of base 16, in lower case; nothing where there are none.
-pub fn push_bytes(_alloc: Global, text: &mut String, bytes: &[u8]) -> Result<(), AllocError>
+pub fn push_bytes(text: &mut String, bytes: &[u8]) -> Result<(), AllocError>
     ensures { OnOk result (string_bytes text.new ≡ string_bytes text.old ++ hex_text bytes.now) }
 {
     if bytes.is_empty() {

@@ -27,7 +27,7 @@ fn text_of(alloc: Global, report: &Report) -> Result<String, AllocError>
 {
     let mut text = String::new(alloc);
     push_lines(&mut text, report.lines())?;
-    push_arenas(alloc, &mut text, report.alive())?;
+    push_arenas(&mut text, report.alive())?;
     Ok(text)
 }
 
@@ -71,21 +71,21 @@ fn word_of(truth: bool) -> &'static str
     if truth { "true" } else { "false" }
 }
 
-fn push_arenas(alloc: Global, text: &mut String, alive: &[AliveArena]) -> Result<(), AllocError>
+fn push_arenas(text: &mut String, alive: &[AliveArena]) -> Result<(), AllocError>
     ensures { OnOk result (string_bytes text.new ≡ string_bytes text.old ++ flat_map arena_text alive.now) }
 {
     for arena in alive {
-        push_arena(alloc, text, arena)?;
+        push_arena(text, arena)?;
     }
     Ok(())
 }
 
-fn push_arena(alloc: Global, text: &mut String, arena: &AliveArena) -> Result<(), AllocError>
+fn push_arena(text: &mut String, arena: &AliveArena) -> Result<(), AllocError>
     ensures { OnOk result (string_bytes text.new ≡ string_bytes text.old ++ arena_text arena.now) }
 {
     text.push_str("bytes ")?;
     push_name(text, &arena.name)?;
-    push_bytes(alloc, text, arena.bytes.as_slice())?;
+    push_bytes(text, arena.bytes.as_slice())?;
     text.push('\n')?;
     Ok(())
 }

@@ -69,6 +69,6 @@ fn send_text<O: Sink>(
     ensures short { OnOk result (length (string_bytes pending.new) < PIECE) }
     ensures same { loaded.new ≡ loaded.old }
 {
-    push_line(alloc, pending, loaded.text(alloc, place, size))?;
+    push_line(pending, loaded.text(alloc, place, size))?;
     send_piece(out, pending)
 }
