@@ -6,3 +6,4 @@ pub mod Lasting
 pub mod Meeting
 pub mod Open
 pub mod Opening
+pub mod Own

@@ -1,24 +1,18 @@
 -- Where a pass finds no slot, and what it learns of another handle.
-use Rattle.std.proofs.Common.{◌≡◌, ◌∙◌, [], ◌∷◌, List, Result, ap, refl, sym, Ok, Err}
-use Rattle.fm_base.specs.{declared.{arena_id.ArenaId.{ArenaId}, kind.Kind.{Kind, TheVariants.{Automatic}}, refusal.Refusal.{Refusal}}, Finds.{Sweep}}
-use Rattle.fm_base.specs.{View.{inside_after}, declared.refusal.Refusal.TheVariants.{TooManyHolds}}
-use Rattle.fm_rule_facts.specs.{Hands.{Hand, nothing}, Views.{View}}
+use Rattle.std.proofs.Common.{◌≡◌, ◌∙◌, ◌++◌, List, Result, ap, refl, subst, sym, Ok, Err}
+use Rattle.fm_base.specs.declared.{arena_id.ArenaId.{ArenaId}, kind.Kind.{Kind, TheVariants.{Automatic}}, refusal.Refusal.{Refusal}}
+use Rattle.fm_base.specs.{Calls.{Entry}, Histories.{made_by}, View.{but_loans, inside_after}, declared.refusal.Refusal.TheVariants.{TooManyHolds}}
+use Rattle.fm_rule_facts.specs.Views.{View}
 use Rattle.fm_rule.specs.declared.pool.Pool.{Pool}
-use Rattle.fm_rule_calls.specs.Kept.{slots_told}
 use Rattle.fm_gate.{specs.{Makers.{Made, made_by_pass}, Learnt.{AfterOpen}}, proofs.Outside.{made_on}}
 use Rattle.fm_gate.specs.Learnt as gate
-use Rattle.fm_arena.specs.{declared.handle.AutoHandle.{AutoHandle}, Handles.{AfterAgain, AfterStart, HasHandle}, Opening.{HasNoSlot, OpensExactly}}
+use Rattle.fm_arena.specs.{declared.handle.AutoHandle.{AutoHandle}, Handles.{AfterAgain, AfterStart, HasHandle}, Opening.{OpensExactly}}
+use Rattle.fm_arena.proofs.Own.{own_by}
 
--- Where no slot is told, every arena that was ended is swept.
-pub none_swept : (cs : List Sweep) (hand : Hand) → slots_told cs hand ≡ [] → cs ≡ []
-unfolding slots_told
-none_swept [] hand e = refl
-none_swept (c ∷ cs) hand e = absurd (cc)
-
--- A pass with nothing in its hand that has swept what it ended has no slot.
-pub has_no_slot : (p : View) → p.hand ≡ nothing → p.sweeps ≡ [] → HasNoSlot p
-unfolding slots_told
-has_no_slot p hand sweeps = rw sweeps (rw hand refl)
+-- None of its own entries is a loan.
+lends_none : {pool : Pool} {p q : View} {kind : Kind} {result : Result ArenaId Refusal} → AfterOpen pool p q kind result
+    → (more : List Entry) → q.seen ≡ p.seen ++ more → but_loans (made_by p.caller more) ≡ made_by p.caller more
+lends_none a more seen = subst (λ (es : List Entry). but_loans es ≡ es) (own_by a.did.goes more seen) a.no_loan
 
 -- Where the gate's call is refused a step found no slot, and a whole pass has every slot busy.
 refused : {X : Type 0} {pool : Pool} {p q : View} {kind : Kind} {r : Refusal} → AfterOpen pool p q kind (Err r) → OpensExactly {X = X} p q (Err r)
@@ -26,13 +20,18 @@ refused {p = p} a =
     let none_left = a.no_slot.1 in
     record {
       opened = tt;
-      refused = λ whole none. none_left.busy whole (none_swept p.sweeps p.hand none);
+      refused = λ whole none. none_left.busy whole none.sweeps;
       found = record { find = none_left.find; early = none_left.early };
+      no_loan = lends_none a;
     }
+
+-- Where it is opened there was a slot.
+opens_exactly_as : {X : Type 0} {pool : Pool} {p q : View} {kind : Kind} {id : ArenaId} {x : X} → AfterOpen pool p q kind (Ok id) → OpensExactly p q (Ok x)
+opens_exactly_as a = record { opened = a.slot; refused = tt; found = tt; no_loan = lends_none a }
 
 -- What the gate's call teaches of it.
 pub opens_exactly : {pool : Pool} {p q : View} {kind : Kind} (result : Result ArenaId Refusal) → AfterOpen pool p q kind result → OpensExactly p q result
-opens_exactly (Ok id) a = record { opened = a.slot; refused = tt; found = tt }
+opens_exactly (Ok id) a = opens_exactly_as a
 opens_exactly (Err r) a = refused a
 
 -- What the opener of an automatic arena learns where no slot was free.
@@ -43,6 +42,19 @@ starts_not a = record {
   has = tt;
   no_slot = a.no_slot.0;
   exact = refused a;
+  outside = a.outside.outside;
+  lasts = a.lasts;
+}
+
+-- And where one was.
+pub starts : {pool : Pool} {p q : View} {id : ArenaId} {made : Made} → AfterOpen pool p q Automatic (Ok id) → made ≡ made_by_pass q
+    → AfterStart p q (Ok (record { arena = id; maker = made }))
+starts {id = id} a is = let first = a.handle refl in record {
+  did = a.did;
+  is_new = a.is_new;
+  has = record { maker = is; handled = record { known = first.known; has = first.has; automatic = first.automatic } };
+  no_slot = tt;
+  exact = opens_exactly_as a;
   outside = a.outside.outside;
   lasts = a.lasts;
 }

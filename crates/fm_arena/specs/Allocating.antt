@@ -1,10 +1,10 @@
 -- Where a pass finds no page for an allocation.
 use Rattle.std.specs.Prelude.{◌≡◌, ◌++◌, ℕ, true, List, [], Result, Err}
-use Rattle.fm_base.specs.{declared.{arena_id.ArenaId.{ArenaId}, refusal.Refusal.{Refusal, TheVariants.{PoolFull}}}, Calls.{Entry, Enter, Fine, entry_of}}
-use Rattle.fm_base.specs.{Histories.{made_by}, View.{is_loan}}
+use Rattle.fm_base.specs.{declared.{arena_id.ArenaId.{ArenaId}, refusal.Refusal.{Refusal, TheVariants.{NoRoom, PoolFull}}}, Calls.{Entry}}
+use Rattle.fm_base.specs.Histories.{made_by}
 use Rattle.fm_base.specs.Learnt as memory
-use Rattle.fm_rule_facts.specs.Views.{View, In}
-use Rattle.fm_gate.specs.Pages.{FoundNoPage, FullExactly, LendsInRange}
+use Rattle.fm_rule_facts.specs.Views.{View}
+use Rattle.fm_gate.specs.Pages.{AllocatesSo, FoundNoPage, FullExactly, LendsNone, LentBesides}
 use Rattle.fm_rule_calls.specs.Told.{view_of_pass}
 use Rattle.fm_segment.specs.Region.{Region}
 use Rattle.fm_arena.specs.Arenas as arena
@@ -23,6 +23,10 @@ AllocatesSegment old new id size align result = arena.AfterAllocate nature_of_sh
 pub record AllocatesExactly (old new : View) (id : ArenaId) (size align : ℕ) (result : Result ℕ Refusal) : Type 0 where
   pub exact : old.whole ≡ true → old.closes ≡ [] → HasNoSlot old → FullExactly old id size align result
   pub found : result ≡ Err PoolFull → FoundNoPage old new id size align
-  -- it lends pages for parts of its range alone, once it has entered
-  pub lends : (more : List Entry) → new.seen ≡ old.seen ++ more → (e : Entry) → In e (made_by old.caller more) → is_loan e.call ≡ true
-      → In (entry_of old.caller (Enter id) Fine) (made_by old.caller more) × LendsInRange old new id size align e
+  -- it enters, lends pages for parts of its range alone, allocates, and leaves
+  pub lends : (more : List Entry) → new.seen ≡ old.seen ++ more → AllocatesSo old new id size align result (made_by old.caller more)
+  -- of a pass that is known to be whole, nothing else is lent than before but parts of the range that it knows
+  pub lent : old.whole ≡ true → LentBesides old new id size align
+  -- and it lends none where there is no room
+  pub no_room : (more : List Entry) → new.seen ≡ old.seen ++ more → old.whole ≡ true → (given : ℕ) → result ≡ Err (NoRoom given)
+      → LendsNone old.caller id size align given (made_by old.caller more)

@@ -5,8 +5,10 @@ use std::sync::Wait;
 /// A memory before whose calls somebody else has a turn.
 ///
 /// The calls `enter`, `load`, `store`, `swap_if`, `add`, `patch` and `leave` are numbered from 0; before each the turn of
-/// its number comes. The number 18,446,744,073,709,551,615 is the last, and all calls behind it have it too. The other
-/// calls have no turn.
+/// its number comes. Each word of `load_words` and of `store_words` is a `load` or a `store` of its own, and has a turn.
+/// The number 18,446,744,073,709,551,615 is the last, and all calls behind it have it too.
+///
+/// Before `caller`, `open_arena`, `allocate` and `close` no turn comes, and none of them is counted.
 ///
 /// It refuses what the memory refuses, and takes no memory of its own. Others use its arenas, so nothing that holds of an
 /// only caller holds of its caller.
@@ -56,11 +58,11 @@ impl<M: Memory, T: Turn> Braided<M, T> {
 }
 
 impl<M: Memory, T: Turn> Memory for Braided<M, T> {
-    ghost use Rattle.std.specs.Prelude.{refl, IsSome};
+    ghost use Rattle.std.specs.Prelude.{◌≡◌, refl, IsSome, length};
     ghost use Rattle.fm_base.specs.Calls as machine;
-    ghost use Rattle.fm_base.specs.Does.{CanReach};
-    ghost use Rattle.fm_base.specs.Learnt.{CanVisit, CanPatch, AfterEnter, AfterLeave};
-    ghost use Rattle.fm_arena_braided.specs.Turns.{Acted, HadTurn, Patched, beside, nature_beside};
+    ghost use Rattle.fm_base.specs.Does.{CanReach, CanReachAll};
+    ghost use Rattle.fm_base.specs.Learnt.{CanVisit, CanOpen, CanPatch, AfterEnter, AfterLoads, AfterStores, AfterLeave, AfterOpen, AfterAllocate, AfterClose};
+    ghost use Rattle.fm_arena_braided.specs.Turns.{Acted, HadTurn, InTurns, LoadedInTurn, Patched, StoredInTurn, beside, nature_beside};
 
     ghost nature = { nature_beside M.nature };
 
@@ -72,7 +74,8 @@ impl<M: Memory, T: Turn> Memory for Braided<M, T> {
 
     fn enter(&mut self, id: ArenaId) -> OrRefused<()>
         requires { CanVisit (beside (M.view self.old.memory)) id }
-        ensures does { AfterEnter (beside (M.view self.old.memory)) (beside (M.view self.new.memory)) id result }
+        ensures does { AfterEnter (beside (M.view self.old.memory))
+            (beside (M.view self.new.memory)) id result }
         ensures turn { HadTurn T.turns self.old.turn self.old.calls self.new.turn self.new.calls }
     {
         self.give_turn();
@@ -89,6 +92,21 @@ impl<M: Memory, T: Turn> Memory for Braided<M, T> {
         self.memory.load(word)
     }
 
+    #[tactic(auto, using(crate::proofs::Turns::in_turns))]
+    fn load_words(&mut self, first: u64, words: &mut [u64])
+        requires { CanReachAll (beside (M.view self.old.memory)) first (length words.old) }
+        ensures does { AfterLoads (beside (M.view self.old.memory))
+            (beside (M.view self.new.memory)) first words.new }
+        ensures turns { InTurns self.old self.new (length words.new)
+            (LoadedInTurn M.view T.turns first words.new) }
+    {
+        // Where there is no word, no load says that the memory is sound.
+        self.caller();
+        for k in 0..words.len() {
+            words[k] = self.load(first + k as u64);
+        }
+    }
+
     fn store(&mut self, word: u64, v: u64)
         requires { CanReach (beside (M.view self.old.memory)) word }
         ensures does { Acted M.view self.old.memory self.new.memory
@@ -97,6 +115,21 @@ impl<M: Memory, T: Turn> Memory for Braided<M, T> {
     {
         self.give_turn();
         self.memory.store(word, v);
+    }
+
+    #[tactic(auto, using(crate::proofs::Turns::in_turns))]
+    fn store_words(&mut self, first: u64, words: &[u64])
+        requires { CanReachAll (beside (M.view self.old.memory)) first (length words.now) }
+        ensures does { AfterStores (beside (M.view self.old.memory))
+            (beside (M.view self.new.memory)) first words.now }
+        ensures turns { InTurns self.old self.new (length words.now)
+            (StoredInTurn M.view T.turns first words.now) }
+    {
+        // Where there is no word, no store says that the memory is sound.
+        self.caller();
+        for k in 0..words.len() {
+            self.store(first + k as u64, words[k]);
+        }
     }
 
     fn swap_if(&mut self, word: u64, old: u64, new: u64) -> u64
@@ -130,22 +163,41 @@ impl<M: Memory, T: Turn> Memory for Braided<M, T> {
 
     fn leave(&mut self)
         requires { IsSome (beside (M.view self.old.memory)).inside }
-        ensures does { AfterLeave (beside (M.view self.old.memory)) (beside (M.view self.new.memory)) }
+        ensures does { AfterLeave (beside (M.view self.old.memory))
+            (beside (M.view self.new.memory)) }
         ensures turn { HadTurn T.turns self.old.turn self.old.calls self.new.turn self.new.calls }
     {
         self.give_turn();
         self.memory.leave();
     }
 
-    fn open_arena<R: Wait>(&mut self, rt: &R, kind: Kind) -> OrRefused<ArenaId> {
+    fn open_arena<R: Wait>(&mut self, rt: &R, kind: Kind) -> OrRefused<ArenaId>
+        requires { CanOpen (beside (M.view self.old.memory)) kind }
+        ensures does { AfterOpen (nature_beside M.nature) (beside (M.view self.old.memory))
+            (beside (M.view self.new.memory)) kind result }
+        ensures turn { self.new.turn ≡ self.old.turn }
+        ensures calls { self.new.calls ≡ self.old.calls }
+    {
         self.memory.open_arena(rt, kind)
     }
 
-    fn allocate<R: Wait>(&mut self, rt: &R, id: ArenaId, size: u64, align: u64) -> OrRefused<u64> {
+    fn allocate<R: Wait>(&mut self, rt: &R, id: ArenaId, size: u64, align: u64) -> OrRefused<u64>
+        requires { CanVisit (beside (M.view self.old.memory)) id }
+        ensures does { AfterAllocate (nature_beside M.nature) (beside (M.view self.old.memory))
+            (beside (M.view self.new.memory)) id size align result }
+        ensures turn { self.new.turn ≡ self.old.turn }
+        ensures calls { self.new.calls ≡ self.old.calls }
+    {
         self.memory.allocate(rt, id, size, align)
     }
 
-    fn close<R: Wait>(&mut self, rt: &R, id: ArenaId) -> OrRefused<()> {
+    fn close<R: Wait>(&mut self, rt: &R, id: ArenaId) -> OrRefused<()>
+        requires { CanVisit (beside (M.view self.old.memory)) id }
+        ensures does { AfterClose (beside (M.view self.old.memory))
+            (beside (M.view self.new.memory)) id result }
+        ensures turn { self.new.turn ≡ self.old.turn }
+        ensures calls { self.new.calls ≡ self.old.calls }
+    {
         self.memory.close(rt, id)
     }
 

@@ -2,10 +2,10 @@
 use Rattle.std.proofs.Common.{◌≡◌, ◌≢◌, ℕ, ◌+◌, ◌-◌, ◌*◌, ◌/◌, ◌<◌, ◌≤◌, Bool, true, false, List, [], ◌∷◌, refl, ap, sym, ◌∙◌, arith, if◌then◌else◌, filter, not, All}
 use Rattle.std.{specs.Prelude.{⊤, count_ones, nat_le}, proofs.lemmas.{Nat.{ones_le_self}, Bool.Decides.{nat_tests}, List.Elements.{All-nil, All-cons}}}
 use Rattle.fm_base.specs.declared.{caller.Caller.{Caller}, arena_id.ArenaId.{ArenaId}}
-use Rattle.fm_base.specs.Arenas.{State, Arena, Closing, Ended, arena_of, has_arena, changed, are_one}
+use Rattle.fm_base.specs.Arenas.{State, Arena, Life, Alive, Closing, Ended, arena_of, has_arena, changed, are_one}
 use Rattle.fm_base.specs.Calls.{Call, Open, Enter, Write, SwapIf, Add, Allocate, Leave, Hold, Unhold, Shut, End, Reply, Fine, Closed, Found, Given, NoRoom, Entry, entry_of}
-use Rattle.fm_base.specs.Machine.{MayCall, IsPower, reply_to, enter_reply, shut_reply, allocate_reply, rounded_up, Change, Opens, Alters, Rests, made, change_of, after, ended}
-use Rattle.fm_base.specs.{Histories.{IsLegal, state_after}, View.{View, Makes}, Lasting.{StaysForEver, EndsForGood}}
+use Rattle.fm_base.specs.Machine.{MayCall, IsPower, reply_to, enter_reply, hold_reply, shut_reply, allocate_reply, rounded_up, Change, Opens, Alters, Rests, made, change_of, after, closing, ended}
+use Rattle.fm_base.specs.{Histories.{IsLegal, state_after}, View.{View, Makes}, Lasting.{StaysForEver, AsksForLife, ShutsForGood, EndsForGood}}
 use Rattle.fm_base.proofs.Lookup.{Relates, changed_lookup, changed_has, arena_of-append, lookup_changed, arena_of-none, made_lookup, made_has}
 use Rattle.fm_base.proofs.Making.{IsLegal-split, state_after-append}
 
@@ -46,12 +46,21 @@ pub record IsOver (a : Arena) : Type 0 where
 pub record Steps (a b : Arena) : Type 0 where
   pub given : a.given ≤ b.given
   pub over : IsOver a → IsOver b
+  pub shut : a.life ≢ Alive → b.life ≢ Alive
+  pub ended : a.life ≡ Ended → b.life ≡ Ended
+
+-- a life is one of three
+not_closing : Closing ≢ Alive
+not_closing e = cc
+
+not_ended : Ended ≢ Alive
+not_ended e = cc
 
 Steps-words : (a : Arena) (words : List ℕ) → Steps a (record a { words = words })
-Steps-words a words = record { given = omega arith; over = λ o. record { life = o.life; empty = o.empty } }
+Steps-words a words = record { given = omega arith; over = λ o. record { life = o.life; empty = o.empty }; shut = λ h. h; ended = λ e. e }
 
 Steps-holds : (a : Arena) (holds : ℕ) → Steps a (record a { holds = holds })
-Steps-holds a holds = record { given = omega arith; over = λ o. record { life = o.life; empty = o.empty } }
+Steps-holds a holds = record { given = omega arith; over = λ o. record { life = o.life; empty = o.empty }; shut = λ h. h; ended = λ e. e }
 
 abbrev StepsBy : State → Change → Type 0
 StepsBy s (Opens o) = ⊤
@@ -62,21 +71,38 @@ module _ (limit : ℕ) (s : State) (c : Caller) where
   -- what a legal call does to the arena that it alters
   steps_by : (call : Call) (reply : Reply) → MayCall s c call → reply ≡ reply_to limit s call
       → StepsBy s (change_of limit c call reply)
-  steps_by (Enter id) Fine may is = record { given = omega arith; over = λ o. let e : Fine ≡ Closed = is ∙ ap enter_reply o.life in absurd (cc) }
+  steps_by (Enter id) Fine may is =
+      record {
+        given = omega arith;
+        over = λ o. let e : Fine ≡ Closed = is ∙ ap enter_reply o.life in absurd (cc);
+        shut = λ h. h;
+        ended = λ e. e;
+      }
   steps_by (Write id word value) reply may is = Steps-words (arena_of s id) _
   steps_by (SwapIf id word old new) (Found found) may is = Steps-words (arena_of s id) _
   steps_by (Add id word n) (Found found) may is = Steps-words (arena_of s id) _
   steps_by (Allocate id size align) (Given place) may is =
       let g = given_is limit (arena_of s id).given size align place is in
       let up = le-rounded_up (arena_of s id).given align (power_pos align may.1) in
-      record { given = (let p = g.rounded in omega arith); over = λ o. record { life = o.life; empty = o.empty } }
+      record { given = (let p = g.rounded in omega arith); over = λ o. record { life = o.life; empty = o.empty }; shut = λ h. h; ended = λ e. e }
   steps_by (Leave id) reply may is =
-      record { given = omega arith; over = λ o. record { life = o.life; empty = ap (λ (xs : List Caller). filter (λ x. not (are_one x c)) xs) o.empty } }
+      record {
+        given = omega arith;
+        over = λ o. record { life = o.life; empty = ap (λ (xs : List Caller). filter (λ x. not (are_one x c)) xs) o.empty };
+        shut = λ h. h;
+        ended = λ e. e;
+      }
   steps_by (Hold id) Fine may is = Steps-holds (arena_of s id) _
   steps_by (Unhold id) reply may is = Steps-holds (arena_of s id) _
   steps_by (Shut id) Fine may is =
-      record { given = omega arith; over = λ o. let e : Fine ≡ Closed = is ∙ ap (λ l. shut_reply l (arena_of s id).holds) o.life in absurd (cc) }
-  steps_by (End id) reply may is = record { given = omega arith; over = λ o. record { life = refl; empty = o.empty } }
+      let closed : (arena_of s id).life ≡ Ended → Fine ≡ Closed = λ e. is ∙ ap (λ l. shut_reply l (arena_of s id).holds) e in
+      record {
+        given = omega arith;
+        over = λ o. let e = closed o.life in absurd (cc);
+        shut = λ h. not_closing;
+        ended = λ l. let e = closed l in absurd (cc);
+      }
+  steps_by (End id) reply may is = record { given = omega arith; over = λ o. record { life = refl; empty = o.empty }; shut = λ h. not_ended; ended = λ e. refl }
   steps_by call reply may is = tt
 
 GivesMore : Arena → Arena → Type 0
@@ -102,22 +128,46 @@ over_still s (Opens o) t other there w = rw (arena_of-append s (o ∷ []) other 
 over_still s (Alters id f named) t other there w = changed_lookup StaysOver f named (λ a o. o) s id t.over other w
 over_still s Rests t other there w = w
 
+StaysShut : Arena → Arena → Type 0
+StaysShut a b = a.life ≢ Alive → b.life ≢ Alive
+
+shut_still : (s : State) (h : Change) → StepsBy s h → (other : ArenaId) → has_arena s other ≡ true → (arena_of s other).life ≢ Alive
+    → (arena_of (made h s) other).life ≢ Alive
+unfolding StaysShut
+shut_still s (Opens o) t other there w = rw (arena_of-append s (o ∷ []) other there) w
+shut_still s (Alters id f named) t other there w = changed_lookup StaysShut f named (λ a l. l) s id t.shut other w
+shut_still s Rests t other there w = w
+
+StaysEnded : Arena → Arena → Type 0
+StaysEnded a b = a.life ≡ Ended → b.life ≡ Ended
+
+ended_still : (s : State) (h : Change) → StepsBy s h → (other : ArenaId) → has_arena s other ≡ true → (arena_of s other).life ≡ Ended
+    → (arena_of (made h s) other).life ≡ Ended
+unfolding StaysEnded
+ended_still s (Opens o) t other there w = rw (arena_of-append s (o ∷ []) other there) w
+ended_still s (Alters id f named) t other there w = changed_lookup StaysEnded f named (λ a l. l) s id t.ended other w
+ended_still s Rests t other there w = w
+
 -- ---- a history
 
--- from one state to a later one: arenas stay, what is given grows, what has ended is over
+-- from one state to a later one: arenas stay, what is given grows, what was shut stays so, what has ended is over
 pub record Grows (s t : State) : Type 0 where
   pub has : (id : ArenaId) → has_arena s id ≡ true → has_arena t id ≡ true
   pub given : (id : ArenaId) → (arena_of s id).given ≤ (arena_of t id).given
   pub over : (id : ArenaId) → has_arena s id ≡ true → IsOver (arena_of s id) → IsOver (arena_of t id)
+  pub shut : (id : ArenaId) → has_arena s id ≡ true → (arena_of s id).life ≢ Alive → (arena_of t id).life ≢ Alive
+  pub ended : (id : ArenaId) → has_arena s id ≡ true → (arena_of s id).life ≡ Ended → (arena_of t id).life ≡ Ended
 
 Grows-same : (s : State) → Grows s s
-Grows-same s = record { has = λ id h. h; given = λ id. omega arith; over = λ id h o. o }
+Grows-same s = record { has = λ id h. h; given = λ id. omega arith; over = λ id h o. o; shut = λ id h l. l; ended = λ id h l. l }
 
 Grows-trans : (s t u : State) → Grows s t → Grows t u → Grows s u
 Grows-trans s t u p q = record {
   has = λ id h. q.has id (p.has id h);
   given = λ id. let a = p.given id in let b = q.given id in omega arith;
   over = λ id h o. q.over id (p.has id h) (p.over id h o);
+  shut = λ id h l. q.shut id (p.has id h) (p.shut id h l);
+  ended = λ id h l. q.ended id (p.has id h) (p.ended id h l);
 }
 
 -- a legal entry only adds
@@ -125,7 +175,13 @@ pub Grows-after : (limit : ℕ) (s : State) (e : Entry) → MayCall s e.caller e
 Grows-after limit s e may is =
     let h = change_of limit e.caller e.call e.reply in
     let t = steps_by limit s e.caller e.call e.reply may is in
-    record { has = λ id there. made_has s h id there; given = λ id. given_more s h t id; over = λ id there o. over_still s h t id there o }
+    record {
+      has = λ id there. made_has s h id there;
+      given = λ id. given_more s h t id;
+      over = λ id there o. over_still s h t id there o;
+      shut = λ id there l. shut_still s h t id there l;
+      ended = λ id there l. ended_still s h t id there l;
+    }
 
 -- a legal history only adds
 pub Grows-state_after : (limit : ℕ) (s : State) (es : List Entry) → IsLegal limit s es → Grows s (state_after limit s es)
@@ -162,6 +218,47 @@ shut_out limit s (e ∷ es) id l h o =
     let first : e.call ≡ Enter id → e.reply ≡ Closed = λ is. l.1 ∙ (ap (λ c. reply_to limit s c) is ∙ ap enter_reply o.life) in
     let g = Grows-after limit s e l.0 l.1 in
     All-cons (λ e. e.call ≡ Enter id → e.reply ≡ Closed) e es first (shut_out limit (after limit s e) es id l.2 (g.has id h) (g.over id h o))
+
+-- what asks an arena for its life that isn't alive is refused
+refuses_enter : (l : Life) → l ≢ Alive → enter_reply l ≡ Closed
+refuses_enter Alive h = absurd (h refl)
+refuses_enter Closing h = refl
+refuses_enter Ended h = refl
+
+refuses_hold : (l : Life) (n : ℕ) → l ≢ Alive → hold_reply l n ≡ Closed
+refuses_hold Alive n h = absurd (h refl)
+refuses_hold Closing n h = refl
+refuses_hold Ended n h = refl
+
+refuses_shut : (l : Life) (n : ℕ) → l ≢ Alive → shut_reply l n ≡ Closed
+refuses_shut Alive n h = absurd (h refl)
+refuses_shut Closing n h = refl
+refuses_shut Ended n h = refl
+
+refuses : (limit : ℕ) (s : State) (id : ArenaId) (call : Call) → (arena_of s id).life ≢ Alive → AsksForLife id call → reply_to limit s call ≡ Closed
+refuses limit s id (Enter a) h e = ap (λ x. enter_reply (arena_of s x).life) e ∙ refuses_enter (arena_of s id).life h
+refuses limit s id (Hold a) h e =
+    ap (λ x. hold_reply (arena_of s x).life (arena_of s x).holds) e ∙ refuses_hold (arena_of s id).life (arena_of s id).holds h
+refuses limit s id (Shut a) h e =
+    ap (λ x. shut_reply (arena_of s x).life (arena_of s x).holds) e ∙ refuses_shut (arena_of s id).life (arena_of s id).holds h
+refuses limit s id call h e = absurd e
+
+-- nobody comes into an arena that was shut, holds it or shuts it again
+pub stays_shut : (limit : ℕ) (s : State) (es : List Entry) (id : ArenaId) → IsLegal limit s es → has_arena s id ≡ true → (arena_of s id).life ≢ Alive
+    → All (λ e. AsksForLife id e.call → e.reply ≡ Closed) es
+stays_shut limit s [] id l h shut = All-nil (λ e. AsksForLife id e.call → e.reply ≡ Closed)
+stays_shut limit s (e ∷ es) id l h shut =
+    let first : AsksForLife id e.call → e.reply ≡ Closed = λ asks. l.1 ∙ refuses limit s id e.call shut asks in
+    let g = Grows-after limit s e l.0 l.1 in
+    All-cons (λ e. AsksForLife id e.call → e.reply ≡ Closed) e es first (stays_shut limit (after limit s e) es id l.2 (g.has id h) (g.shut id h shut))
+
+pub shuts : ShutsForGood
+shuts limit before later c id l =
+    let s = state_after limit [] before in
+    let parts = IsLegal-split limit [] before (entry_of c (Shut id) Fine ∷ later) l in
+    let there : has_arena s id ≡ true = parts.1.0.0 in
+    let look = lookup_changed s id closing (λ a. refl) there in
+    stays_shut limit (changed s id closing) later id parts.1.2 (changed_has closing (λ a. refl) s id id ∙ there) (rw look not_closing)
 
 -- an arena whose life isn't over is there
 pub there_by_life : (s : State) (id : ArenaId) → (arena_of s id).life ≢ Ended → has_arena s id ≡ true

@@ -14,4 +14,4 @@ pub mod Alone
 pub mod Learning
 pub mod Untouched
 pub mod Counting
-pub mod Storing
+pub mod Rows

@@ -54,9 +54,11 @@ pub record Rest : Type 0 where
   pub holds : List ArenaId
   pub handles : List ArenaId
   pub closes : List Close
+  -- of arenas that it ended: until its sweep is done an arena's slot is in the caller's hand
+  pub sweeps : List Sweep
   -- the pages in its hand
   pub pages : List ℕ
-  -- numbers that tell the slots in its hand, also those of arenas that it ended and hasn't swept, and how far each sweep is
+  -- the slot in its hand, for an arena that is opened next or to be given back
   pub slots : List ℕ
   pub gathered : List Gathered
   -- whether it is known that every drawn number but its own is gathered into it

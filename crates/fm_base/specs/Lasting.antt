@@ -2,7 +2,7 @@
 use Rattle.std.specs.Prelude.{◌≡◌, ◌≢◌, ℕ, ◌+◌, ◌%◌, ◌≤◌, true, List, [], ◌∷◌, ◌++◌, All, Some}
 use Rattle.fm_base_bytes.specs.Words.{byte_at}
 use Rattle.fm_base.specs.{declared.{caller.Caller.{Caller}, arena_id.ArenaId.{ArenaId}}, Arenas.{has_arena, arena_of}}
-use Rattle.fm_base.specs.{Calls.{Open, Enter, Allocate, End, Closed, Given, Reply, Entry, entry_of}, Histories.{state_after, IsLegal, IsTidy, IsWhole}}
+use Rattle.fm_base.specs.{Calls.{Call, Open, Enter, Allocate, Hold, Shut, End, Fine, Closed, Given, Reply, Entry, entry_of}, Histories.{state_after, IsLegal, IsTidy, IsWhole}}
 use Rattle.fm_base.specs.View.{View, Told, Makes, IsSound, KeepsFaith}
 
 -- where a history is legal and tidy, every byte at or past the given count is 0
@@ -18,6 +18,20 @@ GivesZeros =
     (limit : ℕ) (h : List Entry) (caller : Caller) (id : ArenaId) (size align given : ℕ)
     → IsLegal limit [] (h ++ entry_of caller (Allocate id size align) (Given given) ∷ []) → IsTidy limit [] h
     → (place : ℕ) → given ≤ place → byte_at (arena_of (state_after limit [] h) id).words place ≡ 0
+
+-- the call is let through only where the arena is alive
+abbrev pub AsksForLife : ArenaId → Call → Type 0
+AsksForLife id (Enter a) = a ≡ id
+AsksForLife id (Hold a) = a ≡ id
+AsksForLife id (Shut a) = a ≡ id
+AsksForLife id call = ⊥
+
+-- after a Shut that was done no later Enter, Hold or Shut of the arena is
+abbrev pub ShutsForGood : Type 0
+ShutsForGood =
+    (limit : ℕ) (before later : List Entry) (caller : Caller) (id : ArenaId)
+    → IsLegal limit [] (before ++ entry_of caller (Shut id) Fine ∷ later)
+    → All (λ e. AsksForLife id e.call → e.reply ≡ Closed) later
 
 -- after End nobody is under way in the arena, and no later Enter of it is Ok
 abbrev pub EndsForGood : Type 0

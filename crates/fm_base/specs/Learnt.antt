@@ -3,7 +3,7 @@ use Rattle.std.specs.Prelude.{◌≡◌, ◌≢◌, ℕ, List, true, bit_and, So
 use Rattle.fm_base.specs.declared.{arena_id.ArenaId.{ArenaId}, kind.Kind.{Kind, TheVariants.{Automatic}}, refusal.Refusal.{Refusal}}
 use Rattle.fm_base.specs.{declared.refusal.Refusal.TheVariants.{NoSlot, PoolFull}, Arenas.{Ended, has_arena, arena_of}, Calls.{Call, Reply, Leave, Fine}}
 use Rattle.fm_base.specs.{Does.{CanReach, DidEnter, DidAct, DidActs, DidPatch, DidOpen, DidAllocate, DidClose}, Finds.{is_slot, is_page}}
-use Rattle.fm_base.specs.{Outcomes.{Nature, MayCome, FoundNoneFree, IsNew, Gives, Lasts}, View.{View, IsSound}, Visits.{writes}}
+use Rattle.fm_base.specs.{Outcomes.{Nature, MayCome, FoundNoneFree, IsNew, Gives, Lasts}, View.{View, IsSound}, Visits.{Acts, reads, writes}}
 
 -- ---- what is asked for
 
@@ -39,12 +39,20 @@ pub record AfterAct (old new : View) (call : ArenaId → Call) (reply : Reply) :
   pub lasts : Lasts old new
   pub sound : IsSound new
 
--- of `store_words`
-pub record AfterStores (old new : View) (first : ℕ) (words : List ℕ) : Type 0 where
-  pub did : DidActs old new (λ a. writes a first words)
+-- of these acts on a run of words inside an arena, the first at this index
+pub record AfterActs (acts : ArenaId → ℕ → List ℕ → Acts) (old new : View) (first : ℕ) (words : List ℕ) : Type 0 where
+  pub did : DidActs old new (λ a. acts a first words)
   pub inside : new.inside ≡ old.inside
   pub lasts : Lasts old new
   pub sound : IsSound new
+
+-- of `load_words`
+abbrev pub AfterLoads : View → View → ℕ → List ℕ → Type 0
+AfterLoads = AfterActs reads
+
+-- of `store_words`
+abbrev pub AfterStores : View → View → ℕ → List ℕ → Type 0
+AfterStores = AfterActs writes
 
 -- of `patch`
 pub record AfterPatch (old new : View) (word mask bits found : ℕ) : Type 0 where

@@ -26,6 +26,11 @@ abbrev pub writes : ArenaId → ℕ → List ℕ → Acts
 writes id word [] = []
 writes id word (v ∷ vs) = (Write id word v, Fine) ∷ writes id (suc word) vs
 
+-- a Read of each word of a run, the first at this index, which found these
+abbrev pub reads : ArenaId → ℕ → List ℕ → Acts
+reads id word [] = []
+reads id word (v ∷ vs) = (Read id word, Found v) ∷ reads id (suc word) vs
+
 -- ---- tries
 
 -- Any number of Read, and of SwapIf that didn't find their old word.

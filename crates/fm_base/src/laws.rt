@@ -1,4 +1,4 @@
-ghost use Rattle.fm_base.specs.Lasting.{ZeroPastGiven, GivesZeros, EndsForGood, PlacesApart, StaysForEver, LooksUp, StaysWhole, AlwaysKeepsFaith};
+ghost use Rattle.fm_base.specs.Lasting.{ZeroPastGiven, GivesZeros, ShutsForGood, EndsForGood, PlacesApart, StaysForEver, LooksUp, StaysWhole, AlwaysKeepsFaith};
 ghost use Rattle.fm_base.specs.Untouched.{SparedStays, SparedIsFound, StaysAlive};
 ghost use Rattle.fm_base.specs.Counting.{AddsCount, AddsByCallers};
 
@@ -10,6 +10,11 @@ pub fn zero_past_given()
 /// So every byte at or past the place that an allocation gives is 0 then.
 pub fn gives_zeros()
     ensures { GivesZeros }
+{}
+
+/// An arena that was shut stays so: nobody comes into it, holds it or shuts it again.
+pub fn shuts_for_good()
+    ensures { ShutsForGood }
 {}
 
 /// After its end nobody is under way in an arena, and nobody comes into it again.

@@ -13,7 +13,7 @@
 //! memory.
 //!
 //! **Why it is safe.** The machine lets nobody into an arena that was shut, and ends one only where nobody is under way
-//! in it; so nobody is, nor comes in, after its end (`ends_for_good`). What an arena gave lies apart (`places_apart`),
+//! in it; so nobody is, nor comes in, after its end (`shuts_for_good`, `ends_for_good`). What an arena gave lies apart (`places_apart`),
 //! was 0 before (`gives_zeros`), and a byte changes only by an entry that doesn't spare it (`spared_stays`).
 //!
 //! **What is not promised.** In which order entries of two callers come; that an arena which was just opened isn't shut
@@ -26,14 +26,16 @@ mod kind;
 mod laws;
 mod memory;
 mod refusal;
+mod rounding;
 
 pub use arena_id::ArenaId;
 pub use caller::Caller;
 pub use kind::Kind;
 pub use laws::{
     adds_by_callers, adds_count, always_keeps_faith, ends_for_good, gives_zeros, looks_up,
-    places_apart, spared_is_found, spared_stays, stays_alive, stays_for_ever, stays_whole,
-    zero_past_given,
+    places_apart, shuts_for_good, spared_is_found, spared_stays, stays_alive, stays_for_ever,
+    stays_whole, zero_past_given,
 };
 pub use memory::Memory;
 pub use refusal::{OrRefused, Refusal};
+pub use rounding::round_up;

@@ -2,7 +2,7 @@ ghost use Rattle.std.specs.Prelude.{◌≡◌, IsSome, length};
 ghost use Rattle.fm_base.specs.Calls as machine;
 ghost use Rattle.fm_base.specs.View.{View, IsSound};
 ghost use Rattle.fm_base.specs.Does.{CanReach, CanReachAll};
-ghost use Rattle.fm_base.specs.Learnt.{CanVisit, CanOpen, CanPatch, AfterEnter, AfterAct, AfterStores, AfterPatch, AfterLeave, AfterOpen, AfterAllocate, AfterClose};
+ghost use Rattle.fm_base.specs.Learnt.{CanVisit, CanOpen, CanPatch, AfterEnter, AfterAct, AfterLoads, AfterStores, AfterPatch, AfterLeave, AfterOpen, AfterAllocate, AfterClose};
 ghost use Rattle.fm_base.specs.Outcomes.{Nature};
 
 use crate::arena_id::ArenaId;
@@ -46,6 +46,20 @@ pub trait Memory {
         requires { CanReach (view self.old) word }
         ensures { AfterAct (view self.old) (view self.new)
             (λ id. machine.Read id word) (machine.Found result) };
+
+    /// Reads the words from the index `first` on into `words`, one after the other.
+    ///
+    /// A memory that loads a word at a time needs no other body than this one.
+    fn load_words(&mut self, first: u64, words: &mut [u64])
+        requires { CanReachAll (view self.old) first (length words.old) }
+        ensures { AfterLoads (view self.old) (view self.new) first words.new }
+    {
+        // Where there is no word, no load says that the memory is sound.
+        self.caller();
+        for k in 0..words.len() {
+            words[k] = self.load(first + k as u64);
+        }
+    }
 
     /// Puts `v` into the word of this index.
     fn store(&mut self, word: u64, v: u64)

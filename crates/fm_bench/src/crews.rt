@@ -156,9 +156,8 @@ pub fn crew_of<R: Wait>(
     Ok(crew)
 }
 
-/// Threads visit an arena at once, so often each. Of 64 passes numbers that are 8 apart are drawn first, so their marks
-/// share no cache line; where 7 passes are drawn between two workers, one's number is the other's and 1. Answers how often
-/// they came in.
+/// Threads visit an arena at once, so often each. Their marks share no cache line: those of numbers in a row lie 8 words
+/// apart, and where 7 passes are drawn between two workers, theirs lie 64 words apart. Answers how often they came in.
 pub fn crowd<R: Threads + Wait + Sync>(
     rt: &R,
     alloc: Global,

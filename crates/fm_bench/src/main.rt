@@ -5,7 +5,7 @@
 //! `firsts COUNT` and `lasts COUNT` of 64 bytes in the first and in the last page of 4,096,
 //! `gives COUNT` of 8 bytes at a time, `loads COUNT` from a plain vector,
 //! `adds COUNT`, `swaps COUNT` and `patches COUNT` of a word in one visit, `draws COUNT` of a pass that is gathered each time,
-//! and `beside COUNT THREADS` and `apart COUNT THREADS` of visits by threads whose marks lie side by side and 8 apart.
+//! and `beside COUNT THREADS` and `apart COUNT THREADS` of visits by threads whose marks lie 64 words and 8 words apart.
 //! `fm_bench_shared` has those that go through segments and handles.
 //!
 //! `stress ROUNDS` is no benchmark: threads add to a word, and close the arena while others add, and it prints how many

@@ -3,8 +3,8 @@ use Rattle.std.{proofs.Common.{◌≡◌, ◌≢◌, List, [], ◌∷◌, Bool, 
 use Rattle.fm_base.specs.{declared.{arena_id.ArenaId.{ArenaId}, refusal.Refusal.{Refusal}}, Arenas.{same_id}, Calls.{Entry}}
 use Rattle.fm_base.{specs.Finds.{Stretch, Walk, Close, Sweep, Rest}, proofs.Names.{same_id-true}}
 use Rattle.fm_base_machine.proofs.Putting.{same_id-not}
-use Rattle.fm_rule_facts.specs.{Hands.{nothing}, Views.{View}, Closes.{passed_of, one_more, advanced, dropped}}
-use Rattle.fm_rule_calls.{specs.Kept.{Goes, rest_of}, proofs.{Going.{known_on}, Sweeps.{same_sweeps}}}
+use Rattle.fm_rule_facts.specs.{Views.{View}, Closes.{passed_of, one_more, advanced, dropped}}
+use Rattle.fm_rule_calls.{specs.Kept.{Goes, rest_of}, proofs.Going.{known_on}}
 use Rattle.fm_gate.{specs.Makers.{made_by_pass}, proofs.Outside.{made_on}}
 use Rattle.fm_close.specs.declared.{shutting.Shutting.{Shutting}, outcome.Visit.{Visit, TheVariants.{Next, Inside, Ended}}}
 use Rattle.fm_close.specs.Learnt.{IsUnderWay, IsToSweep, closes_shut, closes_visited, sweeps_visited}
@@ -87,7 +87,7 @@ swept_by : {p q : View} {s : Shutting} → made_by_pass p ≡ made_by_pass q →
 swept_by maker same u = record { maker = u.maker ∙ maker; ended = u.ended; at = same ∙ u.at }
 
 ended : SweepStands
-ended old new own s g rest h k u = swept_by (sym (made_on g)) (ap (λ (cs : List Sweep). passed_of cs s.arena) (same_sweeps old new rest h k)) u
+ended old new own s g rest u = swept_by (sym (made_on g)) (ap (λ (x : Rest). passed_of x.sweeps s.arena) rest) u
 
 of_end : (a b : ArenaId) (v : Visit) (cs : List Sweep) → a ≢ b → passed_of (sweeps_visited a v cs) b ≡ passed_of cs b
 of_end a b Next cs n = refl
@@ -96,11 +96,11 @@ of_end a b Ended cs n = ap (λ t. if t then Some 0 else passed_of cs b) (same_id
 
 ended_beside : StandsBeside IsToSweep
 ended_beside = record {
-  at_shut = λ pool old new other result s h n u. swept_by (sym (made_on h.did.goes)) (ap (λ (cs : List Sweep). passed_of cs s.arena) h.sweeps) u;
+  at_shut = λ pool old new other result s h n u. swept_by (sym (made_on h.did.goes)) (ap (λ (x : Rest). passed_of x.sweeps s.arena) h.did.rest) u;
   at_visit = λ pool old new t v result s h n u.
-      swept_by (sym (made_on h.did.goes)) (ap (λ (cs : List Sweep). passed_of cs s.arena) h.sweeps ∙ of_end t.arena s.arena result old.sweeps n) u;
+      swept_by (sym (made_on h.did.goes)) (ap (λ (x : Rest). passed_of x.sweeps s.arena) h.did.rest ∙ of_end t.arena s.arena result old.sweeps n) u;
   at_sweep = λ pool old new other s h n u.
-      swept_by (sym (made_on h.did.goes)) (ap (λ (cs : List Sweep). passed_of cs s.arena) h.sweeps ∙ passed_of-dropped old.sweeps other s.arena n) u;
+      swept_by (sym (made_on h.did.goes)) (ap (λ (x : Rest). passed_of x.sweeps s.arena) h.did.rest ∙ passed_of-dropped old.sweeps other s.arena n) u;
   onward = λ pool old new s h u.
       swept_by (λ j. record { home = sym h.home j; caller = sym h.caller j }) (ap (λ (cs : List Sweep). passed_of cs s.arena) h.sweeps) u;
 }
@@ -111,32 +111,26 @@ ended_beside = record {
 StandsBut : (View → Shutting → Type 0) → Type 0
 StandsBut P =
     (p q : View) (own : List Entry) (holds handles : List ArenaId) (s : Shutting) → Goes p q own
-    → rest_of q ≡ record (rest_of p) { holds = holds; handles = handles } → p.hand ≡ nothing → q.hand ≡ nothing → P p s → P q s
+    → rest_of q ≡ record (rest_of p) { holds = holds; handles = handles } → P p s → P q s
 
 through_by : (P : View → Shutting → Type 0) → StandsBut P → StandsThrough P
 unfolding StandsBut
 through_by P but = record {
-  at_hold = λ pool p q id result s o a. but p q _ _ _ s a.did.goes a.did.rest o.no_slot a.outside.no_slot;
-  at_unhold = λ pool p q id s o a. but p q _ _ _ s a.did.goes a.did.rest o.no_slot (a.outside o).no_slot;
-  at_open = λ pool p q kind result s o a. but p q _ _ _ s a.did.goes a.did.rest o.no_slot a.outside.no_slot;
-  at_again = λ pool p q id result s o a. but p q _ _ _ s a.did.goes a.did.rest o.no_slot (a.outside o).no_slot;
-  at_give_back = λ pool p q id result s o a. but p q _ _ _ s a.did.goes a.did.rest o.no_slot a.outside.no_slot;
+  at_hold = λ pool p q id result s o a. but p q _ _ _ s a.did.goes a.did.rest;
+  at_unhold = λ pool p q id s o a. but p q _ _ _ s a.did.goes a.did.rest;
+  at_open = λ pool p q kind result s o a. but p q _ _ _ s a.did.goes a.did.rest;
+  at_again = λ pool p q id result s o a. but p q _ _ _ s a.did.goes a.did.rest;
+  at_give_back = λ pool p q id result s o a. but p q _ _ _ s a.did.goes a.did.rest;
 }
-
--- Holds and handles are no matter to sweeps.
-sweeps_but : (p q : View) (holds handles : List ArenaId) → rest_of q ≡ record (rest_of p) { holds = holds; handles = handles }
-    → p.hand ≡ nothing → q.hand ≡ nothing → q.sweeps ≡ p.sweeps
-sweeps_but p q holds handles rest h k =
-    same_sweeps p (record q { holds = p.holds; handles = p.handles }) (ap (λ (x : Rest). record x { holds = p.holds; handles = p.handles }) rest) h k
 
 pub lasts : CloseLasts
 unfolding StandsBut
 lasts = record {
   stands = stands;
   beside = beside;
-  through = through_by IsUnderWay (λ p q own holds handles s g rest h k u. stands_by g (ap (λ (x : Rest). passed_of x.closes s.arena) rest) u);
+  through = through_by IsUnderWay (λ p q own holds handles s g rest u. stands_by g (ap (λ (x : Rest). passed_of x.closes s.arena) rest) u);
   ended = ended;
   ended_beside = ended_beside;
-  ended_through = through_by IsToSweep (λ p q own holds handles s g rest h k u.
-      swept_by (sym (made_on g)) (ap (λ (cs : List Sweep). passed_of cs s.arena) (sweeps_but p q holds handles rest h k)) u);
+  ended_through = through_by IsToSweep (λ p q own holds handles s g rest u.
+      swept_by (sym (made_on g)) (ap (λ (x : Rest). passed_of x.sweeps s.arena) rest) u);
 }

@@ -6,4 +6,5 @@ pub mod Parts
 pub mod Sweeps
 pub mod Backs
 pub mod Lasting
+pub mod Together
 pub mod Lefts

@@ -55,6 +55,7 @@ module _ {pool : Pool} {p q : View} {s : Shutting} (found : ℕ) (can : CanWalk 
         step = refl;
         seen = sym all;
         clear = refl;
+        gathered = refl;
         drew = refl;
         grown = ap (λ (x : View). x.finds) step.is_part;
       }
@@ -86,7 +87,6 @@ module _ {pool : Pool} {p q : View} {s : Shutting} (found : ℕ) (can : CanWalk 
       let g = goes_as closes.Inside e in
       record {
         did = record { own = []; does = refl; goes = g; rest = rest_is t };
-        sweeps = sweeps_is t;
         looked = looked closes.Inside e;
         answer = sym (ap (λ b. visit_answer s.next b (s.next + 1 == p.shape.passes)) names);
         close = refl;
@@ -125,7 +125,6 @@ module _ {pool : Pool} {p q : View} {s : Shutting} (found : ℕ) (can : CanWalk 
         ∙ passed_of-advanced p.closes s.arena s.next can.walks.at in
         record {
           did = record { own = []; does = refl; goes = g; rest = rest_is t };
-          sweeps = sweeps_is t;
           looked = looked closes.Next e;
           answer = sym (ap (λ b. visit_answer s.next b (s.next + 1 == p.shape.passes)) names_not ∙ ap (visit_answer s.next false) last);
           close = refl;
@@ -156,7 +155,6 @@ module _ {pool : Pool} {p q : View} {s : Shutting} (found : ℕ) (can : CanWalk 
         } in
         record {
           did = record { own = mine; does = refl; goes = g; rest = rest_is t };
-          sweeps = sweeps_is t;
           looked = looked closes.Ended e;
           answer = sym (ap (λ b. visit_answer s.next b (s.next + 1 == p.shape.passes)) names_not ∙ ap (visit_answer s.next false) last);
           close = refl;

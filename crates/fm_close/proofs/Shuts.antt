@@ -7,7 +7,7 @@ use Rattle.fm_base.specs.declared.refusal.Refusal.TheVariants as refusal
 use Rattle.fm_rule_facts.specs.{Views.{View, IsSound}, Words.{alive_holds, shut_found, shut_by}, Closes.{begun, passed_of}, Steps.{Stepped, none_noted}}
 use Rattle.fm_rule.specs.{declared.pool.Pool.{Pool}, Passes.{IsOf}}
 use Rattle.fm_rule_calls.specs.Kept.{Goes}
-use Rattle.fm_rule_calls.proofs.Going.{goes_none, kept_none, made_by-one, no_draws, rest_is, hand_is, inside_is, mark_is, closes_is, sweeps_is, known_on, lasts_on, goes_step}
+use Rattle.fm_rule_calls.proofs.Going.{goes_none, kept_none, made_by-one, no_draws, rest_is, hand_is, inside_is, mark_is, closes_is, known_on, lasts_on, goes_step}
 use Rattle.fm_gate.{specs.{Makers.{Made, made_by_pass}, Needs.{IsOutside, CanVisit}}, proofs.Outside.{made_on, stands_outside, swept_is}}
 use Rattle.fm_close.specs.Does as does
 use Rattle.fm_close.{specs.Learnt.{AfterShut}, proofs.Closes.{passed_of-begun}}
@@ -17,7 +17,6 @@ unmoved : {pool : Pool} {p : View} {a : ArenaId} {r : Refusal} → CanVisit pool
     → AfterShut pool p p a (Err r)
 unmoved can s shuts = record {
   did = kept_none _ _ s shuts;
-  sweeps = refl;
   walks = tt;
   outside = can.outside;
   as_was = record { wrong_thread = λ e. refl; cannot_close = λ k e. refl };
@@ -57,7 +56,6 @@ module _ {pool : Pool} {p q : View} {a : ArenaId} (word : ℕ) (can : CanVisit p
       let r : shut_found (alive_holds a word) ≡ Closed = ap shut_found e in
       record {
         did = record { own = entry_of p.caller (Shut a) Closed ∷ []; does = (kind, may, refl); goes = shut_goes Closed r; rest = rest_is (shut_as Closed r) };
-        sweeps = sweeps_is s;
         walks = tt;
         outside = still_outside Closed r;
         as_was = record { wrong_thread = λ e. absurd (cc); cannot_close = λ k e. absurd (cc) };
@@ -75,7 +73,6 @@ module _ {pool : Pool} {p q : View} {a : ArenaId} (word : ℕ) (can : CanVisit p
           goes = shut_goes (Held holds) r;
           rest = rest_is (shut_as (Held holds) r);
         };
-        sweeps = sweeps_is s;
         walks = tt;
         outside = still_outside (Held holds) r;
         as_was = record { wrong_thread = λ e. absurd (cc); cannot_close = λ k e. absurd (cc) };
@@ -95,7 +92,6 @@ module _ {pool : Pool} {p q : View} {a : ArenaId} (word : ℕ) (can : CanVisit p
           goes = g;
           rest = rest_is t;
         };
-        sweeps = sweeps_is s;
         walks = record {
           maker = mine;
           unfinished = refl;

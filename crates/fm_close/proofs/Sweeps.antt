@@ -3,12 +3,12 @@ use Rattle.std.proofs.Common.{◌≡◌, ◌≢◌, ℕ, ◌+◌, ◌^◌, ◌<�
 use Rattle.std.proofs.lemmas.List.{append-nil}
 use Rattle.fm_words.specs.declared.shape.Shape.{Shape}
 use Rattle.fm_base.specs.{declared.{caller.Caller.{Caller}, arena_id.ArenaId.{ArenaId}}, Calls.{Entry}, Finds.{Sweep}}
-use Rattle.fm_rule_facts.specs.{Hands.{Hand, nothing, retired, hand_retired}, Parts.{Swept, unread}, Views.{View, IsOver}}
+use Rattle.fm_rule_facts.specs.{Hands.{Hand, nothing, retired, hand_retired, slots_in}, Parts.{Swept, unread}, Views.{View, IsOver}}
 use Rattle.fm_rule_facts.specs.{Closes.{passed_of, advanced, dropped}, Steps.{Stepped, none_noted}}
 use Rattle.fm_rule_steps.proofs.Closes.{passed_of-found}
 use Rattle.fm_rule.specs.declared.pool.Pool.{Pool}
-use Rattle.fm_rule_calls.{specs.Kept.{Goes, rest_of, slots_told, HasNoWords}, proofs.Going.{goes_then, no_draws, lasts_on, goes_step}}
-use Rattle.fm_rule_calls.proofs.Unlent.{over_on, no_words_on, no_words_swept, has_ended}
+use Rattle.fm_rule_calls.{specs.Kept.{Goes, rest_of, HasNoWords}, proofs.Going.{goes_then, no_draws, lasts_on, goes_step}}
+use Rattle.fm_rule_calls.proofs.Unlent.{over_on, no_words_swept, has_ended}
 use Rattle.fm_gate.proofs.Outside.{stands_outside}
 use Rattle.fm_close.specs.{declared.shutting.Shutting.{Shutting}, Does.{AreBacks}, Learnt.{CanSweep, AfterSweep}, Sweeps.{SweepsOn, PartsTaken}}
 use Rattle.fm_close.proofs.Closes.{passed_of-advanced, dropped-advanced}
@@ -108,7 +108,7 @@ retires {o = o} {p = p} {q = q} {a = a} {own = own} w s =
         hand = hand_retired (a.generation + 1 == x.shape.generations) a.slot x.hand;
       }) w.goes_on.is);
       over = over_on a g w.over;
-      no_words = no_words_on a g w.over w.no_words;
+      no_words = (lasts_on g).no_words a (has_ended w.over) w.no_words;
     }
 
 -- The slot's bit is set.
@@ -120,7 +120,7 @@ gives {o = o} {p = p} {q = q} {a = a} {own = own} r s =
       is = s.is_part ∙ ((λ j. record p { seen = q.seen; finds = sym (ap (λ (x : View). x.finds) s.is_part) j; hand = nothing })
           ∙ ap (λ (x : View). record x { seen = q.seen; finds = q.finds; hand = nothing }) r.is);
       over = over_on a g r.over;
-      no_words = no_words_on a g r.over r.no_words;
+      no_words = (lasts_on g).no_words a (has_ended r.over) r.no_words;
     }
 
 -- ---- what is learnt of a sweep
@@ -161,10 +161,8 @@ module _ {pool : Pool} {o p m n : View} {s : Shutting} (can : CanSweep pool o s)
         own = all_parts.own;
         does = all_parts.backs;
         goes = t.goes;
-        rest = ap rest_of t.is
-            ∙ ap (λ (h : Hand). record (rest_of o) { slots = slots_told (dropped s.arena o.sweeps) h }) (sym can.outside.no_slot);
+        rest = ap rest_of t.is ∙ ap (λ (h : Hand). record (rest_of o) { sweeps = dropped s.arena o.sweeps; slots = slots_in h }) (sym can.outside.no_slot);
       };
-      sweeps = ap (λ (x : View). x.sweeps) t.is;
       ended = has_ended t.over;
       no_words = t.no_words;
       outside = stands_outside t.goes can.outside.of can.outside.no_number (ap (λ (x : View). x.hand) t.is)

@@ -1,40 +1,30 @@
 -- The walk over the marks, and a close.
-use Rattle.std.{proofs.{Common.{◌≡◌, ◌≢◌, ℕ, List, [], ◌∷◌, ◌++◌, refl, sym, ap, ◌∙◌, subst}, lemmas.List.Elements.{All-head, All-tail}}, specs.Prelude.{Ok}}
-use Rattle.fm_base.specs.{declared.{caller.Caller.{Caller}, arena_id.ArenaId.{ArenaId}}, Calls.{Shut, End, Fine, Entry, entry_of}, Finds.{Close, Sweep, Rest}}
+use Rattle.std.{proofs.{Common.{◌≡◌, ◌≢◌, List, [], ◌∷◌, refl, sym, ap, ◌∙◌, subst}, lemmas.List.Elements.{All-head, All-tail}}, specs.Prelude.{Ok}}
+use Rattle.fm_base.specs.{declared.{caller.Caller.{Caller}, arena_id.ArenaId.{ArenaId}}, Calls.{Shut, End, Fine, Entry, entry_of}, Finds.{Close, Rest}}
 use Rattle.fm_base.specs.View.{but_loans}
-use Rattle.fm_rule_facts.specs.{Hands.{Hand, nothing}, Views.{View}, Closes.{walk_of, advanced, dropped}}
+use Rattle.fm_rule_facts.specs.{Views.{View}, Closes.{walk_of, advanced, dropped}}
 use Rattle.fm_rule.specs.declared.pool.Pool.{Pool}
-use Rattle.fm_rule_calls.{specs.Kept.{Goes, rest_of, sweep_numbers, slots_told, HasEnded, HasNoWords}, proofs.Going.{goes_then, lasts_on}}
+use Rattle.fm_rule_calls.{specs.Kept.{Goes, rest_of, HasEnded, HasNoWords}, proofs.Going.{goes_then, lasts_on}}
 use Rattle.fm_gate.specs.Needs.{IsOutside}
 use Rattle.fm_close.specs.{declared.{shutting.Shutting.{Shutting}, outcome.Visit.{Visit, TheVariants.{Next, Inside, Ended}}}, Does.{IsBack, AreBacks}}
 use Rattle.fm_close.{specs.Learnt.{CanWalk, AfterShut, AfterVisit, Walked, AfterSweep, AfterClose}, proofs.Closes.{dropped-advanced, dropped-begun}}
 
 -- ---- the walk
 
--- One sweep more is told.
-told_more : (c : Sweep) (cs ds : List Sweep) (h k : Hand) → slots_told cs h ≡ slots_told ds k → slots_told (c ∷ cs) h ≡ slots_told (c ∷ ds) k
-unfolding slots_told
-told_more c cs ds h k e = ap (λ (ns : List ℕ). sweep_numbers (c ∷ []) ++ ns) e
-
 -- One visit more at the head of a walk.
-more : {pool : Pool} {p q r : View} {s t u : Shutting} (cs : List Close) → Goes p q []
-    → rest_of q ≡ record (rest_of p) { closes = cs; slots = slots_told p.sweeps p.hand } → q.sweeps ≡ p.sweeps
+more : {pool : Pool} {p q r : View} {s t u : Shutting} (cs : List Close) → Goes p q [] → rest_of q ≡ record (rest_of p) { closes = cs }
     → dropped s.arena cs ≡ dropped s.arena p.closes → t.arena ≡ s.arena → Walked pool q r t u → Walked pool p r s u
-more {p = p} {q = q} {r = r} {s = s} {t = t} cs g rest sweeps drops arena w =
+more {p = p} {q = q} {r = r} {s = s} {t = t} cs g rest drops arena w =
     let closes : q.closes ≡ cs = ap (λ (x : Rest). x.closes) rest in
     let end : Goes q r (entry_of p.caller (End s.arena) Fine ∷ []) = subst
     (λ (a : ArenaId). Goes q r (entry_of p.caller (End a) Fine ∷ [])) arena (subst
     (λ (c : Caller). Goes q r (entry_of c (End t.arena) Fine ∷ [])) g.same_caller w.goes) in
     let left : dropped t.arena q.closes ≡ dropped s.arena p.closes = ap (λ (a : ArenaId). dropped a q.closes) arena ∙ (ap (dropped s.arena) closes ∙ drops) in
-    let begun : walk_of t.arena 0 ∷ q.sweeps ≡ walk_of s.arena 0 ∷ p.sweeps = λ j. walk_of (arena j) 0 ∷ sweeps j in
-    let numbers : slots_told (walk_of t.arena 0 ∷ q.sweeps) q.hand ≡ slots_told (walk_of s.arena 0 ∷ p.sweeps) p.hand =
-    told_more (walk_of t.arena 0) q.sweeps p.sweeps q.hand p.hand (ap (λ (x : Rest). x.slots) rest)
-    ∙ ap (λ (a : ArenaId). slots_told (walk_of a 0 ∷ p.sweeps) p.hand) arena in
+    let begun : walk_of t.arena 0 ∷ q.sweeps ≡ walk_of s.arena 0 ∷ p.sweeps = λ j. walk_of (arena j) 0 ∷ (rest j).sweeps in
     record {
       goes = goes_then g end;
-      rest = w.rest ∙ (ap (λ (x : Rest). record x { closes = dropped t.arena q.closes; slots = slots_told (walk_of t.arena 0 ∷ q.sweeps) q.hand }) rest
-          ∙ (λ j. record (rest_of p) { closes = left j; slots = numbers j }));
-      sweeps = w.sweeps ∙ begun;
+      rest = w.rest ∙ (ap (λ (x : Rest). record x { closes = dropped t.arena q.closes; sweeps = walk_of t.arena 0 ∷ q.sweeps }) rest
+          ∙ (λ j. record (rest_of p) { closes = left j; sweeps = begun j }));
       arena = w.arena ∙ arena;
       ends = w.ends;
       over = subst (λ (a : ArenaId). HasEnded r a) arena w.over;
@@ -43,10 +33,10 @@ more {p = p} {q = q} {r = r} {s = s} {t = t} cs g rest sweeps drops arena w =
 -- A visit that isn't the last, and a walk.
 pub visit_then : {pool : Pool} {p q r : View} {s t u : Shutting} (v : Visit) → AfterVisit pool p q s t v → v ≢ Ended → Walked pool q r t u → Walked pool p r s u
 visit_then {p = p} {q = q} {s = s} Next a goes_on w =
-    more (advanced s.arena p.closes) (subst (λ (es : List Entry). Goes p q es) a.did.does a.did.goes) a.did.rest a.sweeps
+    more (advanced s.arena p.closes) (subst (λ (es : List Entry). Goes p q es) a.did.does a.did.goes) a.did.rest
     (dropped-advanced p.closes s.arena) (ap (λ (x : Shutting). x.arena) a.close) w
 visit_then {p = p} {q = q} (Inside k) a goes_on w =
-    more p.closes (subst (λ (es : List Entry). Goes p q es) a.did.does a.did.goes) a.did.rest a.sweeps refl (ap (λ (x : Shutting). x.arena) a.close) w
+    more p.closes (subst (λ (es : List Entry). Goes p q es) a.did.does a.did.goes) a.did.rest refl (ap (λ (x : Shutting). x.arena) a.close) w
 visit_then Ended a goes_on w = absurd (goes_on refl)
 
 -- The last visit is a walk.
@@ -56,7 +46,6 @@ visit_last {p = p} {r = r} a =
     record {
       goes = subst (λ (es : List Entry). Goes p r es) a.did.does a.did.goes;
       rest = a.did.rest;
-      sweeps = a.sweeps;
       arena = arena;
       ends = record { outside = a.outside; sweep = a.stands.1 };
       over = subst (λ (i : ArenaId). HasEnded r i) arena a.stands.0;
@@ -104,21 +93,20 @@ pub record Finished (pool : Pool) (old new : View) (id : ArenaId) : Type 0 where
   pub no_words : HasNoWords new id
   pub outside : IsOutside pool new
 
-pub finished : {pool : Pool} {p q r : View} {s t : Shutting} (a : ArenaId) → s.arena ≡ a → p.hand ≡ nothing → Walked pool p q s t
-    → AfterSweep pool q r t.arena → Finished pool p r a
-finished {p = p} {q = q} {r = r} {s = s} {t = t} a is none w z =
+pub finished : {pool : Pool} {p q r : View} {s t : Shutting} (a : ArenaId) → s.arena ≡ a → Walked pool p q s t → AfterSweep pool q r t.arena
+    → Finished pool p r a
+finished {p = p} {q = q} {r = r} {s = s} {t = t} a is w z =
     let same : t.arena ≡ a = w.arena ∙ is in
     let d = z.did in
     let ends : Goes p q (entry_of p.caller (End a) Fine ∷ []) = subst (λ (i : ArenaId). Goes p q (entry_of p.caller (End i) Fine ∷ [])) is w.goes in
     let left : dropped t.arena q.sweeps ≡ p.sweeps =
-    ap (dropped t.arena) (w.sweeps ∙ (λ j. walk_of (sym w.arena j) 0 ∷ p.sweeps)) ∙ dropped-begun p.sweeps t.arena in
-    let hand : q.hand ≡ p.hand = w.ends.outside.no_slot ∙ sym none in
+    ap (dropped t.arena) (ap (λ (x : Rest). x.sweeps) w.rest ∙ (λ j. walk_of (sym w.arena j) 0 ∷ p.sweeps)) ∙ dropped-begun p.sweeps t.arena in
     record {
       backs = d.own;
       are = subst (λ (c : Caller). AreBacks c d.own) ends.same_caller d.does;
       goes = goes_then ends d.goes;
-      rest = d.rest ∙ (ap (λ (x : Rest). record x { slots = slots_told (dropped t.arena q.sweeps) q.hand }) w.rest
-          ∙ (λ j. record (rest_of p) { closes = dropped (is j) p.closes; slots = slots_told (left j) (hand j) }));
+      rest = d.rest ∙ (ap (λ (x : Rest). record x { sweeps = dropped t.arena q.sweeps }) w.rest
+          ∙ (λ j. record (rest_of p) { closes = dropped (is j) p.closes; sweeps = left j }));
       over = subst (HasEnded r) same z.ended;
       no_words = subst (HasNoWords r) same z.no_words;
       outside = z.outside;

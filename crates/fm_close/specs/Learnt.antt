@@ -5,7 +5,7 @@ use Rattle.fm_base.specs.{Calls.{End, Fine, Entry, entry_of}, Does.{DoesClose, D
 use Rattle.fm_rule_facts.specs.{Views.{View, In, IsKnown}, Closes.{walk_of, passed_of, advanced, dropped}, Steps.{is_clear}, Words.{mark_of, alive_holds}}
 use Rattle.fm_rule_facts.specs.{Holds.{released}, Handles.{giving_by, given_back, giving_entries}}
 use Rattle.fm_rule.specs.declared.pool.Pool.{Pool}
-use Rattle.fm_rule_calls.specs.Kept.{Goes, KeptAs, KeptBut, KeptHandling, Kept, rest_of, slots_told, HasEnded, HasNoWords, Lasts}
+use Rattle.fm_rule_calls.specs.Kept.{Goes, KeptAs, KeptBut, KeptHandling, Kept, rest_of, HasEnded, HasNoWords, Lasts}
 use Rattle.fm_gate.specs.{Makers.{made_by_pass}, Needs.{IsOutside, HasHandle}}
 use Rattle.fm_close.specs.declared.{gave_back.GaveBack.{GaveBack}, shutting.Shutting.{Shutting}, outcome.Visit.{Visit, TheVariants.{Next, Inside, Ended}}}
 use Rattle.fm_close.specs.Does.{AreBacks, DoesShut, DoesVisit, visit_answer, after_visit, DoesSpend, others_left}
@@ -55,7 +55,6 @@ pub record IsAsItWas {A : Type 0} (old new : View) (result : Result A Refusal) :
 -- of `shut`
 pub record AfterShut (pool : Pool) (old new : View) (id : ArenaId) (result : Result Shutting Refusal) : Type 0 where
   pub did : KeptBut old new (closes_shut id result old.closes) (DoesShut (made_by_pass old) id result)
-  pub sweeps : new.sweeps ≡ old.sweeps
   pub walks : IfOk result (λ s. IsUnderWay new s)
   pub outside : IsOutside pool new
   pub as_was : IsAsItWas old new result
@@ -85,6 +84,7 @@ pub record Looked (old new : View) (s : Shutting) (own : List Entry) : Type 0 wh
   pub step : find.step ≡ Visits s.arena s.next
   pub seen : find.seen + length own ≡ length new.seen
   pub clear : find.clear ≡ is_clear old
+  pub gathered : find.gathered ≡ length old.gathered
   pub drew : find.drew ≡ None
   pub grown : new.finds ≡ old.finds ++ find ∷ []
 
@@ -92,9 +92,8 @@ pub record Looked (old new : View) (s : Shutting) (own : List Entry) : Type 0 wh
 pub record AfterVisit (pool : Pool) (old new : View) (s t : Shutting) (result : Visit) : Type 0 where
   pub did : KeptAs old new (record (rest_of old) {
     closes = closes_visited s.arena result old.closes;
-    slots = slots_told (sweeps_visited s.arena result old.sweeps) old.hand;
+    sweeps = sweeps_visited s.arena result old.sweeps;
   }) (DoesVisit old.caller s.arena result)
-  pub sweeps : new.sweeps ≡ sweeps_visited s.arena result old.sweeps
   pub looked : Looked old new s did.own
   pub answer : result ≡ visit_answer s.next (looked.find.found == mark_of s.arena) (s.next + 1 == old.shape.passes)
   pub close : t ≡ after_visit s result
@@ -107,18 +106,15 @@ pub record Walked (pool : Pool) (old new : View) (s t : Shutting) : Type 0 where
   pub goes : Goes old new (entry_of old.caller (End s.arena) Fine ∷ [])
   pub rest : rest_of new ≡ record (rest_of old) {
     closes = dropped s.arena old.closes;
-    slots = slots_told (walk_of s.arena 0 ∷ old.sweeps) old.hand;
+    sweeps = walk_of s.arena 0 ∷ old.sweeps;
   }
-  pub sweeps : new.sweeps ≡ walk_of s.arena 0 ∷ old.sweeps
   pub arena : t.arena ≡ s.arena
   pub ends : CanSweep pool new t
   pub over : HasEnded new s.arena
 
 -- of `sweep`, whose own entries take back the pages of the arena: none is lent to it any more
 pub record AfterSweep (pool : Pool) (old new : View) (id : ArenaId) : Type 0 where
-  pub did : KeptAs old new (record (rest_of old) { slots = slots_told (dropped id old.sweeps) old.hand })
-      (AreBacks old.caller)
-  pub sweeps : new.sweeps ≡ dropped id old.sweeps
+  pub did : KeptAs old new (record (rest_of old) { sweeps = dropped id old.sweeps }) (AreBacks old.caller)
   pub ended : HasEnded new id
   pub no_words : HasNoWords new id
   pub outside : IsOutside pool new

@@ -35,7 +35,7 @@ mod visiting;
 pub use closing::close;
 pub use gave_back::GaveBack;
 pub use giving::{give_back, other_handles_last};
-pub use laws::a_close_lasts;
+pub use laws::{a_close_lasts, closes_last_together};
 pub use outcome::Visit;
 pub use shutting::{Shutting, shut};
 pub use sweeping::sweep;

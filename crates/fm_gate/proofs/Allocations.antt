@@ -1,14 +1,14 @@
 -- What is learnt of allocating.
-use Rattle.std.proofs.Common.{◌≡◌, ◌≢◌, ◌⊎◌, ℕ, Bool, true, not, List, [], ◌∷◌, ◌++◌, refl, ap, sym, ◌∙◌, subst, inl, inr, Result, Ok, Err, All}
-use Rattle.std.{specs.Prelude.{IfErr}, proofs.lemmas.List.{append-nil, Elements.{All-head, All-tail, filter-append}}}
+use Rattle.std.proofs.Common.{◌≡◌, ◌≢◌, ◌⊎◌, ℕ, Bool, not, List, [], ◌∷◌, ◌++◌, refl, ap, sym, ◌∙◌, subst, inl, inr, Result, Ok, Err, All}
+use Rattle.std.{specs.Prelude.{Contains, IfErr}, proofs.lemmas.List.{append-nil, Elements.{All-head, All-tail, filter-append}}}
 use Rattle.fm_base.specs.{declared.{caller.Caller.{Caller}, arena_id.ArenaId.{ArenaId}, refusal.Refusal.{Refusal}}, Arenas.{MayUse}}
 use Rattle.fm_base.specs.{Calls.{Enter, Allocate, Leave, Fine, Given, NoRoom, Entry, entry_of}, Does.{DoesEnter, DoesAllocate}, Machine.{IsPower}}
 use Rattle.fm_base.specs.{View.{but_loans, is_loan}, Visits.{refused_visit}}
 use Rattle.fm_base.specs.declared.refusal.Refusal.TheVariants as refusal
-use Rattle.fm_rule_facts.specs.{Loans.{loans_of}, Views.{View, In, IsSound, given_of}}
+use Rattle.fm_rule_facts.{specs.{Loans.{Loan, loans_of}, Views.{View, IsSound, given_of}}, proofs.Lending.{loans_after-append}}
 use Rattle.fm_rule.specs.declared.pool.Pool.{Pool}
 use Rattle.fm_rule_calls.proofs.Going.{goes_none, lasts_on}
-use Rattle.fm_gate.{specs.{Giving.{DoesGive, LendsTo}, Learnt.{AfterEnter, AfterAllocate}, Pages.{FullExactly}, Needs.{CanAllocate}}, proofs.Scarce.{scarce_by}}
+use Rattle.fm_gate.{specs.{Giving.{DoesGive, LendsTo}, Learnt.{AfterEnter, AfterAllocate}, Pages.{AllocatesSo, FullExactly, LentBesides}, Needs.{CanAllocate}}, proofs.Scarce.{scarce_by}}
 
 abbrev err : Refusal → Result ℕ Refusal
 err r = Err r
@@ -21,15 +21,18 @@ nothing r = Err r
 -- What is learnt where no step was made.
 unmoved : {pool : Pool} {p : View} {a : ArenaId} {size align : ℕ} {r : Refusal} → CanAllocate pool p a → IsSound p
     → DoesAllocate p.caller a size align (Err r) [] → err r ≢ err refusal.Closed → r ≢ refusal.Memory → err r ≢ err refusal.PoolFull
-    → FullExactly p a size align (Err r) → AfterAllocate pool p p a size align (Err r)
-unmoved can s does no_close never some exact = record {
+    → FullExactly p a size align (Err r) → AllocatesSo p p a size align (Err r) [] → ((given : ℕ) → err r ≡ err (refusal.NoRoom given) → ⊥)
+    → AfterAllocate pool p p a size align (Err r)
+unmoved can s does no_close never some exact none_so plain = record {
   did = record { own = []; does = does; goes = goes_none s; rest = refl };
   gives = tt;
   held = λ i. no_close;
   never = never;
   no_page = λ e. absurd (some e);
   exact = λ w c n. exact;
-  lends = λ e i loan. absurd i;
+  lends = none_so;
+  lent = λ w. record { kept = λ l i. i; more = λ l i. inl i };
+  no_room = λ w given e. absurd (plain given e);
   bad_alignment = λ e. refl;
   wrong_thread = λ e. refl;
   outside = can.visit.outside;
@@ -38,11 +41,18 @@ unmoved can s does no_close never some exact = record {
 
 pub after_bad : {pool : Pool} {p : View} {a : ArenaId} {size align : ℕ} → CanAllocate pool p a → IsSound p → ¬ (IsPower align)
     → AfterAllocate pool p p a size align (Err refusal.BadAlignment)
-after_bad can s n = unmoved can s (n, refl) (λ e. absurd (cc)) (λ e. absurd (cc)) (λ e. absurd (cc)) tt
+after_bad can s n = unmoved can s (n, refl) (λ e. absurd (cc)) (λ e. absurd (cc)) (λ e. absurd (cc)) tt refl (λ g e. absurd (cc))
 
 pub after_not_his : {pool : Pool} {p : View} {a : ArenaId} {size align : ℕ} → CanAllocate pool p a → IsSound p → IsPower align → ¬ (MayUse a p.caller)
     → AfterAllocate pool p p a size align (Err refusal.WrongThread)
-after_not_his can s power n = unmoved can s (power, n, refl) (λ e. absurd (cc)) (λ e. absurd (cc)) (λ e. absurd (cc)) tt
+after_not_his can s power n = unmoved can s (power, n, refl) (λ e. absurd (cc)) (λ e. absurd (cc)) (λ e. absurd (cc)) tt refl (λ g e. absurd (cc))
+
+-- where the loans are the same
+same_loans : {p q : View} {a : ArenaId} {size align : ℕ} → loans_of q.seen ≡ loans_of p.seen → LentBesides p q a size align
+same_loans e = record {
+  kept = λ l i. subst (λ (ls : List Loan). Contains ls l) (sym e) i;
+  more = λ l i. inl (subst (λ (ls : List Loan). Contains ls l) e i);
+}
 
 -- What is learnt where the arena couldn't be entered.
 pub after_no_entrance : {pool : Pool} {p q : View} {a : ArenaId} {size align : ℕ} (r : Refusal) → IsPower align → AfterEnter pool p q a (Err r)
@@ -54,18 +64,15 @@ after_no_entrance {p = p} {q = q} {a = a} {size = size} {align = align} r power 
   never = never r h.did.does;
   no_page = λ e. full r h.did.does e;
   exact = λ w c s. exact r h.did.does;
-  lends = λ e i loan. absurd (no_loan r h.did.does e i loan);
+  lends = so r h.did.does;
+  lent = λ w. still (h.did.goes.seen ∙ ap (λ (xs : List Entry). p.seen ++ xs) (h.did.goes.alone w)) r h.did.does;
+  no_room = λ w given e. roomy r h.did.does given e;
   bad_alignment = λ e. bad r h.did.does e;
   wrong_thread = λ e. h.wrong_thread (same r h.did.does e);
   outside = h.outside;
   lasts = h.lasts;
 }
   where
-    -- entering lends nothing
-    not_lent : (e : Entry) → In e (refused_visit p.caller a) → is_loan e.call ≡ true → ⊥
-    not_lent e (inl i) loan = let call : e.call ≡ Enter a = ap (λ (k : Entry). k.call) i in absurd (cc)
-    not_lent e (inr i) loan = i
-
     does : (r : Refusal) → DoesEnter p.caller a (Err r) h.did.own → DoesAllocate p.caller a size align (Err r) (but_loans h.did.own)
     does refusal.WrongThread d = (power, d.0, ap but_loans d.1)
     does refusal.Closed d = (power, d.0, ap but_loans d.1)
@@ -86,10 +93,20 @@ after_no_entrance {p = p} {q = q} {a = a} {size = size} {align = align} r power 
     exact refusal.Closed d = tt
     exact r d = absurd d
 
-    no_loan : (r : Refusal) → DoesEnter p.caller a (Err r) h.did.own → (e : Entry) → In e h.did.own → is_loan e.call ≡ true → ⊥
-    no_loan refusal.WrongThread d e i loan = subst (λ (es : List Entry). In e es) d.1 i
-    no_loan refusal.Closed d e i loan = not_lent e (subst (λ (es : List Entry). In e es) d.1 i) loan
-    no_loan r d e i loan = absurd d
+    so : (r : Refusal) → DoesEnter p.caller a (Err r) h.did.own → AllocatesSo p q a size align (Err r) h.did.own
+    so refusal.WrongThread d = ap but_loans d.1 ∙ sym d.1
+    so refusal.Closed d = ap but_loans d.1 ∙ sym d.1
+    so r d = absurd d
+
+    still : q.seen ≡ p.seen ++ h.did.own → (r : Refusal) → DoesEnter p.caller a (Err r) h.did.own → LentBesides p q a size align
+    still seen refusal.WrongThread d = same_loans (ap loans_of (seen ∙ ap (λ (xs : List Entry). p.seen ++ xs) d.1) ∙ loans_after-append [] p.seen [])
+    still seen refusal.Closed d = same_loans (ap loans_of (seen ∙ ap (λ (xs : List Entry). p.seen ++ xs) d.1) ∙ loans_after-append [] p.seen (refused_visit p.caller a))
+    still seen r d = absurd d
+
+    roomy : {X : Type 0} (r : Refusal) → DoesEnter p.caller a (Err r) h.did.own → (given : ℕ) → err r ≡ err (refusal.NoRoom given) → X
+    roomy refusal.WrongThread d given e = absurd (cc)
+    roomy refusal.Closed d given e = absurd (cc)
+    roomy r d given e = absurd d
 
     same : (r : Refusal) → DoesEnter p.caller a (Err r) h.did.own → err r ≡ err refusal.WrongThread → nothing r ≡ nothing refusal.WrongThread
     same refusal.WrongThread d e = refl

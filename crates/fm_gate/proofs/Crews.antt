@@ -3,7 +3,7 @@ use Rattle.std.proofs.Common.{◌≡◌, ◌∙◌, ◌++◌, ℕ, List, Bool, r
 use Rattle.fm_base.specs.{declared.arena_id.ArenaId.{ArenaId}, Calls.{Entry}, Finds.{Find, Gathered, Close, Sweep}}
 use Rattle.fm_rule_facts.specs.{Views.{View, IsSound}, Hands.{Number, no_number}}
 use Rattle.fm_rule.specs.{declared.pool.Pool.{Pool}, Draws.{Asked}}
-use Rattle.fm_rule_calls.{specs.Kept.{Lasts, rest_of}, proofs.{Going.{lasts_by, reached_by}, Sweeps.{no_sweeps}}}
+use Rattle.fm_rule_calls.{specs.Kept.{Lasts, rest_of}, proofs.Going.{lasts_by, reached_by}}
 use Rattle.fm_gate.specs.{Needs.{IsOutside}, Crews.{HasNothing, StandsOn, StandAtDraw, StandsAtGather, SeenIsKnown, NothingIsGathered, CrewStands}}
 
 -- holds, handles, pages, closes and sweeps
@@ -65,10 +65,7 @@ at_gather pool p other q of can g =
 
 -- What is told of a pass tells whether it has anything.
 pub nothing_told : (p q : View) → rest_of q ≡ rest_of p → HasNothing p → HasNothing q
-nothing_told p q rest n = nothing_as (λ j. ((rest j).holds, (rest j).handles, (rest j).pages, (rest j).closes, sweeps j)) n
-  where
-    sweeps : q.sweeps ≡ p.sweeps
-    sweeps = no_sweeps p q rest n.no_sweep ∙ sym n.no_sweep
+nothing_told p q rest n = nothing_as (λ j. ((rest j).holds, (rest j).handles, (rest j).pages, (rest j).closes, (rest j).sweeps)) n
 
 can_gather : NothingIsGathered
 can_gather pool p o n = record {

@@ -1,6 +1,6 @@
 -- What is learnt of allocating inside an arena.
-use Rattle.std.proofs.Common.{◌≡◌, ◌≢◌, ℕ, ◌+◌, ◌*◌, ◌/◌, ◌<◌, ◌≤◌, nat_le, Bool, true, false, if◌then◌else◌, List, [], ◌∷◌, ◌++◌, refl, ap, sym, ◌∙◌, subst, inl, inr, ⊎_elim, All, Some, None, Result, Ok, Err, eq-eqb, append_assoc}
-use Rattle.std.proofs.lemmas.List.Elements.{All-head, All-tail}
+use Rattle.std.proofs.Common.{◌≡◌, ◌≢◌, ℕ, ◌+◌, ◌*◌, ◌/◌, ◌<◌, ◌≤◌, nat_le, Bool, true, false, if◌then◌else◌, List, [], ◌∷◌, ◌++◌, refl, ap, sym, ◌∙◌, subst, inl, inr, ⊎_elim, Some, None, Result, Ok, Err, eq-eqb, append_assoc}
+use Rattle.std.proofs.lemmas.{Bool.{le-leb}, List.{append-nil}}
 use Rattle.fm_words.specs.declared.shape.Shape.{Shape}
 use Rattle.fm_base.specs.declared.{caller.Caller.{Caller}, arena_id.ArenaId.{ArenaId}, refusal.Refusal.{Refusal}}
 use Rattle.fm_base.specs.{Calls.{Allocate, Reply, Given, NoRoom, Entry, entry_of}, Histories.{made_by}, Machine.{allocate_reply, rounded_up}, View.{is_loan}}
@@ -8,14 +8,8 @@ use Rattle.fm_base.specs.declared.refusal.Refusal.TheVariants as refusal
 use Rattle.fm_rule_facts.{specs.{Steps.{where_found, room}, Views.{View, In, limit_of}}, proofs.Keeping.{in_append}}
 use Rattle.fm_rule.specs.declared.pool.Pool.{Pool}
 use Rattle.fm_pages.{specs.{Gives.{Unpaged}, Maps.{Way}}, proofs.{Looking.{all_earlier}, Parts.{way_then, pages_way}}}
-use Rattle.fm_gate.specs.{Giving.{DoesGive, NonePaged, AfterGive}, Pages.{FullExactly, IsInRange, LendsInRange, given_after}}
-use Rattle.fm_gate.proofs.{Gives.{Giving, count_is, inside_on, rest_on, lends_for, lent_way, lends_to, more_lent}, Scarce.{scarce_seen, clear}}
-
--- What holds of all of a list holds of one in it.
-each : (P : Entry → Type 0) (es : List Entry) → All P es → (e : Entry) → In e es → P e
-each P [] h e i = absurd i
-each P (x ∷ xs) h e (inl i) = subst P (sym i) (All-head P x xs h)
-each P (x ∷ xs) h e (inr i) = each P xs (All-tail P x xs h) e i
+use Rattle.fm_gate.specs.{Giving.{DoesGive, NonePaged, AfterGive}, Pages.{FullExactly, IsInRange, LendsFirst, LendsNow, given_after}}
+use Rattle.fm_gate.proofs.{Gives.{Giving, count_is, in_all, inside_on, known_for, rest_on, lends_for, lent_way, lends_to, more_lent}, Scarce.{scarce_seen, clear}}
 
 -- ---- the reply
 
@@ -33,6 +27,13 @@ full_reply limit given size align = go (nat_le (rounded_up given align + size) l
     go : (b : Bool) → None ≡ (if b then Some (rounded_up given align) else None) → (if b then Given (rounded_up given align) else NoRoom given) ≡ NoRoom given
     go true e = absurd (cc)
     go false e = refl
+
+past : (limit count size align : ℕ) → None ≡ room limit count size align → rounded_up count align + size ≤ limit → ⊥
+past limit count size align r h = go (nat_le (rounded_up count align + size) limit) (le-leb (rounded_up count align + size) limit h) r
+  where
+    go : (b : Bool) → b ≡ true → None ≡ (if b then Some (rounded_up count align) else None) → ⊥
+    go true e q = absurd (cc)
+    go false e q = absurd (cc)
 
 abbrev full : Result ℕ Refusal
 full = Err refusal.PoolFull
@@ -57,23 +58,29 @@ module _ {pool : Pool} {o p : View} {a : ArenaId} {size align count found : ℕ}
         (λ j. (eq-eqb found count e j, is j)) g.way
 
     -- All loans came before it.
-    lends_before : (reply : Reply) (x : Entry) → In x (g.own ++ entry_of o.caller (Allocate a size align) reply ∷ []) → is_loan x.call ≡ true
-        → LendsInRange o p a size align x
-    lends_before reply x i loan = ⊎_elim (λ l. each (LendsInRange o p a size align) g.own g.in_range x l)
+    known_before : o.whole ≡ true → (reply : Reply) (x : Entry) → In x (g.own ++ entry_of o.caller (Allocate a size align) reply ∷ [])
+        → is_loan x.call ≡ true → LendsNow o a size align x
+    known_before w reply x i loan = ⊎_elim (λ l. in_all (LendsNow o a size align) g.own x (g.now w) l)
         (λ r. absurd (no_loan reply x r loan)) (in_append x g.own (entry_of o.caller (Allocate a size align) reply ∷ []) i)
 
     -- What is learnt of such an answer.
     after_exchange : (reply : Reply) (result : Result ℕ Refusal) → allocate_reply (limit_of o.shape) count size align ≡ reply
         → DoesGive o.caller a size align result (g.own ++ entry_of o.caller (Allocate a size align) reply ∷ []) → result ≢ full
-        → (o.whole ≡ true → FullExactly o a size align result) → AfterGive pool o p a size align result
-    after_exchange reply result is does some exact =
+        → (o.whole ≡ true → FullExactly o a size align result)
+        → LendsFirst o p a size align result (g.own ++ entry_of o.caller (Allocate a size align) reply ∷ [])
+        → (o.whole ≡ true → (given : ℕ) → result ≡ Err (refusal.NoRoom given)
+        → g.own ++ entry_of o.caller (Allocate a size align) reply ∷ [] ≡ entry_of o.caller (Allocate a size align) (NoRoom given) ∷ [])
+        → AfterGive pool o p a size align result
+    after_exchange reply result is does some exact lends no_room =
         let w = answered reply is in
         record {
           did = record { own = g.own ++ entry_of o.caller (Allocate a size align) reply ∷ []; does = does; goes = w.goes; rest = rest_on w none };
           inside = g.inside;
           no_page = λ q. absurd (some q);
           exact = λ w c s. exact w;
-          lends = lends_before reply;
+          lends = lends;
+          now = λ w x i loan. known_before w reply x i loan;
+          no_room = no_room;
         }
 
     -- What is learnt where the range fits.
@@ -81,12 +88,19 @@ module _ {pool : Pool} {o p : View} {a : ArenaId} {size align count found : ℕ}
     after_fits place r = after_exchange (Given place) (Ok place)
         (given_reply (limit_of o.shape) count size align place (r ∙ ap (λ (n : ℕ). room n count size align) limit_is))
         (record { lends = g.own; are = g.are; is = refl }) (λ q. absurd (cc)) (λ w. g.exact w e)
+        (record { lends = g.own; are = g.in_range; is = refl }) (λ w given q. absurd (cc))
 
     -- And where it doesn't.
     pub after_past : None ≡ room limit count size align → AfterGive pool o p a size align (Err (refusal.NoRoom count))
     after_past r = after_exchange (NoRoom count) (Err (refusal.NoRoom count))
         (full_reply (limit_of o.shape) count size align (r ∙ ap (λ (n : ℕ). room n count size align) limit_is))
         (record { lends = g.own; are = g.are; is = refl }) (λ q. absurd (cc)) (λ w. g.exact w e)
+        (record { lends = g.own; are = g.in_range; is = refl })
+        (λ w given q. ⊎_elim
+        (λ (e : g.own ≡ []). λ j. e j ++ entry_of o.caller (Allocate a size align) (NoRoom (let same : count ≡ given = cc in same j)) ∷ [])
+        (λ (f : rounded_up count align + size ≤ limit_of o.shape). absurd (past (limit_of o.shape) count size align
+        (r ∙ ap (λ (n : ℕ). room n count size align) limit_is) f))
+        (g.fitting w))
 
   -- ---- no page was free
 
@@ -142,7 +156,13 @@ module _ {pool : Pool} {o p : View} {a : ArenaId} {size align count found : ℕ}
       };
       inside = inside_on u.way g.inside;
       no_page = λ e. none_paged;
-      lends = λ e i loan. each (LendsInRange o q a size align) (g.own ++ u.lends) (lends_for g n u.way.goes u.lends u.are) e i;
+      lends = record {
+        lends = g.own ++ u.lends;
+        are = lends_for g n u.way.goes u.lends u.are (λ x i. i) (inr u.fits);
+        is = sym (append-nil (g.own ++ u.lends));
+      };
+      no_room = λ w given e. absurd (cc);
+      now = λ w e i loan. in_all (LendsNow o a size align) (g.own ++ u.lends) e (known_for g n w u.lends u.are (inr u.fits)) i;
       exact = λ w c s.
           scarce_seen (sym before.goes.same_shape) (sym (g.first w n))
           (u.exact (clear p (before.goes.same_whole ∙ w) g.inside.no_slot (pages_way before) (ap (λ (v : View). v.closes) before.is ∙ c)

@@ -1,16 +1,17 @@
 -- Allocating inside an arena.
-use Rattle.std.proofs.Common.{◌≡◌, ◌≢◌, ℕ, ◌+◌, ◌*◌, ◌/◌, ◌<◌, ◌≤◌, ◌==◌, Bool, true, List, [], ◌∷◌, ◌++◌, refl, ap, sym, ◌∙◌, subst, All, ne_eqb, append_assoc}
-use Rattle.std.proofs.lemmas.List.{append-nil, Elements.{All-append, All-head, All-nil, All-tail, All-weaker}}
+use Rattle.std.proofs.Common.{◌≡◌, ◌≢◌, ℕ, ◌+◌, ◌*◌, ◌/◌, ◌<◌, ◌≤◌, ◌==◌, Bool, true, false, cond, List, [], ◌∷◌, ◌++◌, length, length-append, refl, ap, sym, ◌∙◌, subst, arith, inl, inr, ⊎_elim, All, ne_eqb, append_assoc, ◌⊎◌}
+use Rattle.std.proofs.lemmas.List.{append-nil, Elements.{All-append, All-cons, All-head, All-nil, All-tail, All-weaker}}
 use Rattle.fm_words.specs.declared.shape.Shape.{Shape}
-use Rattle.fm_base.specs.{declared.{caller.Caller.{Caller}, arena_id.ArenaId.{ArenaId}}, Arenas.{State, arena_of}}
-use Rattle.fm_base.specs.{Calls.{Allocate, Fine, Lend, Reply, Entry, entry_of}, Histories.{state_after}, Machine.{after, allocate_reply, rounded_up}}
+use Rattle.fm_base.specs.{declared.{caller.Caller.{Caller}, arena_id.ArenaId.{ArenaId}}, Arenas.{State, are_one, arena_of}}
+use Rattle.fm_base.specs.{Calls.{Allocate, Fine, Lend, Reply, Entry, entry_of}, Histories.{made_by, state_after}, Machine.{after, allocate_reply, rounded_up}}
 use Rattle.fm_base.proofs.Making.{state_after-append}
-use Rattle.fm_rule_facts.specs.{Scarcity.{IsScarce}, Steps.{HasParts, Stepped, none_noted, acted, where_found}, Views.{View, given_of, limit_of, state_in}}
+use Rattle.fm_rule_facts.specs.{Scarcity.{IsScarce}, Steps.{HasParts, Stepped, none_noted, acted, where_found}, Views.{View, In, given_of, limit_of, state_in}}
+use Rattle.fm_rule_facts.proofs.Keeping.{in_left}
 use Rattle.fm_rule.specs.declared.pool.Pool.{Pool}
 use Rattle.fm_rule_calls.specs.Kept.{Goes, rest_of}
 use Rattle.fm_pages.{specs.{Covers.{LendsIn}, Gives.{Tried, allocates}, Maps.{Way}}, proofs.{Exact.{tried_exact}, Gives.{way_allocate}}}
 use Rattle.fm_pages.proofs.Parts.{way_then, pages_way}
-use Rattle.fm_gate.{specs.{Giving.{CanTry, LendsTo}, Pages.{LendsInRange, given_after}, Needs.{IsInside}}, proofs.Scarce.{scarce_seen}}
+use Rattle.fm_gate.{specs.{Giving.{CanTry, LendsTo}, Pages.{LendsInRange, LendsNow, given_after}, Needs.{IsInside}}, proofs.Scarce.{scarce_seen}}
 use Rattle.fm_gate.proofs.Outside.{stands_inside}
 
 -- The pass stays inside on such a way.
@@ -27,6 +28,9 @@ pub record Giving (pool : Pool) (o p : View) (a : ArenaId) (size align count fou
   pub own : List Entry
   pub are : All (LendsTo o.caller a) own
   pub in_range : All (LendsInRange o p a size align) own
+  -- a pass that is known to be whole lends pages only for a range that is within the limit, and then the count is that of this range
+  pub now : o.whole ≡ true → All (LendsNow o a size align) own
+  pub fitting : o.whole ≡ true → (own ≡ []) ⊎ (rounded_up count align + size ≤ limit_of o.shape)
   pub way : Way o p (own ++ allocates o a count size align found) []
   pub inside : IsInside pool p a
   pub learnt : found ≢ count → found ≡ given_of p a
@@ -37,21 +41,43 @@ pub record Giving (pool : Pool) (o p : View) (a : ArenaId) (size align count fou
 -- What is lent stays lent for the range.
 lends_on : {o p q : View} {a : ArenaId} {size align : ℕ} {e : Entry} {own : List Entry} → Goes p q own → LendsInRange o p a size align e
     → LendsInRange o q a size align e
-lends_on w l = record {
+lends_on {e = e} w l = record {
   page = l.page;
   part = l.part;
   is = l.is;
   counted = l.counted;
-  count_stood = record {
-    since = l.count_stood.since;
-    until = (
-      l.count_stood.until.0 ++ w.more,
-      w.seen ∙ (ap (λ (es : List Entry). es ++ w.more) l.count_stood.until.1 ∙ append_assoc l.counted l.count_stood.until.0 w.more),
-    );
-  };
-  after = l.after;
-  before = l.before;
+  since = l.since;
+  at = l.at;
+  later = l.later ++ w.more;
+  until = l.until;
+  seen = w.seen ∙ (ap (λ (es : List Entry). es ++ w.more) l.seen ∙ append_assoc l.at (e ∷ l.later) w.more);
+  in_range = record { fits = l.in_range.fits; after = l.in_range.after; before = l.in_range.before };
 }
+
+-- What stands among the entries of one caller stands among all, and there are some before it and some behind it.
+in_made : (c : Caller) (es : List Entry) (e : Entry) → In e (made_by c es) → (xs : List Entry) × (ys : List Entry) × (es ≡ xs ++ e ∷ ys)
+in_made c [] e i = absurd i
+in_made c (x ∷ es) e i = go (in_made c es e) (are_one x.caller c) i
+  where
+    go : (In e (made_by c es) → (xs : List Entry) × (ys : List Entry) × (es ≡ xs ++ e ∷ ys)) → (b : Bool) → In e (cond b (x ∷ made_by c es) (made_by c es)) → (xs : List Entry) × (ys : List Entry) × (x ∷ es ≡ xs ++ e ∷ ys)
+    go rest true (inl q) = ([], es, (λ j. sym q j ∷ es))
+    go rest true (inr j) = let y = rest j in (x ∷ y.0, y.1, ap (λ (zs : List Entry). x ∷ zs) y.2)
+    go rest false j = let y = rest j in (x ∷ y.0, y.1, ap (λ (zs : List Entry). x ∷ zs) y.2)
+
+-- What is so of each that stands in a list holds of all.
+all_in : (P : Entry → Type 0) (xs : List Entry) → ((x : Entry) → In x xs → P x) → All P xs
+all_in P [] f = All-nil P
+all_in P (x ∷ xs) f = All-cons P x xs (f x (inl refl)) (all_in P xs (λ y i. f y (inr i)))
+
+pub in_all : (P : Entry → Type 0) (xs : List Entry) (x : Entry) → All P xs → In x xs → P x
+in_all P [] x h i = absurd i
+in_all P (y ∷ xs) x h (inl e) = subst P (sym e) (All-head P y xs h)
+in_all P (y ∷ xs) x h (inr i) = in_all P xs x (All-tail P y xs h) i
+
+-- A list with nothing added is the same.
+none_more : (xs ys : List Entry) → xs ≡ xs ++ ys → ys ≡ []
+none_more xs [] e = refl
+none_more xs (y ∷ ys) e = let long = ap length e ∙ length-append xs (y ∷ ys) in absurd (omega arith)
 
 -- where another count was found nothing was given
 missed : (o : View) (a : ArenaId) (count size align found : ℕ) → found ≢ count → allocates o a count size align found ≡ []
@@ -77,6 +103,8 @@ gives_begin {pool = pool} {o = o} {m = m} {p = p} a size align count found i c s
   own = [];
   are = All-nil (LendsTo o.caller a);
   in_range = All-nil (LendsInRange o p a size align);
+  now = λ w. All-nil (LendsNow o a size align);
+  fitting = λ w. inl refl;
   way = way;
   inside = here;
   learnt = l;
@@ -124,24 +152,61 @@ module _ {pool : Pool} {o p : View} {a : ArenaId} {size align count found : ℕ}
 
   -- What that try lends is lent for the range too.
   pub lends_for : {q : View} {es : List Entry} → Goes p q es → (xs : List Entry) → All (LendsIn p a found to) xs
-      → All (LendsInRange o q a size align) (g.own ++ xs)
-  lends_for {q = q} w xs h =
+      → ((x : Entry) → In x xs → In x es) → (xs ≡ []) ⊎ (to ≤ limit_of p.shape) → All (LendsInRange o q a size align) (g.own ++ xs)
+  lends_for {q = q} {es = es} w xs h among fits =
       All-append (LendsInRange o q a size align) g.own xs (All-weaker (LendsInRange o p a size align) (LendsInRange o q a size align) (λ e l. lends_on w l)
-      g.own g.in_range) (All-weaker (LendsIn p a found to) (LendsInRange o q a size align) lends_now xs h)
+      g.own g.in_range) (all_in (LendsInRange o q a size align) xs (λ e i. lends_now e i (in_all (LendsIn p a found to) xs e h i)))
     where
       same : ◌≡◌ {A = Shape × ℕ} (p.shape, found) (o.shape, given_after o p.seen a)
       same = λ j. (lent_way.goes.same_shape j, sym count_is j)
 
-      lends_now : (e : Entry) → LendsIn p a found to e → LendsInRange o q a size align e
-      lends_now e l = record {
+      room_for : (e : Entry) → In e xs → to ≤ limit_of p.shape
+      room_for e i = ⊎_elim (λ (q : xs ≡ []). absurd (subst (In e) q i)) (λ f. f) fits
+
+      lends_now : (e : Entry) → In e xs → LendsIn p a found to e → LendsInRange o q a size align e
+      lends_now e i l =
+          let y = in_made p.caller w.more e (subst (In e) (sym w.by_pass) (among e i)) in
+          record {
+            page = l.0;
+            part = l.1;
+            is = l.4 ∙ ap (λ (c : Caller). entry_of c (Lend l.0 a l.1) Fine) lent_way.goes.same_caller;
+            counted = p.seen;
+            since = (lent_way.goes.more, lent_way.goes.seen);
+            at = p.seen ++ y.0;
+            later = y.1;
+            until = (y.0, refl);
+            seen = w.seen ∙ (ap (λ (zs : List Entry). p.seen ++ zs) y.2 ∙ sym (append_assoc p.seen y.0 (e ∷ y.1)));
+            in_range = record {
+              fits = subst (λ (x : Shape × ℕ). rounded_up x.1 align + size ≤ limit_of x.0) same (room_for e i);
+              after = subst (λ (x : Shape × ℕ). x.1 / (x.0.page_words * 8) ≤ l.1) same l.2;
+              before = subst (λ (x : Shape × ℕ). l.1 * (x.0.page_words * 8) < rounded_up x.1 align + size) same l.3;
+            };
+          }
+
+  -- a pass that is known to be whole has lent nothing so far
+  none_lent : o.whole ≡ true → g.own ≡ []
+  none_lent w = sym (lent_way.goes.alone w) ∙ none_more o.seen lent_way.goes.more (sym (g.first w n) ∙ lent_way.goes.seen)
+
+  -- and what the next try lends is for the range that it knew before the call
+  pub known_for : o.whole ≡ true → (xs : List Entry) → All (LendsIn p a found to) xs → (xs ≡ []) ⊎ (to ≤ limit_of p.shape)
+      → All (LendsNow o a size align) (g.own ++ xs)
+  known_for w xs h fits =
+      let same : ◌≡◌ {A = Shape × ℕ} (p.shape, found) (o.shape, given_of o a) =
+      λ j. (lent_way.goes.same_shape j, (sym count_is ∙ ap (λ (es : List Entry). given_after o es a) (g.first w n)) j) in
+      subst (λ (es : List Entry). All (LendsNow o a size align) (es ++ xs)) (sym (none_lent w))
+      (all_in (LendsNow o a size align) xs (λ e i.
+      let l = in_all (LendsIn p a found to) xs e h i in
+      let room : to ≤ limit_of p.shape = ⊎_elim (λ (q : xs ≡ []). absurd (subst (In e) q i)) (λ f. f) fits in
+      record {
         page = l.0;
         part = l.1;
-        is = l.4 ∙ ap (λ (c : Caller). entry_of c (Lend l.0 a l.1) Fine) lent_way.goes.same_caller;
-        counted = p.seen;
-        count_stood = record { since = (lent_way.goes.more, lent_way.goes.seen); until = (w.more, w.seen) };
-        after = subst (λ (x : Shape × ℕ). x.1 / (x.0.page_words * 8) ≤ l.1) same l.2;
-        before = subst (λ (x : Shape × ℕ). l.1 * (x.0.page_words * 8) < rounded_up x.1 align + size) same l.3;
-      }
+        is = ap (λ (x : Entry). x.call) l.4;
+        in_range = record {
+          fits = subst (λ (x : Shape × ℕ). rounded_up x.1 align + size ≤ limit_of x.0) same room;
+          after = subst (λ (x : Shape × ℕ). x.1 / (x.0.page_words * 8) ≤ l.1) same l.2;
+          before = subst (λ (x : Shape × ℕ). l.1 * (x.0.page_words * 8) < rounded_up x.1 align + size) same l.3;
+        };
+      }))
 
   module _ {q : View} {now : ℕ} (t : Tried p q a found size align now) where
     -- a pass that is known to be whole finds the count that it has learnt
@@ -166,7 +231,12 @@ module _ {pool : Pool} {o p : View} {a : ArenaId} {size align count found : ℕ}
         record {
           own = g.own ++ t.lends;
           are = more_lent t.lends (lends_to p a found to t.lends t.are);
-          in_range = lends_for t.way.goes t.lends t.are;
+          in_range = lends_for t.way.goes t.lends t.are (λ x i. in_left x t.lends (allocates p a found size align now) i) t.fits;
+          now = λ w. known_for w t.lends t.are t.fits;
+          fitting = λ w. ⊎_elim
+              (λ (e : t.lends ≡ []). inl (ap (λ (es : List Entry). es ++ t.lends) (none_lent w) ∙ e))
+              (λ (f : to ≤ limit_of p.shape). inr (subst (λ (z : Shape). to ≤ limit_of z) lent_way.goes.same_shape f))
+              t.fits;
           way = subst (λ (es : List Entry). Way o q es []) (sym (append_assoc g.own t.lends (allocates o a found size align now))) (way_then lent_way next);
           inside = inside_on t.way g.inside;
           learnt = t.learnt;

@@ -8,7 +8,8 @@ use Rattle.fm_rule_facts.{specs.Steps.{Stepped, none_noted}, proofs.Gripping.{ho
 use Rattle.fm_rule.specs.declared.pool.Pool.{Pool}
 use Rattle.fm_rule_calls.specs.Kept.{Goes, rest_of}
 use Rattle.fm_rule_calls.proofs.Going.{goes_none, kept_none, no_draws, made_by-one, rest_is, hand_is, inside_is, mark_is, known_on, lasts_on, goes_step}
-use Rattle.fm_gate.specs.{declared.held.Hold.{Hold as TheHold}, Makers.{made_by_pass}, Needs.{IsOutside, CanVisit, CanUnhold}}
+use Rattle.fm_pages.specs.Makers.{made_by_pass}
+use Rattle.fm_gate.specs.{declared.held.Hold.{Hold as TheHold}, Needs.{IsOutside, CanVisit, CanUnhold}}
 use Rattle.fm_gate.{specs.Learnt.{AfterHold, AfterTake, AfterUnhold, DoesTake}, proofs.Outside.{swept_is, stands_outside, stands_inside}}
 use Rattle.fm_gate.proofs.Takes.{hold_full, hold_fine}
 

@@ -4,17 +4,17 @@ use Rattle.fm_base.specs.{declared.{caller.Caller.{Caller}, arena_id.ArenaId.{Ar
 use Rattle.fm_base.proofs.Outcomes.{opened_new}
 use Rattle.fm_base.specs.declared.kind.Kind.TheVariants as kind
 use Rattle.fm_base.specs.declared.refusal.Refusal.TheVariants as refusal
-use Rattle.fm_rule_facts.specs.{Hands.{Hand, nothing}, Loans.{loans_of, loans_after}, Views.{View, In}, Holds.{is_automatic, handles_with}}
+use Rattle.fm_rule_facts.specs.{Hands.{Hand, nothing, slots_in}, Loans.{loans_of, loans_after}, Views.{View, In}, Holds.{is_automatic, handles_with}}
 use Rattle.fm_rule_facts.proofs.{Gripping.{automatic}, Lending.{loans_after-append}}
 use Rattle.fm_rule.specs.declared.pool.Pool.{Pool}
-use Rattle.fm_rule_calls.{specs.{Kept.{Goes, rest_of, slots_told}, Told.{silent_view}}, proofs.{Going.{goes_then, lasts_on}, Telling.{silent_makes}}}
+use Rattle.fm_rule_calls.{specs.{Kept.{Goes, rest_of}, Told.{silent_view}}, proofs.{Going.{goes_then, lasts_on}, Telling.{silent_makes}}}
 use Rattle.fm_gate.specs.{Needs.{IsOutside}, Slots.{SlotTaken, NoneTaken, OpenedIn}, Learnt.{IsNew, handles_opened, AfterOpen}}
 use Rattle.fm_gate.proofs.Outside.{of_on, stands_outside}
 
 -- What the pass has then is what it had, but for these handles: it has no slot.
 rest_with : (p q : View) (hs : List ArenaId) → p.hand ≡ nothing → q ≡ record p { seen = q.seen; finds = q.finds; hand = nothing; handles = hs }
     → rest_of q ≡ record (rest_of p) { handles = hs }
-rest_with p q hs h is = ap rest_of is ∙ ap (λ (x : Hand). record (rest_of p) { slots = slots_told p.sweeps x; handles = hs }) (sym h)
+rest_with p q hs h is = ap rest_of is ∙ ap (λ (x : Hand). record (rest_of p) { slots = slots_in x; handles = hs }) (sym h)
 
 no_handle : (k : Kind) (hs : List ArenaId) → hs ≡ handles_opened k (Err refusal.NoSlot) hs
 no_handle kind.Global hs = refl
@@ -39,6 +39,7 @@ after_no_slot {p = p} {q = q} {k = k} out n =
         goes = n.went.goes;
         rest = rest_with p q p.handles out.no_slot is ∙ ap (λ (hs : List ArenaId). record (rest_of p) { handles = hs }) (no_handle k p.handles);
       };
+      no_loan = refl;
       is_new = tt;
       handle = λ e. tt;
       slot = tt;
@@ -93,6 +94,7 @@ module _ {p m q : View} {a : ArenaId} {slot : ℕ} {k : Kind} (t : SlotTaken p m
       rest = rest_with p q (handles_with a p.handles) out.no_slot is
           ∙ ap (λ (hs : List ArenaId). record (rest_of p) { handles = hs }) (handles_by k a p.handles o.kind);
     };
+    no_loan = refl;
     is_new = is_new;
     handle = λ auto. record {
       of = of_on pool goes out.of;

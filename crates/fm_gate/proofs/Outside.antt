@@ -4,7 +4,8 @@ use Rattle.fm_base.specs.{declared.arena_id.ArenaId.{ArenaId}, Calls.{Entry}, Fi
 use Rattle.fm_rule_facts.specs.{Hands.{nothing, no_number}, Parts.{unread}, Views.{View}, Steps.{Stepped}}
 use Rattle.fm_rule.specs.{declared.pool.Pool.{Pool}, Passes.{IsOf}}
 use Rattle.fm_rule_calls.specs.Kept.{Goes}
-use Rattle.fm_gate.specs.{Makers.{made_by_pass}, Needs.{IsOutside, IsInside}}
+use Rattle.fm_pages.specs.Makers.{made_by_pass}
+use Rattle.fm_gate.specs.Needs.{IsOutside, IsInside}
 
 -- It is the maker that it was.
 pub made_on : {p q : View} {own : List Entry} → Goes p q own → made_by_pass q ≡ made_by_pass p

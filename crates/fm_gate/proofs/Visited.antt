@@ -1,17 +1,19 @@
 -- What is learnt of allocating, from entering the arena to leaving it.
-use Rattle.std.proofs.Common.{◌≡◌, ℕ, ◌+◌, ◌*◌, ◌/◌, ◌<◌, ◌≤◌, true, List, [], ◌∷◌, ◌++◌, refl, ap, ◌∙◌, subst, inl, inr, ⊎_elim, Option, Result, Ok, append_assoc}
-use Rattle.std.proofs.lemmas.List.Elements.{filter-append}
+use Rattle.std.proofs.Common.{◌≡◌, ◌⊎◌, sym, ⊎_elim, ℕ, ◌+◌, ◌*◌, ◌/◌, ◌<◌, ◌≤◌, true, List, [], ◌∷◌, ◌++◌, refl, ap, ◌∙◌, subst, inl, inr, Option, Result, Ok, Err, append_assoc}
+use Rattle.std.specs.Prelude.{Contains}
+use Rattle.std.proofs.lemmas.List.Elements.{All-weaker, filter-append}
 use Rattle.fm_words.specs.declared.shape.Shape.{Shape}
 use Rattle.fm_base.specs.{declared.{caller.Caller.{Caller}, arena_id.ArenaId.{ArenaId}, refusal.Refusal.{Refusal}}, Arenas.{State, arena_of}}
-use Rattle.fm_base.specs.{Calls.{Enter, Leave, Lend, Fine, Entry, entry_of}, Does.{DoesAct, DoesAllocate}, Finds.{Rest}, Histories.{made_by, state_after}}
+use Rattle.fm_base.specs.{Calls.{Call, Enter, Allocate, Back, Leave, Lend, Fine, Given, NoRoom, Entry, entry_of}, Does.{DoesAct, DoesAllocate}, Finds.{Rest}, Histories.{made_by, state_after}}
 use Rattle.fm_base.{specs.{Machine.{IsPower, entered, rounded_up}, View.{but_loans, is_loan}}, proofs.{Learning.{allocate_gives}, Lookup.{changed_lookup}}}
 use Rattle.fm_base.proofs.Making.{state_after-append}
-use Rattle.fm_rule_facts.{specs.{Loans.{loans_of}, Views.{View, In, given_of, limit_of, state_in}}, proofs.{Keeping.{in_append}, Lending.{loans_after-append}}}
+use Rattle.fm_base.specs.declared.refusal.Refusal.TheVariants as refusal
+use Rattle.fm_rule_facts.{specs.{Loans.{Loan, loan_of, loans_after, loans_by, loans_of}, Views.{View, In, given_of, limit_of, state_in}}, proofs.{Keeping.{in_append}, Lending.{loans_after-append, loan_cases, more_loans}}}
 use Rattle.fm_rule.specs.declared.pool.Pool.{Pool}
-use Rattle.fm_rule_calls.{specs.{Kept.{Goes, Kept}, Told.{view_of_pass}}, proofs.{Going.{goes_then, lasts_on}, Sweeps.{no_sweeps}, Telling.{did_of}}}
+use Rattle.fm_rule_calls.{specs.{Kept.{Goes, Kept}, Told.{view_of_pass}}, proofs.{Going.{goes_then, lasts_on}, Telling.{did_of}}}
 use Rattle.fm_pages.proofs.Looking.{all_earlier, found_later}
 use Rattle.fm_gate.specs.{Giving.{AfterGive, DoesGive, NonePaged}, Learnt.{AfterEnter, AfterLeave, AfterAllocate}}
-use Rattle.fm_gate.{specs.Pages.{FoundNoPage, IsDuring, IsInRange, LendsInRange, given_after}, proofs.Allocations.{alike, exact_by, never_so, unlike}}
+use Rattle.fm_gate.{specs.Pages.{AllocatesSo, FoundNoPage, IsDuring, IsInRange, LendsFirst, LendsInRange, LendsNow, LendsThen, given_after}, proofs.Allocations.{alike, exact_by, never_so, unlike}}
 
 -- ---- no page was free
 
@@ -57,32 +59,82 @@ module _ {p q : View} {a : ArenaId} (first : Goes p q (entry_of p.caller (Enter 
         };
       }
 
-  -- What is lent inside is lent in the whole call, and nothing else is.
-  lent_whole : {r s : View} {size align : ℕ} → Goes r s (entry_of p.caller (Leave a) Fine ∷ []) → (e : Entry) (own : List Entry)
-      → ((x : Entry) → In x own → is_loan x.call ≡ true → LendsInRange q r a size align x)
-      → In e (entry_of p.caller (Enter a) Fine ∷ own ++ entry_of p.caller (Leave a) Fine ∷ []) → is_loan e.call ≡ true
-      → LendsInRange p s a size align e
-  lent_whole last e own lends (inl i) loan = let call : e.call ≡ Enter a = ap (λ (k : Entry). k.call) i in absurd (cc)
-  lent_whole {r = r} {s = s} {size = size} {align = align} last e own lends (inr i) loan =
-      ⊎_elim (λ l. lent_on (lends e l loan)) (λ l. absurd (not_leaving l)) (in_append e own (entry_of p.caller (Leave a) Fine ∷ []) i)
-    where
-      not_leaving : In e (entry_of p.caller (Leave a) Fine ∷ []) → ⊥
-      not_leaving (inl j) = let call : e.call ≡ Leave a = ap (λ (k : Entry). k.call) j in absurd (cc)
-      not_leaving (inr j) = j
+  -- What is lent inside is lent in the whole call.
+  module _ {r s : View} (size align : ℕ) (last : Goes r s (entry_of p.caller (Leave a) Fine ∷ [])) where
+    lent_on : (e : Entry) → LendsInRange q r a size align e → LendsInRange p s a size align e
+    lent_on e l = record {
+      page = l.page;
+      part = l.part;
+      is = l.is ∙ ap (λ (c : Caller). entry_of c (Lend l.page a l.part) Fine) first.same_caller;
+      counted = l.counted;
+      since = (
+        first.more ++ l.since.0,
+        l.since.1 ∙ (ap (λ (xs : List Entry). xs ++ l.since.0) first.seen ∙ append_assoc p.seen first.more l.since.0),
+      );
+      at = l.at;
+      later = l.later ++ last.more;
+      until = l.until;
+      seen = last.seen ∙ (ap (λ (xs : List Entry). xs ++ last.more) l.seen ∙ append_assoc l.at (e ∷ l.later) last.more);
+      in_range = range_on a size align l.part l.counted first l.in_range;
+    }
 
-      lent_on : LendsInRange q r a size align e → LendsInRange p s a size align e
-      lent_on l =
-          let count : Shape → ℕ = λ z. (arena_of (state_after (limit_of z) [] l.counted) a).given in
-          let shape = first.same_shape in
-          record {
-            page = l.page;
-            part = l.part;
-            is = l.is ∙ ap (λ (c : Caller). entry_of c (Lend l.page a l.part) Fine) first.same_caller;
-            counted = l.counted;
-            count_stood = during_on first last l.count_stood;
-            after = subst (λ (z : Shape). count z / (z.page_words * 8) ≤ l.part) shape l.after;
-            before = subst (λ (z : Shape). l.part * (z.page_words * 8) < rounded_up (count z) align + size) shape l.before;
-          }
+    then_on : (acts own : List Entry) → LendsThen q r a size align acts own → LendsThen p s a size align acts own
+    then_on acts own h = record {
+      lends = h.lends;
+      are = All-weaker (LendsInRange q r a size align) (LendsInRange p s a size align) lent_on h.lends h.are;
+      is = h.is;
+    }
+
+    first_on : (result : Result ℕ Refusal) (own : List Entry) → LendsFirst q r a size align result own → LendsFirst p s a size align result own
+    first_on (Ok place) own h =
+        then_on (entry_of p.caller (Allocate a size align) (Given place) ∷ []) own
+        (subst (λ (c : Caller). LendsThen q r a size align (entry_of c (Allocate a size align) (Given place) ∷ []) own) first.same_caller h)
+    first_on (Err (refusal.NoRoom given)) own h =
+        then_on (entry_of p.caller (Allocate a size align) (NoRoom given) ∷ []) own
+        (subst (λ (c : Caller). LendsThen q r a size align (entry_of c (Allocate a size align) (NoRoom given) ∷ []) own) first.same_caller h)
+    first_on (Err refusal.PoolFull) own h = then_on [] own h
+    first_on (Err r) own h = absurd h
+
+    -- So are all entries of the call.
+    all_so : (result : Result ℕ Refusal) (own : List Entry) → LendsFirst q r a size align result own
+        → AllocatesSo p s a size align result (entry_of p.caller (Enter a) Fine ∷ own ++ entry_of p.caller (Leave a) Fine ∷ [])
+    all_so (Ok place) own h = record { inside = own; lends = first_on (Ok place) own h; is = refl }
+    all_so (Err (refusal.NoRoom given)) own h = record { inside = own; lends = first_on (Err (refusal.NoRoom given)) own h; is = refl }
+    all_so (Err refusal.PoolFull) own h = record { inside = own; lends = first_on (Err refusal.PoolFull) own h; is = refl }
+    all_so (Err r) own h = absurd h
+
+  -- ---- what a whole pass leaves lent
+
+  one_kept : (loans : List Loan) (call : Call) → (is_loan call ≡ true → (page : ℕ) × (part : ℕ) × (call ≡ Lend page a part)) → (l : Loan)
+      → Contains loans l → Contains (loans_by loans call) l
+  one_kept loans (Lend block id part) h l c = more_loans (loan_of block id part) l loans c
+  one_kept loans (Back block) h l c = let y = h refl in let e = y.2 in absurd (cc)
+  one_kept loans call h l c = c
+
+  all_kept : (loans : List Loan) (es : List Entry) → ((e : Entry) → In e es → is_loan e.call ≡ true → (page : ℕ) × (part : ℕ) × (e.call ≡ Lend page a part))
+      → (l : Loan) → Contains loans l → Contains (loans_after loans es) l
+  all_kept loans [] h l c = c
+  all_kept loans (e ∷ es) h l c = all_kept (loans_by loans e.call) es (λ x i. h x (inr i)) l (one_kept loans e.call (h e (inl refl)) l c)
+
+  module _ (R : ℕ → Type 0) where
+    one_more : (loans : List Loan) (call : Call) → (is_loan call ≡ true → (page : ℕ) × (part : ℕ) × (call ≡ Lend page a part) × R part) → (l : Loan)
+        → Contains (loans_by loans call) l → Contains loans l ⊎ ((l.id ≡ a) × R l.part)
+    one_more loans (Lend block id part) h l c =
+        let y = h refl in
+        let same : part ≡ y.1 = (let e = y.2 in cc) in
+        let of : id ≡ a = (let e = y.2 in cc) in
+        ⊎_elim
+        (λ (e : loan_of block id part ≡ l). inr (sym (ap (λ (x : Loan). x.id) e) ∙ of, subst R (sym same ∙ ap (λ (x : Loan). x.part) e) y.3))
+        inl (loan_cases (loan_of block id part) l loans c)
+    one_more loans (Back block) h l c = let y = h refl in let e = y.2 in absurd (cc)
+    one_more loans call h l c = inl c
+
+    all_more : (loans : List Loan) (es : List Entry)
+        → ((e : Entry) → In e es → is_loan e.call ≡ true → (page : ℕ) × (part : ℕ) × (e.call ≡ Lend page a part) × R part)
+        → (l : Loan) → Contains (loans_after loans es) l → Contains loans l ⊎ ((l.id ≡ a) × R l.part)
+    all_more loans [] h l c = inl c
+    all_more loans (e ∷ es) h l c = ⊎_elim (λ d. one_more loans e.call (h e (inl refl)) l d) inr
+        (all_more (loans_by loans e.call) es (λ x i. h x (inr i)) l c)
 
   -- ---- whether pages are too few
 
@@ -101,6 +153,29 @@ module _ {p q : View} {a : ArenaId} (first : Goes p q (entry_of p.caller (Enter 
         ∙ changed_lookup (λ x y. y.given ≡ x.given) (entered p.caller) (λ x. refl) (λ x. refl) (state_in p) a refl a)
 
 -- ---- the whole call
+
+-- what a whole pass lent inside, by all of the call's entries
+lends_all : (p q : View) (a : ArenaId) (size align : ℕ) → q.shape ≡ p.shape → given_of q a ≡ given_of p a → (c : Caller) (own : List Entry)
+    → ((e : Entry) → In e own → is_loan e.call ≡ true → LendsNow q a size align e)
+    → (e : Entry) → In e (entry_of c (Enter a) Fine ∷ own ++ entry_of c (Leave a) Fine ∷ []) → is_loan e.call ≡ true
+    → (page : ℕ) × (part : ℕ) × (e.call ≡ Lend page a part) × IsInRange p (given_of p a) size align part
+lends_all p q a size align shape given c own h e (inl i) loan = let call : e.call ≡ Enter a = ap (λ (k : Entry). k.call) i in absurd (cc)
+lends_all p q a size align shape given c own h e (inr i) loan = ⊎_elim
+    (λ j. let l = h e j loan in (
+      l.page,
+      l.part,
+      l.is,
+      record {
+        fits = subst (λ (x : Shape × ℕ). rounded_up x.1 align + size ≤ limit_of x.0) (λ k. (shape k, given k)) l.in_range.fits;
+        after = subst (λ (x : Shape × ℕ). x.1 / (x.0.page_words * 8) ≤ l.part) (λ k. (shape k, given k)) l.in_range.after;
+        before = subst (λ (x : Shape × ℕ). l.part * (x.0.page_words * 8) < rounded_up x.1 align + size) (λ k. (shape k, given k)) l.in_range.before;
+      },
+    ))
+    (λ j. absurd (not_leaving j loan)) (in_append e own (entry_of c (Leave a) Fine ∷ []) i)
+  where
+    not_leaving : In e (entry_of c (Leave a) Fine ∷ []) → is_loan e.call ≡ true → ⊥
+    not_leaving (inl j) loan = let call : e.call ≡ Leave a = ap (λ (k : Entry). k.call) j in absurd (cc)
+    not_leaving (inr j) loan = j
 
 pub after_allocate : {pool : Pool} {p q r s : View} {a : ArenaId} {size align : ℕ} (result : Result ℕ Refusal) (u : Unit {0}) → IsPower align
     → AfterEnter pool p q a (Ok u) → AfterGive pool q r a size align result → AfterLeave pool r s → AfterAllocate pool p s a size align result
@@ -128,8 +203,22 @@ after_allocate {p = p} {q = q} {r = r} {s = s} {a = a} {size = size} {align = al
       no_page = λ e. found_no_page first gives.did.goes last (gives.no_page e);
       exact = λ w closes sweeps.
           exact_by p q a size align result first.same_shape (entered_given first w) (entered_loans first w)
-          (gives.exact (first.same_whole ∙ w) (ap (λ (x : Rest). x.closes) enters.did.rest ∙ closes) (no_sweeps p q enters.did.rest sweeps));
-      lends = λ e i loan. (inl refl, lent_whole first last e gives.did.own gives.lends i loan);
+          (gives.exact (first.same_whole ∙ w) (ap (λ (x : Rest). x.closes) enters.did.rest ∙ closes) (ap (λ (x : Rest). x.sweeps) enters.did.rest ∙ sweeps));
+      lends = all_so first size align last result gives.did.own gives.lends;
+      lent = λ w.
+          let es : List Entry = entry_of c (Enter a) Fine ∷ gives.did.own ++ entry_of c (Leave a) Fine ∷ [] in
+          let now : loans_of s.seen ≡ loans_after (loans_of p.seen) es =
+          ap loans_of (all.seen ∙ ap (λ (xs : List Entry). p.seen ++ xs) (all.alone w)) ∙ loans_after-append [] p.seen es in
+          let each = lends_all p q a size align first.same_shape (entered_given first w) c gives.did.own (gives.now (first.same_whole ∙ w)) in
+          record {
+            kept = λ l i. subst (λ (ls : List Loan). Contains ls l) (sym now)
+                (all_kept first (loans_of p.seen) es (λ e j loan. let y = each e j loan in (y.0, y.1, y.2)) l i);
+            more = λ l i. all_more first (IsInRange p (given_of p a) size align) (loans_of p.seen) es each l (subst (λ (ls : List Loan). Contains ls l) now i);
+          };
+      no_room = λ w given e.
+          let own = gives.no_room (first.same_whole ∙ w) given e in
+          λ j. entry_of c (Enter a) Fine ∷ (own ∙ ap (λ (x : Caller). entry_of x (Allocate a size align) (NoRoom given) ∷ []) same) j
+          ++ entry_of c (Leave a) Fine ∷ [];
       bad_alignment = λ e. unlike c a size align result gives.did.own does (inl e);
       wrong_thread = λ e. unlike c a size align result gives.did.own does (inr (inl e));
       outside = leaves.outside;

@@ -7,7 +7,7 @@ use Rattle.fm_rule_facts.specs.{Views.{View, In, limit_of}, Steps.{HasParts}}
 use Rattle.fm_rule.specs.declared.pool.Pool.{Pool}
 use Rattle.fm_rule_calls.specs.Kept.{Kept}
 use Rattle.fm_pages.specs.{Claims.{AllFoundEmpty}, Maps.{Way}}
-use Rattle.fm_gate.specs.{Pages.{LackedPart, FullExactly, LendsInRange}, Needs.{IsInside}}
+use Rattle.fm_gate.specs.{Pages.{LackedPart, FullExactly, LendsFirst, LendsNow}, Needs.{IsInside}}
 
 -- ---- the count to expect first
 
@@ -54,4 +54,7 @@ pub record AfterGive (pool : Pool) (old new : View) (id : ArenaId) (size align :
   pub inside : IsInside pool new id
   pub no_page : result ≡ Err refusal.PoolFull → NonePaged old new id size align
   pub exact : old.whole ≡ true → old.closes ≡ [] → old.sweeps ≡ [] → FullExactly old id size align result
-  pub lends : (e : Entry) → In e did.own → is_loan e.call ≡ true → LendsInRange old new id size align e
+  pub lends : LendsFirst old new id size align result did.own
+  pub now : old.whole ≡ true → (e : Entry) → In e did.own → is_loan e.call ≡ true → LendsNow old id size align e
+  pub no_room : old.whole ≡ true → (given : ℕ) → result ≡ Err (refusal.NoRoom given)
+      → did.own ≡ entry_of old.caller (Allocate id size align) (NoRoom given) ∷ []

@@ -1,16 +1,16 @@
 -- What the caller of each call of the gate learns: one record each.
 use Rattle.std.specs.Prelude.{◌≡◌, ◌≢◌, ℕ, ◌<◌, ◌≤◌, length, Bool, List, [], ◌∷◌, true, None, Result, Ok, Err, IfOk, IfErr}
 use Rattle.fm_base.specs.declared.{caller.Caller.{Caller}, arena_id.ArenaId.{ArenaId}, kind.Kind.{Kind, TheVariants.{Automatic}}, refusal.Refusal.{Refusal}}
-use Rattle.fm_base.specs.{declared.refusal.Refusal.TheVariants.{WrongThread, NoSlot}, Calls.{Call, Enter, Hold as Holding, Leave, Reply, Fine, Entry, entry_of}}
+use Rattle.fm_base.specs.{declared.refusal.Refusal.TheVariants.{WrongThread, NoSlot}, Calls.{Call, Hold as Holding, Leave, Reply, Fine, Entry, entry_of}}
 use Rattle.fm_base.specs.Finds.{FoundNothing, is_slot}
 use Rattle.fm_base.specs.{Does.{DoesEnter, DoesAct, DoesPatch, DoesOpen, DoesAllocate, DoesIsAlive, DoesHold, DoesUnhold, DoesAgain}, Outcomes.{Gives}}
-use Rattle.fm_base.specs.View.{but_loans, is_loan}
+use Rattle.fm_base.specs.View.{but_loans}
 use Rattle.fm_base.specs.declared.refusal.Refusal.TheVariants as refusal
 use Rattle.fm_rule_facts.specs.{Views.{View, In, IsKnown, IsBusy}, Loans.{loans_of}, Holds.{grips, with_grips, holds_after, released}}
 use Rattle.fm_rule_facts.specs.Words.{alive_holds, hold_found}
 use Rattle.fm_rule.specs.declared.pool.Pool.{Pool}
 use Rattle.fm_rule_calls.specs.{Kept.{Goes, Kept, KeptHolding, KeptHandling, Lasts, rest_of}, Told.{view_of_pass}}
-use Rattle.fm_gate.specs.{Pages.{FoundNoPage, FullExactly, LendsInRange}, Needs.{IsOutside, IsInside, CanUnhold, HasHandle}, declared.held.Hold.{Hold}}
+use Rattle.fm_gate.specs.{Pages.{AllocatesSo, FoundNoPage, FullExactly, LendsNone, LentBesides}, Needs.{IsOutside, IsInside, CanUnhold, HasHandle}, declared.held.Hold.{Hold}}
 
 -- of `enter`
 pub record AfterEnter (pool : Pool) (old new : View) (id : ArenaId) (result : Result (Unit {0}) Refusal) : Type 0 where
@@ -77,6 +77,8 @@ handles_opened kind result hs = hs
 -- gets it exactly where every slot is busy
 pub record AfterOpen (pool : Pool) (old new : View) (kind : Kind) (result : Result ArenaId Refusal) : Type 0 where
   pub did : KeptHandling old new (handles_opened kind result old.handles) (λ own. DoesOpen old.caller kind result (but_loans own))
+  -- it lends no page, and takes none back
+  pub no_loan : but_loans did.own ≡ did.own
   pub is_new : IfOk result (λ id. IsNew old new id)
   pub handle : kind ≡ Automatic → IfOk result (λ id. HasHandle pool new id)
   pub slot : IfOk result (λ _. old.whole ≡ true → ¬ (AllBusy old))
@@ -99,9 +101,12 @@ pub record AfterAllocate (pool : Pool) (old new : View) (id : ArenaId) (size ali
   pub no_page : result ≡ Err refusal.PoolFull → FoundNoPage old new id size align
   -- a pass that is known to be whole, and has swept what it shut, is refused so exactly where pages are too few
   pub exact : old.whole ≡ true → old.closes ≡ [] → old.sweeps ≡ [] → FullExactly old id size align result
-  -- it lends pages for parts of its range alone, once it has entered
-  pub lends : (e : Entry) → In e did.own → is_loan e.call ≡ true
-      → In (entry_of old.caller (Enter id) Fine) did.own × LendsInRange old new id size align e
+  -- it enters, lends pages for parts of its range alone, allocates, and leaves
+  pub lends : AllocatesSo old new id size align result did.own
+  -- of a pass that is known to be whole, nothing else is lent than before but parts of the range that it knows
+  pub lent : old.whole ≡ true → LentBesides old new id size align
+  -- and it lends none where there is no room
+  pub no_room : old.whole ≡ true → (given : ℕ) → result ≡ Err (refusal.NoRoom given) → LendsNone old.caller id size align given did.own
   -- then the pass is as it was
   pub bad_alignment : result ≡ Err refusal.BadAlignment → new ≡ old
   pub wrong_thread : result ≡ Err WrongThread → new ≡ old

@@ -1,4 +1,4 @@
-pub mod Makers
+pub use Rattle.fm_pages.specs.Makers
 pub mod Needs
 pub mod Pages
 pub mod Learnt

@@ -3,7 +3,8 @@ use Rattle.std.specs.Prelude.{◌≡◌, ◌≢◌, ◌<◌, ◌*◌, ℕ, [], b
 use Rattle.fm_base.specs.declared.{arena_id.ArenaId.{ArenaId}, kind.Kind.TheVariants.{Automatic}}
 use Rattle.fm_rule_facts.specs.{Hands.{nothing, no_number}, Parts.{unread}, Views.{View, In, IsKnown, given_of}}
 use Rattle.fm_rule.specs.{declared.pool.Pool.{Pool}, Passes.{IsOf}}
-use Rattle.fm_gate.specs.{declared.held.Hold.{Hold}, Makers.{made_by_pass}}
+use Rattle.fm_pages.specs.Makers.{made_by_pass}
+use Rattle.fm_gate.specs.declared.held.Hold.{Hold}
 
 -- in no arena; it publishes no mark, has no number and no slot in its hand, and is at no part of a sweep
 pub record IsOutside (pool : Pool) (p : View) : Type 0 where

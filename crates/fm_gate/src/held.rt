@@ -1,5 +1,5 @@
-use crate::maker::Maker;
 use fm_base::ArenaId;
+use fm_pages::Maker;
 
 /// A hold of an arena: it can't be shut meanwhile. It must be spent by `unhold`, of the pass that took it.
 pub struct Hold {

@@ -5,8 +5,8 @@ ghost use Rattle.fm_gate.specs.Needs.{CanVisit, CanUnhold};
 ghost use Rattle.fm_gate.specs.Learnt.{AfterHold, AfterTake, AfterUnhold};
 
 use crate::held::Hold;
-use crate::maker::Maker;
 use fm_base::{ArenaId, Kind, Refusal};
+use fm_pages::Maker;
 use fm_rule::{MOST_HOLDS, Pass, Pool, alive_holds, step_hold, step_unhold};
 use std::sync::Wait;
 

@@ -4,7 +4,8 @@ use Rattle.std.{proofs.lemmas.Bool.{and_parts, lt-ltb, le-ltb, leb-true}, specs.
 use Rattle.fm_base.specs.declared.refusal.Refusal.{Refusal, TheVariants.{Bounds, IndexOut, Misaligned, ReadOnly}}
 use Rattle.fm_lanes.specs.declared.{order.Order.{Order, TheVariants.{Little, Big}}, value_kind.ValueKind.{ValueKind, TheVariants.{Int, Long}}}
 use Rattle.fm_lanes.specs.Kind.{width_of}
-use Rattle.fm_layout.proofs.{Powers.{IsPowerOfTwo-from_test}, Sound.{positive_power}}
+use Rattle.fm_base_bytes.proofs.Powers.{IsPowerOfTwo-from_test}
+use Rattle.fm_layout.proofs.Sound.{positive_power}
 use Rattle.fm_path.specs.{declared.value_spec.ValueSpec.{ValueSpec}, Resolution.{Resolution, StaysInside}}
 use Rattle.fm_path_meaning.specs.{declared.dim.Dim.{Dim}, Found.{IsFirstOut}, Walk.{AreAdmitted, offset_at}}
 use Rattle.fm_path_meaning.proofs.Inside.{divides_from, divides_gives, divides_add, divides_trans, divides_powers}

@@ -3,7 +3,6 @@ pub mod Refused
 pub mod Sound
 pub mod Groups
 pub mod Indexed
-pub mod Powers
 pub mod Deep
 pub mod Nodes
 pub mod Whole

@@ -1,7 +1,8 @@
 -- The tree of a node with another label.
 use Rattle.std.{proofs.Common.{◌≡◌, ℕ, ◌≤◌, true, refl, sym, subst}, specs.Int.{is_power_of_two}}
 use Rattle.fm_layout.specs.{Tree.{Label, relabelled}, Size.{least_of}, WellFormed.{limit}, Named.{HasNames, IsNameIfAny}, Sound.{IsSound}, Parts.{IsPadding}}
-use Rattle.fm_layout.{specs.{Views.{tree_of}, declared.layout.Node.{Node}}, proofs.{Powers.{IsPowerOfTwo-from_test}, Sound.{realigned_sound}}}
+use Rattle.fm_base_bytes.proofs.Powers.{IsPowerOfTwo-from_test}
+use Rattle.fm_layout.{specs.{Views.{tree_of}, declared.layout.Node.{Node}}, proofs.Sound.{realigned_sound}}
 use Rattle.fm_layout.specs.declared.layout.Node.TheVariants as node
 
 -- The label is all that changes.

@@ -5,7 +5,8 @@ use Rattle.fm_base.specs.declared.refusal.Refusal.{Refusal}
 use Rattle.fm_layout.specs.Tree.{Label, Tree, Trees, Value, Padding, Sequence, Struct, Union, NoMore, More, alignment_of, name_of, relabelled}
 use Rattle.fm_layout.specs.{Size.{size_of, sum_of, greatest_alignment, least_of}, WellFormed.{limit, IsWellFormed, AreLaidOut}}
 use Rattle.fm_layout.{specs.Made.{plain, made, padding_of, sequence_fault, sequence_of, fault_of, struct_of, with_alignment}, proofs.Groups.{fault_of-more}}
-use Rattle.fm_layout.proofs.{Sound.{fit_of}, Powers.{is_power_of_two-IsPowerOfTwo}}
+use Rattle.fm_base_bytes.proofs.Powers.{is_power_of_two-IsPowerOfTwo}
+use Rattle.fm_layout.proofs.Sound.{fit_of}
 
 -- Members that are laid out and end within the limit break no rule.
 pub fault_of-none : (i at : ℕ) (ts : Trees) → AreLaidOut at ts → at + sum_of ts ≤ limit → fault_of i at ts ≡ None

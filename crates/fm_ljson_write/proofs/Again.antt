@@ -8,7 +8,8 @@ use Rattle.fm_lanes.specs.Kind.{width_of}
 use Rattle.fm_layout.specs.{Depth.{depth, deepest}, Made.{plain, padding_of, sequence_of, struct_of, with_alignment}, Named.{HasNames, HaveNames}}
 use Rattle.fm_layout.specs.Size.{greatest_alignment, least_of, size_of}
 use Rattle.fm_layout.specs.Tree.{Label, Tree, Trees, Value, Padding, Sequence, Struct, Union, NoMore, More, alignment_of, label_of, relabelled}
-use Rattle.fm_layout.{specs.WellFormed.{limit, IsFit, IsWellFormed, AreWellFormed, AreLaidOut}, proofs.Powers.{is_power_of_two-IsPowerOfTwo}}
+use Rattle.fm_base_bytes.proofs.Powers.{is_power_of_two-IsPowerOfTwo}
+use Rattle.fm_layout.specs.WellFormed.{limit, IsFit, IsWellFormed, AreWellFormed, AreLaidOut}
 use Rattle.fm_layout.proofs.Refused.{fault_of-none}
 use Rattle.fm_ljson.specs.{Answer.{layout_of_json}, Built.{built, built_if_any, copied, node_built, then, all_of, aligned, named}}
 use Rattle.fm_ljson.specs.{Measured.{above, all_measured, beside, large_at, measure, measured, node_measured, ref_measured}, Node.{node_of, list_of, parts_in}}

@@ -32,6 +32,7 @@ rest_of others = record {
   holds = [];
   handles = [];
   closes = [];
+  sweeps = [];
   pages = [];
   slots = [];
   gathered = record { caller = gathered_one; finds = [] } ∷ [];

@@ -14,3 +14,4 @@ mod pages;
 mod pools;
 mod segment_calls;
 mod segments;
+mod turns;

@@ -6,3 +6,4 @@ pub mod Opening
 pub mod Allotting
 pub mod Visits
 pub mod Storing
+pub mod Loading

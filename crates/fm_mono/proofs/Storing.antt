@@ -7,14 +7,14 @@ use Rattle.fm_base.proofs.Outcomes.{Makes-lasts}
 use Rattle.fm_mono.{specs.Shown.{Arenas, view_of}, proofs.{Alone.{makes_one, sound_of}, Steps.{written_all}}}
 
 -- inside an arena that is known, which has so many words from this index on
-pub record CanStore (m : Arenas) (a : ArenaId) (first count : ℕ) : Type 0 where
+pub record HasWords (m : Arenas) (a : ArenaId) (first count : ℕ) : Type 0 where
   pub known : has_arena m.state a ≡ true
   pub under_way : IsUnderWay m.state only_caller a
   pub within : first + count ≤ length (arena_of m.state a).words
 
 -- the first word put, the others can be
-stored_one : (m : Arenas) (a : ArenaId) (first count v : ℕ) → CanStore m a first (suc count)
-    → CanStore (record m { state = changed m.state a (written first v) }) a (suc first) count
+stored_one : (m : Arenas) (a : ArenaId) (first count v : ℕ) → HasWords m a first (suc count)
+    → HasWords (record m { state = changed m.state a (written first v) }) a (suc first) count
 stored_one m a first count v c =
     let named : KeepsName (written first v) = λ x. refl in
     let look : arena_of (changed m.state a (written first v)) a ≡ written first v (arena_of m.state a) =
@@ -25,7 +25,7 @@ stored_one m a first count v c =
       within = rw (look, length-set) (let w = c.within in omega arith);
     }
 
-stores_all : (vs : List ℕ) (m : Arenas) (a : ArenaId) (first : ℕ) → CanStore m a first (length vs) → ((i : ℕ) → get_or vs i 0 < 2 ^ 64)
+stores_all : (vs : List ℕ) (m : Arenas) (a : ArenaId) (first : ℕ) → HasWords m a first (length vs) → ((i : ℕ) → get_or vs i 0 < 2 ^ 64)
     → Makes (view_of m) (view_of (record m { state = changed m.state a (written_all first vs) })) (entries_of only_caller (writes a first vs))
 stores_all [] m a first c fits =
     let same : changed m.state a (written_all first []) ≡ m.state = changed_same m.state a (written_all first []) refl in
@@ -40,7 +40,7 @@ stores_all (v ∷ vs) m a first c fits =
     (rw twice at rest)
 
 -- what the caller learns where these words were put
-pub after_stores : (m n : Arenas) (a : ArenaId) (first : ℕ) (vs : List ℕ) → m.limit ≤ 2 ^ 40 → m.inside ≡ Some a → CanStore m a first (length vs)
+pub after_stores : (m n : Arenas) (a : ArenaId) (first : ℕ) (vs : List ℕ) → m.limit ≤ 2 ^ 40 → m.inside ≡ Some a → HasWords m a first (length vs)
     → ((i : ℕ) → get_or vs i 0 < 2 ^ 64) → n ≡ record m { state = changed m.state a (written_all first vs) } → AfterStores (view_of m) (view_of n) first vs
 after_stores m n a first vs small i c fits e = rw e (
     let makes = stores_all vs m a first c fits in

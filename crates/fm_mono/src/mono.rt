@@ -55,7 +55,7 @@ impl Mono {
     ghost use Rattle.std.specs.Prelude.{◌≡◌, ◌≤◌, ◌^◌, true, Some, None, IsSome, length, if◌then◌else◌};
     ghost use Rattle.fm_base.specs.Arenas.{only_caller, Alive, Ended, has_arena, arena_of, changed};
     ghost use Rattle.fm_base.specs.Does.{CanReach, CanReachAll};
-    ghost use Rattle.fm_base.specs.Learnt.{CanVisit, AfterStores};
+    ghost use Rattle.fm_base.specs.Learnt.{CanVisit, AfterLoads, AfterStores};
     ghost use Rattle.fm_base.specs.Machine.{entered};
     ghost use Rattle.fm_mono.specs.Shown.{view_of, CanEnter, Finds, Puts, GoesOut};
 
@@ -73,6 +73,16 @@ impl Mono {
     {
         let arena = &mut self.arenas[self.current];
         arena.words[word as usize] = v;
+    }
+
+    /// Copies many words at once.
+    fn get_words(&self, first: u64, into: &mut [u64])
+        requires { CanReachAll (view_of self.now) first (length into.old) }
+        ensures { AfterLoads (view_of self.now) (view_of self.now) first into.new }
+    {
+        let first = first as usize;
+        let arena = &self.arenas[self.current];
+        into.copy_from_slice(&arena.words[first..first + into.len()]);
     }
 
     /// Puts many words at once.

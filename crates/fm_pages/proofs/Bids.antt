@@ -1,12 +1,13 @@
 -- Claiming a page.
-use Rattle.std.proofs.Common.{◌≡◌, ◌⊎◌, ℕ, ◌==◌, ◌<◌, Bool, true, false, if◌then◌else◌, List, [], refl, ap, sym, ◌∙◌, subst, inl, inr, ⊎_elim, eq-eqb}
+use Rattle.std.proofs.Common.{◌≡◌, ◌⊎◌, ℕ, ◌==◌, ◌<◌, Bool, true, false, if◌then◌else◌, List, [], ◌∷◌, refl, ap, sym, ◌∙◌, subst, inl, inr, ⊎_elim, eq-eqb}
 use Rattle.std.{proofs.lemmas.List.Elements.{All-cons, All-nil}, specs.Int.{bit_at}}
 use Rattle.fm_words.specs.{declared.shape.Shape.{Shape}, Bits.{number_at}}
-use Rattle.fm_base.specs.Finds.{Find, TakesPage, is_draw}
+use Rattle.fm_base.specs.{Calls.{Entry}, Finds.{Find, TakesPage, is_draw}}
 use Rattle.fm_rule_facts.specs.{Hands.{takes}, Parts.{pages_taken}, Views.{View}, Steps.{Stepped, none_noted, note_of, is_clear}}
 use Rattle.fm_rule.specs.{declared.pool.Pool.{Pool}, Passes.{IsOf}}
 use Rattle.fm_rule_calls.proofs.Going.{NoDraws, goes_step, goes_then, no_draws}
-use Rattle.fm_pages.{specs.Claims.{Went, PageClaimed, TryOutcome}, proofs.Clear.{clear_still}}
+use Rattle.fm_rule_calls.specs.Kept.{Goes}
+use Rattle.fm_pages.{specs.{declared.page.Page.{Page}, Makers.{made_by_pass}, Claims.{Went, PageClaimed, HasClaimed, TryOutcome}}, proofs.Clear.{clear_still}}
 
 abbrev pub Takes : View → View → (group word bit found : ℕ) → Type 0
 Takes p q group word bit found =
@@ -88,3 +89,14 @@ page_freed {p = p} {q = q} s = record {
   goes = goes_step s refl refl refl no_draws;
   is = s.is_part ∙ ap (λ (fs : List Find). record p { seen = q.seen; finds = fs; pages = [] }) (sym (ap (λ (x : View). x.finds) s.is_part));
 }
+
+-- A pass that has the page in its hand still is the one that claimed it.
+pub claimed_still : {p q : View} {own : List Entry} {page : Page} → Goes p q own → q.pages ≡ page.index ∷ [] → HasClaimed p page → HasClaimed q page
+claimed_still g there has =
+    record { there = there; maker = has.maker ∙ (λ j. record { home = sym g.same_home j; caller = sym g.same_caller j }) }
+
+-- A page that was claimed just now is in the hand of the pass that claimed it.
+pub page_claimed : {o p q : View} {page : Page} → PageClaimed o p page.index → q ≡ p → page.maker ≡ made_by_pass p
+    → PageClaimed o q page.index × HasClaimed q page
+page_claimed {o = o} {page = page} c same maker = subst (λ (x : View). PageClaimed o x page.index × HasClaimed x page) (sym same)
+    (c, record { there = ap (λ (x : View). x.pages) c.went.is; maker = maker })

@@ -1,5 +1,5 @@
 -- One try to give bytes.
-use Rattle.std.proofs.Common.{◌≡◌, ◌≢◌, ℕ, ◌+◌, ◌==◌, ◌≤◌, Bool, true, false, if◌then◌else◌, List, [], ◌∷◌, ◌++◌, refl, ap, sym, ◌∙◌, subst, Option, Some, None}
+use Rattle.std.proofs.Common.{◌≡◌, ◌≢◌, ℕ, ◌+◌, ◌==◌, ◌≤◌, Bool, true, false, if◌then◌else◌, List, [], ◌∷◌, ◌++◌, refl, ap, sym, ◌∙◌, subst, inl, inr, Option, Some, None}
 use Rattle.std.{proofs.lemmas.{List.Elements.{All-nil}, Bool.{leb-true}}, specs.Prelude.{nat_le}}
 use Rattle.fm_words.specs.declared.shape.Shape.{Shape}
 use Rattle.fm_base.specs.{declared.{caller.Caller.{Caller}, arena_id.ArenaId.{ArenaId}}, Calls.{Reply, Allocate, entry_of}}
@@ -63,6 +63,7 @@ module _ {p q : View} (a : ArenaId) (count size align found : ℕ) (ins : p.insi
   pub tried_past : (found ≢ count → found ≡ given_of q a) → Tried p q a count size align found
   tried_past l = record {
     lends = [];
+    fits = inl refl;
     are = All-nil (LendsIn p a count (rounded_up count align + size));
     way = way_allocate;
     learnt = l;
@@ -71,9 +72,9 @@ module _ {p q : View} (a : ArenaId) (count size align found : ℕ) (ins : p.insi
   }
 
 pub tried_covered : {p m q : View} (a : ArenaId) (count size align found : ℕ) → p.inside ≡ Some a
-    → Covered p m a count (rounded_up count align + size) true → Exchanges m q count size align found
+    → rounded_up count align + size ≤ limit_of p.shape → Covered p m a count (rounded_up count align + size) true → Exchanges m q count size align found
     → (found ≢ count → found ≡ given_of q a) → Tried p q a count size align found
-tried_covered {p = p} {m = m} {q = q} a count size align found ins c s l =
+tried_covered {p = p} {m = m} {q = q} a count size align found ins fits c s l =
     let inside : m.inside ≡ Some a = ap (λ (v : View). v.inside) c.way.is ∙ ins in
     let w = way_allocate a count size align found inside (pages_way c.way) s in
     let same : (m.shape, m.caller) ≡ (p.shape, p.caller) = (λ j. (c.way.goes.same_shape j, c.way.goes.same_caller j)) in
@@ -83,6 +84,7 @@ tried_covered {p = p} {m = m} {q = q} a count size align found ins c s l =
     record {
       lends = c.own;
       are = c.lends;
+      fits = inr fits;
       way = all;
       learnt = l;
       exact = tried_exact a count size align found c.own c.lends all (ap (λ (v : View). v.inside) s.is_part ∙ inside);

@@ -5,7 +5,7 @@ use Rattle.fm_base.specs.declared.refusal.Refusal.TheVariants as refusal
 use Rattle.fm_words.specs.Places.{page_groups}
 use Rattle.fm_rule_facts.specs.{Loans.{loans_of}, Steps.{is_clear}, Views.{View, FewLeft, unlent}}
 use Rattle.fm_rule_calls.specs.Kept.{Goes}
-use Rattle.fm_pages.specs.declared.page.Page.{Page}
+use Rattle.fm_pages.specs.{declared.page.Page.{Page}, Makers.{made_by_pass}}
 
 -- the pass went on without entries of its own, found words of page bits, and has these pages in its hand
 pub record Went (old new : View) (pages : List ℕ) : Type 0 where
@@ -48,8 +48,13 @@ abbrev pub LookOutcome : View → View → Bool → Type 0
 LookOutcome old new true = NoneClaimed old new
 LookOutcome old new false = Went old new []
 
+-- the page is in the hand of this pass, which claimed it
+pub record HasClaimed (p : View) (page : Page) : Type 0 where
+  pub there : p.pages ≡ page.index ∷ []
+  pub maker : page.maker ≡ made_by_pass p
+
 -- of `claim`
 abbrev pub ClaimOutcome : View → View → Result Page Refusal → Type 0
-ClaimOutcome old new (Ok page) = PageClaimed old new page.index
+ClaimOutcome old new (Ok page) = PageClaimed old new page.index × HasClaimed new page
 ClaimOutcome old new (Err refusal.PoolFull) = NoneClaimed old new
 ClaimOutcome old new (Err r) = ⊥

@@ -1,5 +1,5 @@
 -- What one try to give bytes does, with pages for them.
-use Rattle.std.specs.Prelude.{◌≡◌, true, ◌≢◌, ◌≤◌, ◌==◌, ◌+◌, ℕ, List, [], ◌∷◌, ◌++◌, All, Option, Some, None}
+use Rattle.std.specs.Prelude.{◌≡◌, ◌⊎◌, true, ◌≢◌, ◌≤◌, ◌==◌, ◌+◌, ℕ, List, [], ◌∷◌, ◌++◌, All, Option, Some, None}
 use Rattle.fm_base.specs.{declared.arena_id.ArenaId.{ArenaId}, Calls.{Entry, Allocate, entry_of}, Machine.{rounded_up, allocate_reply}}
 use Rattle.fm_rule_facts.specs.{Views.{View, given_of, limit_of}, Scarcity.{IsScarce}, Steps.{where_found, is_clear}}
 use Rattle.fm_pages.specs.{Maps.{Way}, Covers.{LendsIn, Lacks}}
@@ -13,6 +13,8 @@ allocates v a count size align found =
 pub record Tried (old new : View) (a : ArenaId) (count size align found : ℕ) : Type 0 where
   pub lends : List Entry
   pub are : All (LendsIn old a count (rounded_up count align + size)) lends
+  -- none, where the range ends past the limit
+  pub fits : (lends ≡ []) ⊎ (rounded_up count align + size ≤ limit_of old.shape)
   pub way : Way old new (lends ++ allocates old a count size align found) []
   pub learnt : found ≢ count → found ≡ given_of new a
   -- a pass that is known to be whole gives bytes only where pages aren't too few

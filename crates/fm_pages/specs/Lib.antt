@@ -1,3 +1,4 @@
+pub mod Makers
 pub mod Claims
 pub mod Maps
 pub mod Provides

@@ -3,7 +3,7 @@ use Rattle.std.specs.Prelude.{◌≡◌, ℕ, List, [], ◌∷◌, Contains, Opt
 use Rattle.fm_base.specs.{declared.arena_id.ArenaId.{ArenaId}, Calls.{Entry, Lend, Fine, entry_of}}
 use Rattle.fm_rule_facts.specs.{Loans.{loans_of, loan_of}, Parts.{Mapping, mapping_of}, Views.{View, In}}
 use Rattle.fm_rule_calls.specs.Kept.{Goes}
-use Rattle.fm_pages.specs.declared.page.Page.{Page}
+use Rattle.fm_pages.specs.{declared.page.Page.{Page}, Claims.{HasClaimed}}
 
 -- the pass went on by entries of its own, read map words, and has these pages in its hand
 pub record Way (old new : View) (own : List Entry) (pages : List ℕ) : Type 0 where
@@ -25,6 +25,6 @@ pub record PartTaken (old new : View) (a : ArenaId) (index page : ℕ) : Type 0 
   pub lent_so : Contains (loans_of new.seen) (loan_of other a index)
 
 -- of `map`
-abbrev pub MapOutcome : View → View → ArenaId → (index page : ℕ) → Option Page → Type 0
-MapOutcome old new a index page None = PageMapped old new a index page
-MapOutcome old new a index page (Some back) = (back.index ≡ page) × PartTaken old new a index page
+abbrev pub MapOutcome : View → View → ArenaId → (index : ℕ) → Page → Option Page → Type 0
+MapOutcome old new a index page None = PageMapped old new a index page.index
+MapOutcome old new a index page (Some back) = (back ≡ page) × HasClaimed new back × PartTaken old new a index page.index

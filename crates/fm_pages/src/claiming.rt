@@ -1,8 +1,9 @@
-ghost use Rattle.std.specs.Prelude.{◌≡◌, ◌<◌, ◌%◌, [], ◌∷◌, IfSome};
+ghost use Rattle.std.specs.Prelude.{◌≡◌, ◌<◌, ◌%◌, [], IfSome};
 ghost use Rattle.std.specs.Int.{bit_at};
 ghost use Rattle.fm_rule.specs.Passes.{IsOf};
-ghost use Rattle.fm_pages.specs.Claims.{ClaimOutcome, LookOutcome, TryOutcome, Went};
+ghost use Rattle.fm_pages.specs.Claims.{ClaimOutcome, HasClaimed, LookOutcome, TryOutcome, Went};
 
+use crate::maker::Maker;
 use crate::page::Page;
 use fm_base::Refusal;
 use fm_rule::{Pass, Pool, step_give_page, step_take_page};
@@ -30,7 +31,10 @@ pub fn claim<R: Wait>(rt: &R, pool: &Pool, pass: &mut Pass) -> Result<Page, Refu
         match guess(pool) {
             Some(bid) => {
                 if try_page(pool, pass, bid) {
-                    return Ok(Page { index: bid.page });
+                    return Ok(Page {
+                        index: bid.page,
+                        maker: Maker::of(pool, pass),
+                    });
                 }
             }
             None => {
@@ -90,9 +94,9 @@ fn finds_none(pool: &Pool, pass: &mut Pass) -> bool
 /// Gives the page in the pass's hand back.
 pub fn free_page(pool: &Pool, pass: &mut Pass, page: Page)
     requires of { IsOf pool.now pass.old }
-    requires page { pass.old.pages ≡ page.index ∷ [] }
+    requires page { HasClaimed pass.old page }
     ensures { Went pass.old pass.new [] }
 {
-    let Page { index } = page;
+    let Page { index, maker: _ } = page;
     step_give_page(pool, pass, index)
 }

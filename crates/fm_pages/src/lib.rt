@@ -21,6 +21,7 @@
 mod claiming;
 mod covering;
 mod giving;
+mod maker;
 mod mapping;
 mod page;
 mod placing;
@@ -29,6 +30,7 @@ mod providing;
 pub use claiming::{claim, free_page};
 pub use covering::cover;
 pub use giving::try_at;
+pub use maker::Maker;
 pub use mapping::map;
 pub use page::Page;
 pub use placing::place_of;

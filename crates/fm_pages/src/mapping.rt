@@ -1,5 +1,6 @@
-ghost use Rattle.std.specs.Prelude.{◌≡◌, ◌<◌, [], ◌∷◌, Some};
+ghost use Rattle.std.specs.Prelude.{◌≡◌, ◌<◌, Some};
 ghost use Rattle.fm_rule.specs.Passes.{IsOf};
+ghost use Rattle.fm_pages.specs.Claims.{HasClaimed};
 ghost use Rattle.fm_pages.specs.Maps.{MapOutcome};
 
 use crate::page::Page;
@@ -11,13 +12,13 @@ pub fn map(pool: &Pool, pass: &mut Pass, id: ArenaId, index: u32, page: Page) ->
     requires of { IsOf pool.now pass.old }
     requires inside { pass.old.inside ≡ Some id }
     requires low { index < pool.now.shape.reach }
-    requires page { pass.old.pages ≡ page.index ∷ [] }
-    ensures { MapOutcome pass.old pass.new id index page.index result }
+    requires page { HasClaimed pass.old page }
+    ensures { MapOutcome pass.old pass.new id index page result }
 {
     let other = step_map(pool, pass, id, index, page.index);
     if other != 0 {
         return Some(page);
     }
-    let Page { index: _ } = page;
+    let Page { index: _, maker: _ } = page;
     None
 }

@@ -1,6 +1,9 @@
-/// A page in the hand of the pass that claimed it. It must be spent: by `map`, or by `free_page`.
+use crate::maker::Maker;
+
+/// A page in the hand of the pass that claimed it. It must be spent by that pass: by `map`, or by `free_page`.
 pub struct Page {
     pub(crate) index: u32,
+    pub(crate) maker: Maker,
 }
 
 impl Page {

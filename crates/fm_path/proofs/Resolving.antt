@@ -1,7 +1,8 @@
 -- What the pass over a path comes to is what a resolved path is.
 use Rattle.std.{proofs.Common.{◌≡◌, ap, ◌∙◌, ℕ, ◌%◌, ◌^◌, ◌≤◌, List, arith}, specs.Int.{IsPowerOfTwo}}
 use Rattle.fm_lanes.specs.Kind.{width_of}
-use Rattle.fm_layout.{specs.{Tree.{Tree, Value, alignment_of}, Size.{size_of}, WellFormed.{IsWellFormed}}, proofs.Powers.{is_power_of_two-IsPowerOfTwo}}
+use Rattle.fm_base_bytes.proofs.Powers.{is_power_of_two-IsPowerOfTwo}
+use Rattle.fm_layout.specs.{Tree.{Tree, Value, alignment_of}, Size.{size_of}, WellFormed.{IsWellFormed}}
 use Rattle.fm_layout.proofs.Sound.{fit_of}
 use Rattle.fm_path_text.specs.declared.step.PathStep.{PathStep}
 use Rattle.fm_path_meaning.{specs.{declared.dim.Dim.{Dim}, Found.{LeadsTo}}, proofs.Dims.{leads_dims}}

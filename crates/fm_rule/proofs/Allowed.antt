@@ -173,11 +173,15 @@ sound_with home k v s drawn gone = record {
   limit = s.limit;
   legal = s.legal;
   lent = s.lent;
+  within = s.within;
   number = s.number;
   inside = s.inside;
   outside = s.outside;
   fits = s.fits;
+  older = s.older;
   hand = s.hand;
+  closing = s.closing;
+  closes_once = s.closes_once;
   swept = λ c i. let o = s.swept c i in record { known = o.known; life = o.life; empty = o.empty };
   loans = s.loans;
   unlent = s.unlent;
@@ -197,6 +201,7 @@ sound_with home k v s drawn gone = record {
   one_each = s.one_each;
   others = s.others;
   term = s.term;
+  earlier = s.earlier;
   numbers_gone = gone;
 }
 

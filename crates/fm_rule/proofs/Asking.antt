@@ -1,11 +1,17 @@
 -- A pass looks for a number and asks how many draws were made: one step after another.
-use Rattle.std.proofs.Common.{◌≡◌, ◌⊎◌, ℕ, ◌+◌, ◌<◌, ◌==◌, ◌&&◌, Bool, true, false, if◌then◌else◌, List, [], ◌++◌, length, All, get_or, sym, refl, ap, ◌∙◌, subst, arith, inl, inr, ⊎_elim, append_assoc, Option, Some, None, eq-eqb, ne_eqb}
-use Rattle.std.proofs.lemmas.List.{append-nil, Elements.{filter-append}}
+use Rattle.std.proofs.Common.{◌≡◌, ◌⊎◌, ℕ, ◌+◌, ◌<◌, ◌≤◌, ◌==◌, ◌&&◌, Bool, true, false, if◌then◌else◌, List, [], ◌++◌, length, All, get_or, sym, refl, ap, ◌∙◌, subst, arith, inl, inr, ⊎_elim, append_assoc, Option, Some, None, eq-eqb, ne_eqb}
+use Rattle.std.proofs.lemmas.List.{append-nil, length-append, Elements.{filter-append}}
 use Rattle.fm_base.specs.{declared.caller.Caller.{Caller}, Calls.{Entry}, Histories.{made_by}, Finds.{Find, Gathered, Draws as Drawing, is_draw, is_number}}
 use Rattle.fm_rule_facts.specs.{Views.{View, In, HasFind}, Steps.{Stepped, draws, note_draw, is_clear}, Hands.{Number, no_number, drawn_by, number_after}}
 use Rattle.fm_rule_facts.{specs.Moves.{LearnsCount}, proofs.{Founds.{draw_found, draw_is}, Keeping.{in_append, in_left}}}
 use Rattle.fm_rule_steps.proofs.Reading.{eqb_true, eqb_false}
-use Rattle.fm_rule.specs.{Passes.{IsOf}, Draws.{Asked, Asks, Looked}, declared.pool.Pool.{Pool}}
+use Rattle.fm_rule.specs.{Passes.{IsOf}, Draws.{IsKept, Asked, Asks, Looked}, declared.pool.Pool.{Pool}}
+
+-- a find that a step of this pass noted, which had seen so many entries
+pub record IsNoted (v : View) (n : ℕ) (f : Find) : Type 0 where
+  pub seen : f.seen ≡ n
+  pub clear : f.clear ≡ is_clear v
+  pub gathered : f.gathered ≡ length v.gathered
 
 -- no step
 asked_none : (p : View) (k : Number) → p.number ≡ k → Asked p p [] k
@@ -17,7 +23,7 @@ asked_none p k e = record {
   alone = λ w. refl;
   found = sym (append-nil p.finds);
   only = λ f i. absurd i;
-  gathered = λ f i. absurd i;
+  kept = λ f i. absurd i;
   later = λ f g h d i. absurd i;
   is = λ i. record p { number = e i };
 }
@@ -33,15 +39,22 @@ module _ (old now new : View) (ds : List Find) (k : Number) (a : Asked old now d
   same_gathered : now.gathered ≡ old.gathered
   same_gathered = ap (λ (x : View). x.gathered) a.is
 
+  same_clear : now.whole ≡ old.whole → is_clear now ≡ is_clear old
+  same_clear kept = ap is_clear a.is ∙ (λ j. is_clear (record old { whole = kept j }))
+
+  -- what was kept of the finds is kept of them where the pass has seen more
+  kept_on : {new : View} → length now.seen ≤ length new.seen → (f : Find) → In f ds → IsKept old new f
+  kept_on more f i = let y = a.kept f i in record { since = y.since; until = (let u = y.until in omega arith); clear = y.clear; gathered = y.gathered }
+
   -- what was found before was found before the last step too
-  found_still : (f : Find) → HasFind old f → HasFind now f
+  pub found_still : (f : Find) → HasFind old f → HasFind now f
   found_still f (inl i) = inl (subst (In f) (sym a.found) (in_left f old.finds ds i))
   found_still f (inr h) = inr (h.0, subst (In h.0) (sym same_gathered) h.1, h.2)
 
   -- one more step, which found x
   pub asked_then : (kept : now.whole ≡ old.whole) (d : Number) (w : Bool) (x : ℕ) (nd : ℕ → List Find)
       → ((n : ℕ) (f : Find) → In f (nd n) → (is_draw f.step ≡ true) ⊎ (is_number f.step ≡ true))
-      → ((n : ℕ) (f : Find) → In f (nd n) → f.gathered ≡ length now.gathered)
+      → ((n : ℕ) (f : Find) → In f (nd n) → IsNoted now n f)
       → ((n : ℕ) (f : Find) → In f (nd n) → is_draw f.step ≡ true → (f.found ≡ x) × LearnsCount now x)
       → (s : Stepped now new (with_number now d w) [] nd)
       → Asked old new (ds ++ nd (length (now.seen ++ s.others))) d
@@ -50,6 +63,9 @@ module _ (old now new : View) (ds : List Find) (k : Number) (a : Asked old now d
       let fs : List Find = nd (length (now.seen ++ es)) in
       let whole : new.whole ≡ w = ap (λ (x : View). x.whole) s.is_part in
       let finds : new.finds ≡ now.finds ++ fs = ap (λ (x : View). x.finds) s.is_part in
+      let seen_all : length new.seen ≡ length (now.seen ++ es) = ap (λ (xs : List Entry). length xs) (s.seen ∙ append-nil (now.seen ++ es)) in
+      let seen_more : length new.seen ≡ length now.seen + length es = seen_all ∙ length-append now.seen es in
+      let before_more : length now.seen ≡ length old.seen + length a.more = ap (λ (xs : List Entry). length xs) a.seen ∙ length-append old.seen a.more in
       let next = subst (λ (gs : List Gathered). All (λ g. made_by g.caller (es ++ []) ≡ []) gs) same_gathered s.apart in
       record {
         more = a.more ++ es;
@@ -61,8 +77,15 @@ module _ (old now new : View) (ds : List Find) (k : Number) (a : Asked old now d
         alone = λ o. ap (λ (xs : List Entry). xs ++ es) (a.alone o) ∙ s.alone (kept ∙ o);
         found = finds ∙ (ap (λ (xs : List Find). xs ++ fs) a.found ∙ append_assoc old.finds ds fs);
         only = λ f i. ⊎_elim (a.only f) (only (length (now.seen ++ es)) f) (in_append f ds fs i);
-        gathered = λ f i. ⊎_elim (a.gathered f) (λ (j : In f fs). counts (length (now.seen ++ es)) f j
-            ∙ ap (λ (gs : List Gathered). length gs) same_gathered) (in_append f ds fs i);
+        kept = λ f i. ⊎_elim (kept_on {new = new} (let n = seen_more in omega arith) f) (λ (j : In f fs).
+            let y = counts (length (now.seen ++ es)) f j in
+            record {
+              since = (let at = y.seen in let n = seen_more in let m = before_more in omega arith);
+              until = (let at = y.seen in let n = seen_all in omega arith);
+              clear = y.clear ∙ same_clear kept;
+              gathered = y.gathered ∙ ap (λ (gs : List Gathered). length gs) same_gathered;
+            })
+            (in_append f ds fs i);
         later = λ f g h e i u. ⊎_elim
             (λ (j : In g ds). a.later f g h e j u)
             (λ (j : In g fs). let q = founds (length (now.seen ++ es)) g j u in let y = q.1.later f (found_still f h) e in let z = q.0 in omega arith)
@@ -88,8 +111,9 @@ not_made p e x some =
     go true = refl
     go false = refl
 
-pub draw_counts : (expected x : ℕ) (v : View) (n : ℕ) (f : Find) → In f (note_draw expected x v n) → f.gathered ≡ length v.gathered
-draw_counts expected x v n f (inl q) = ap (λ (g : Find). g.gathered) q
+pub draw_counts : (expected x : ℕ) (v : View) (n : ℕ) (f : Find) → In f (note_draw expected x v n) → IsNoted v n f
+draw_counts expected x v n f (inl q) =
+    record { seen = ap (λ (g : Find). g.seen) q; clear = ap (λ (g : Find). g.clear) q; gathered = ap (λ (g : Find). g.gathered) q }
 draw_counts expected x v n f (inr i) = absurd i
 
 -- ---- the look for every caller
@@ -152,6 +176,8 @@ pub asked_both : (old mid new : View) (fs gs : List Find) (k l : Number) → Ask
     → Asked old new (fs ++ gs) l
 asked_both old mid new fs gs k l a b kept =
     let next = subst (λ (xs : List Gathered). All (λ g. made_by g.caller b.more ≡ []) xs) (same_gathered old mid new fs k a) b.apart in
+    let seen_more : length new.seen ≡ length mid.seen + length b.more = ap (λ (xs : List Entry). length xs) b.seen ∙ length-append mid.seen b.more in
+    let before_more : length mid.seen ≡ length old.seen + length a.more = ap (λ (xs : List Entry). length xs) a.seen ∙ length-append old.seen a.more in
     record {
       more = a.more ++ b.more;
       seen = b.seen ∙ (ap (λ (xs : List Entry). xs ++ b.more) a.seen ∙ append_assoc old.seen a.more b.more);
@@ -160,7 +186,14 @@ asked_both old mid new fs gs k l a b kept =
       alone = λ w. (λ j. a.alone w j ++ b.alone (kept ∙ w) j);
       found = b.found ∙ (ap (λ (xs : List Find). xs ++ gs) a.found ∙ append_assoc old.finds fs gs);
       only = λ f i. ⊎_elim (a.only f) (b.only f) (in_append f fs gs i);
-      gathered = λ f i. ⊎_elim (a.gathered f) (λ (j : In f gs). b.gathered f j ∙ ap (λ (xs : List Gathered). length xs) (same_gathered old mid new fs k a))
+      kept = λ f i. ⊎_elim (kept_on old mid new fs k a {new = new} (let n = seen_more in omega arith) f) (λ (j : In f gs).
+          let y = b.kept f j in
+          record {
+            since = (let s = y.since in let n = before_more in omega arith);
+            until = y.until;
+            clear = y.clear ∙ same_clear old mid new fs k a kept;
+            gathered = y.gathered ∙ ap (λ (xs : List Gathered). length xs) (same_gathered old mid new fs k a);
+          })
           (in_append f fs gs i);
       later = λ f g h e i u. ⊎_elim (λ (j : In g fs). a.later f g h e j u)
           (λ (j : In g gs). b.later f g (found_still old mid new fs k a f h) e j u) (in_append g fs gs i);
@@ -182,7 +215,7 @@ asks_both pool old mid new fs gs k l a b = record {
 
 -- one step that draws nobody and changes the number alone
 pub asks_step : (pool : Pool) (p q : View) (d : Number) (nd : ℕ → List Find) → IsOf pool p
-    → ((n : ℕ) (f : Find) → In f (nd n) → (is_draw f.step ≡ false) × (is_number f.step ≡ true) × (f.drew ≡ None) × (f.gathered ≡ length p.gathered))
+    → ((n : ℕ) (f : Find) → In f (nd n) → (is_draw f.step ≡ false) × (is_number f.step ≡ true) × (f.drew ≡ None) × IsNoted p n f)
     → Stepped p q (record p { number = d }) [] nd → (finds : List Find) × (n : ℕ) × (finds ≡ nd n) × Asks pool p q finds d
 asks_step pool p q d nd of only s =
     let n : ℕ = length (p.seen ++ s.others) in (

@@ -3,13 +3,13 @@ use Rattle.std.proofs.Common.{◌≡◌, ◌≢◌, ℕ, ◌<◌, ◌==◌, Bool
 use Rattle.std.proofs.lemmas.List.{append-nil}
 use Rattle.fm_words.specs.{declared.shape.Shape.{Shape}, Places.{groups}}
 use Rattle.fm_base.specs.{declared.caller.Caller.{Caller}, Finds.{Find, Draws as Drawing, is_draw}}
-use Rattle.fm_rule_facts.specs.{Views.{View, In, IsSound}, Steps.{Stepped, draws, note_draw, none_noted, is_clear}}
+use Rattle.fm_rule_facts.specs.{Views.{View, In, HasFind, IsSound}, Steps.{Stepped, draws, note_draw, none_noted, is_clear}}
 use Rattle.fm_rule_facts.specs.Hands.{Number, no_number, number_taken, number_learnt, number_left, number_drawn, most_draws, drawn_by, number_after}
 use Rattle.fm_rule_facts.{specs.{Moves.{LearnsCount}, Splits.{drawn_left}}, proofs.Founds.{draw_found, draw_drew, draw_is}}
 use Rattle.fm_rule_facts.proofs.Keeping.{in_append, in_left, in_right}
-use Rattle.fm_rule.specs.{Passes.{IsOf}, Draws.{cut_from, Asks, Seeks, Follow, LearnsAnew, FoundZero, Takes, Counts, Drawn, NoneDrawn}}
+use Rattle.fm_rule.specs.{Passes.{IsOf}, Draws.{IsKept, cut_from, Asks, Seeks, Follow, LearnsAnew, FoundZero, Takes, Counts, Drawn, NoneDrawn}}
 use Rattle.fm_rule.{specs.declared.pool.Pool.{Pool}, proofs.Following.{last_found, follows_more, last_more}}
-use Rattle.fm_rule.proofs.{Asking.{asked_then, asked_both, asks_none, asks_both, asks_step, Draw, whole_after, not_made, draw_counts}, Seeking.{seeks_both}}
+use Rattle.fm_rule.proofs.{Asking.{found_still, asked_then, asked_both, asks_none, asks_both, asks_step, Draw, whole_after, not_made, draw_counts}, Seeking.{seeks_both}}
 use Rattle.fm_rule.proofs.Halves.{left_sound}
 
 -- ---- the loop
@@ -112,6 +112,7 @@ module _ (pool : Pool) (old p q : View) (c : Caller) (e x : ℕ) (t : Counting p
               (λ (j : In f (nd n)). let r : Some d ≡ Some c = sym h ∙ draw_drew e x p (Some c) one n f j in cc)
               (in_append f t.finds (nd n) i);
         };
+        apart = λ f i. l.undrawn c.number c.term learnt f (found_still old p p t.finds (number_learnt c.number c.term) t.asks.asked f i);
         whole = ap (λ (v : View). v.whole) step.is_part;
         sound = step.sound;
       }
@@ -206,7 +207,10 @@ drawn_of pool old p q d k c t y is sound =
       finds = t.finds ++ y.finds;
       asked = (
           let left : drawn_left q ≡ record old { seen = q.seen; finds = q.finds; whole = q.whole; number = no_number } =
-          λ i. record (a.is i) { number = no_number } in search (left, a.only, a.gathered, a.later));
+          λ i. record (a.is i) { number = no_number } in
+          let kept : (f : Find) → In f (t.finds ++ y.finds) → IsKept old (drawn_left q) f =
+          λ f i. let z = a.kept f i in record { since = z.since; until = z.until; clear = z.clear; gathered = z.gathered } in
+          search (left, a.only, kept, a.later));
       tries = tries_after t.finds y.finds t.looks
           (record { looks = []; draws = y.finds; are = refl; are_looks = λ f i. absurd i; guess = y.guess; follow = y.follow });
       drew = record {
@@ -218,8 +222,17 @@ drawn_of pool old p q d k c t y is sound =
             (λ (j : In f y.finds). y.drew.only f b j h) (in_append f t.finds y.finds i);
       };
       fresh = record { later = new.later; number = new.number; term = new.term; other = new.other; silent = new.silent; outside = new.outside };
+      apart = λ f i. y.apart f (found_still old p p t.finds k t.asks.asked f i);
       whole = y.whole;
       is = is;
       giver_sound = left_sound q y.whole y.sound;
       sound = sound;
     }
+
+-- two passes that one giver drew, and whose finds it kept between, are two callers
+pub drawn_apart : {old new d later newer e : View} (x : Drawn old new d) (y : Drawn later newer e) → ((f : Find) → HasFind new f → HasFind later f)
+    → x.caller ≢ y.caller
+drawn_apart {old = old} x y keeps q =
+    let f : Find = x.drew.find in
+    y.apart f (keeps f (inl (subst (In f) (sym x.asked.found) (in_right f old.finds x.finds x.drew.among))))
+    (x.drew.drew ∙ ap (λ (c : Caller). Some c) q)

@@ -32,10 +32,14 @@ right_sound v c e s =
       limit = s.limit;
       legal = s.legal;
       lent = s.lent;
+      within = s.within;
       number = subst (λ (k : Caller). k.number < v.shape.passes) (sym is) y.number;
       inside = λ a q. absurd (cc);
       outside = λ a w. absurd (y.outside a (subst (λ (k : Caller). IsUnderWay (state_in v) k a) is w));
       fits = s.fits;
+      older = s.older;
+      closing = λ c i. absurd i;
+      closes_once = tt;
       swept = λ c i. absurd i;
       loans = s.loans;
       unlent = λ c i. absurd i;
@@ -56,6 +60,7 @@ right_sound v c e s =
       one_each = tt;
       others = λ g i. absurd i;
       term = subst (λ (k : Caller). k.term ≤ last_term) (sym is) y.term;
+      earlier = λ w. absurd (cc);
     }
 
 abbrev Held : Type 0

@@ -5,7 +5,7 @@ use lib.ListN.{get_elem?}
 use Rattle.atomic_table.specs.Table.{Final, Seen}
 use Rattle.fm_words.specs.{declared.shape.Shape.{Shape}, Shapes.{IsValid}, Places.{words as word_count}}
 use Rattle.fm_base.specs.{Calls.{Entry}, Histories.{IsLegal}}
-use Rattle.fm_rule_facts.specs.{Hands.{nothing}, Rest.{ShowsHistory}, Loans.{IsRightlyLent}, Views.{View, IsSound, limit_of}, Facts.{Rule}}
+use Rattle.fm_rule_facts.specs.{Hands.{nothing}, Rest.{ShowsHistory}, Loans.{IsRightlyLent, LendsWithin}, Views.{View, In, IsSound, limit_of}, Facts.{Rule}}
 use Rattle.fm_rule_steps.proofs.{Knowing.{own}, Resting.{at_rest}}
 use Rattle.fm_rule.{proofs.Allowed.{Keeping}, specs.{Views.{homed}, Finishing.{IsFinished}}}
 
@@ -44,6 +44,7 @@ finished z key id v now home ws xs history is same sh f l sound w none eq =
       valid = subst IsValid sh sound.valid;
       legal = subst (λ (x : Shape × List Entry). IsLegal (limit_of x.0) [] x.1) (λ j. (sh j, seen j)) sound.legal;
       lent = subst (λ (x : Shape × List Entry). IsRightlyLent x.0.page_words (limit_of x.0) x.1) (λ j. (sh j, seen j)) sound.lent;
+      within = λ e i. subst (λ (x : Shape). LendsWithin x e.call) sh (sound.within e (subst (In e) (sym seen) i));
       wide = s.wide ∙ ap word_count (sym same);
       shows = subst (λ (x : Shape × List Entry). ShowsHistory x.0 ws x.1) (λ j. (sym same j, seen j)) s.shows;
     }

@@ -9,7 +9,7 @@ use Rattle.fm_rule_facts.specs.{Views.{View, In}, Steps.{Stepped, note_of, numbe
 use Rattle.fm_rule_facts.{specs.Hands.{Number, no_number, number_taken, number_taken_by, takes}, proofs.Keeping.{in_append, in_left, in_right}}
 use Rattle.fm_rule_steps.proofs.Reading.{eqb_true, eqb_false}
 use Rattle.fm_rule.specs.{Passes.{IsOf}, Draws.{Seeks, AreLooks, Tried, FoundIn, FoundZero, Takes, NoneDrawn}, declared.pool.Pool.{Pool}}
-use Rattle.fm_rule.proofs.Asking.{asks_none, asks_both, asks_step}
+use Rattle.fm_rule.proofs.Asking.{IsNoted, asks_none, asks_both, asks_step}
 
 -- no step
 pub seeks_none : (pool : Pool) (p : View) (k : Number) → p.number ≡ k → IsOf pool p → Seeks pool p p k
@@ -29,12 +29,12 @@ seeks_both pool old mid new k l a b = record {
 -- ---- one exchange
 
 note_only : (g e b x : ℕ) (p : View) (n : ℕ) (f : Find) → In f (note_of (Taking g e b) x p n)
-    → (is_draw f.step ≡ false) × (is_number f.step ≡ true) × (f.drew ≡ None) × (f.gathered ≡ length p.gathered)
+    → (is_draw f.step ≡ false) × (is_number f.step ≡ true) × (f.drew ≡ None) × IsNoted p n f
 note_only g e b x p n f (inl q) = (
   ap (λ (y : Find). is_draw y.step) q,
   ap (λ (y : Find). is_number y.step) q,
   ap (λ (y : Find). y.drew) q,
-  ap (λ (y : Find). y.gathered) q,
+  record { seen = ap (λ (y : Find). y.seen) q; clear = ap (λ (y : Find). y.clear) q; gathered = ap (λ (y : Find). y.gathered) q },
 )
 note_only g e b x p n f (inr i) = absurd i
 

@@ -31,6 +31,7 @@ module _ {now v : View} {home : List ℕ} (is : homed home v ≡ now) {x : ℕ} 
     whole = l.whole;
     complete = λ h. l.complete (record { first = h.first; others = h.others });
     later = l.later;
+    undrawn = l.undrawn;
   })
 
   pub slots_learnt : LearnsSlots v x → LearnsSlots now x

@@ -1,10 +1,17 @@
 -- What drawing, gathering and looking for every caller do to passes.
-use Rattle.std.specs.Prelude.{◌≡◌, ◌⊎◌, ℕ, ◌+◌, ◌<◌, ◌≤◌, ◌==◌, Bool, true, false, List, [], ◌∷◌, ◌++◌, length, All, Some, None, ⊤}
+use Rattle.std.specs.Prelude.{◌≡◌, ◌≢◌, ◌⊎◌, ℕ, ◌+◌, ◌<◌, ◌≤◌, ◌==◌, Bool, true, false, List, [], ◌∷◌, ◌++◌, length, All, Some, None, ⊤}
 use Rattle.fm_words.specs.Places.{groups}
 use Rattle.fm_base.specs.{declared.caller.Caller.{Caller}, Calls.{Entry}, Histories.{made_by}, Finds.{Find, Gathered, Draws, is_draw, is_number, group_of}}
 use Rattle.fm_rule_facts.specs.Views.{View, In, IsNew, IsSound, HasFind, HasAllDrawn, KnowsCallers}
-use Rattle.fm_rule_facts.specs.{Hands.{nothing, Number, no_number, number_taken, number_drawn, most_draws}, Splits.{view_of, as_gathered}}
+use Rattle.fm_rule_facts.specs.{Hands.{nothing, Number, no_number, number_taken, number_drawn, most_draws}, Splits.{view_of, as_gathered}, Steps.{is_clear}}
 use Rattle.fm_rule.specs.{Passes.{IsOf}, declared.pool.Pool.{Pool}}
+
+-- between these two, with nothing done to the pass but such looks: what a find keeps of the pass beside the word that was found
+pub record IsKept (old new : View) (f : Find) : Type 0 where
+  pub since : length old.seen ≤ f.seen
+  pub until : f.seen ≤ length new.seen
+  pub clear : f.clear ≡ is_clear old
+  pub gathered : f.gathered ≡ length old.gathered
 
 -- Others made entries, and the pass looked for a number, and how many draws were made: these are its finds
 pub record Asked (old new : View) (finds : List Find) (number : Number) : Type 0 where
@@ -16,7 +23,7 @@ pub record Asked (old new : View) (finds : List Find) (number : Number) : Type 0
   pub alone : old.whole ≡ true → more ≡ []
   pub found : new.finds ≡ old.finds ++ finds
   pub only : (f : Find) → In f finds → (is_draw f.step ≡ true) ⊎ (is_number f.step ≡ true)
-  pub gathered : (f : Find) → In f finds → f.gathered ≡ length old.gathered
+  pub kept : (f : Find) → In f finds → IsKept old new f
   -- the count of draws never falls: none of these found fewer than a draw before them
   pub later : (f g : Find) → HasFind old f → is_draw f.step ≡ true → In g finds → is_draw g.step ≡ true → f.found ≤ g.found
   pub is : new ≡ record old { seen = new.seen; finds = new.finds; whole = new.whole; number = number }
@@ -92,6 +99,7 @@ pub record Counts (old new : View) (c : Caller) : Type 0 where
   pub guess : ℕ
   pub follow : Follow guess finds
   pub drew : Drew c finds
+  pub apart : (f : Find) → HasFind old f → f.drew ≢ Some c
   pub whole : new.whole ≡ false
   pub sound : IsSound new
 
@@ -107,6 +115,8 @@ pub record Drawn (old new d : View) : Type 0 where
   pub tries : LearnsAnew finds
   pub drew : Drew caller finds
   pub fresh : IsNew new caller
+  -- nor is it one that a find drew before which the giver has
+  pub apart : (f : Find) → HasFind old f → f.drew ≢ Some caller
   pub whole : new.whole ≡ false
   pub is : d ≡ cut_from new caller
   pub giver_sound : IsSound new

@@ -2,7 +2,7 @@
 use Rattle.std.specs.Prelude.{◌≡◌, ℕ, true, List, [], length}
 use Rattle.fm_words.specs.{declared.shape.Shape.{Shape}, Shapes.{IsValid}, Places.{words as word_count}}
 use Rattle.fm_base.specs.{Calls.{Entry}, Histories.{IsLegal}}
-use Rattle.fm_rule_facts.specs.{Hands.{nothing}, Loans.{IsRightlyLent}, Rest.{ShowsHistory}, Views.{View, limit_of}}
+use Rattle.fm_rule_facts.specs.{Hands.{nothing}, Loans.{IsRightlyLent, LendsWithin}, Rest.{ShowsHistory}, Views.{View, In, limit_of}}
 use Rattle.fm_rule.specs.{Passes.{IsOf}, declared.pool.Pool.{Pool}}
 
 pub record FinishedView : Type 0 where
@@ -16,6 +16,7 @@ pub record IsFinished (f : FinishedView) : Type 0 where
   pub valid : IsValid f.shape
   pub legal : IsLegal (limit_of f.shape) [] f.history
   pub lent : IsRightlyLent f.shape.page_words (limit_of f.shape) f.history
+  pub within : (e : Entry) → In e f.history → LendsWithin f.shape e.call
   pub wide : length f.words ≡ word_count f.shape
   pub shows : ShowsHistory f.shape f.words f.history
 

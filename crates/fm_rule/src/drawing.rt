@@ -112,15 +112,12 @@ impl Pool {
         found == word && without_bit(word, bit) != word
     }
 
-    /// A guess at a free number: a multiple of 8 first, then one that is 1 above such a multiple, and so on, since the marks
-    /// of passes whose numbers are 8 apart never share a cache line. It tells nothing.
+    /// A guess at a free number, the least one that seems free. It tells nothing.
     fn guess_number(&self) -> Option<u32>
         ensures { IfSome result (λ number. number < self.now.shape.passes) }
     {
-        let rows = (self.shape.passes + 7) / 8;
-        for turn in 0..8 * rows {
-            let number = turn % rows * 8 + turn / rows;
-            if number < self.shape.passes && self.seems_free(number) {
+        for number in 0..self.shape.passes {
+            if self.seems_free(number) {
                 return Some(number);
             }
         }

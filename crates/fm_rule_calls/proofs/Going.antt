@@ -6,7 +6,8 @@ use Rattle.fm_base.specs.{Calls.{Call, Reply, Entry, entry_of}, Histories.{IsLeg
 use Rattle.fm_base.proofs.{Making.{state_after-append, IsLegal-split, inside_after-append, FindsMore-trans, FindsMore-none}, Growing.{Grows-state_after}}
 use Rattle.fm_words.specs.declared.shape.Shape.{Shape}
 use Rattle.fm_rule_facts.specs.{Views.{View, IsKnown, given_of, limit_of, state_in, IsSound}, Hands.{Number}, Steps.{Stepped, none_noted, acted}}
-use Rattle.fm_rule_calls.{specs.Kept.{Goes, rest_of, Kept, Lasts}, proofs.Lasting.{ended_after}}
+use Rattle.fm_rule_facts.{specs.Loans.{loans_of, IsUnlent, IsRightlyLent}, proofs.Unlending.{none_lent_later}}
+use Rattle.fm_rule_calls.specs.Kept.{Goes, rest_of, Kept, Lasts}
 
 -- ---- one step
 
@@ -120,21 +121,27 @@ kept_none p P s d = record { own = []; does = d; goes = goes_none s; rest = refl
 
 -- ---- what stays
 
--- the entries that came are legal, and they leave the new state
+-- the entries that came are legal, they leave the new state, and what they lend is rightly lent
 pub record Reached (p q : View) (more : List Entry) : Type 0 where
   pub legal : IsLegal (limit_of p.shape) (state_in p) more
   pub state : state_in q ≡ state_after (limit_of p.shape) (state_in p) more
+  pub seen : q.seen ≡ p.seen ++ more
+  pub whole : IsLegal (limit_of p.shape) [] (p.seen ++ more)
+  pub lent : IsRightlyLent p.shape.page_words (limit_of p.shape) (p.seen ++ more)
 
 -- a later view of the same shape has reached it by the entries between
 pub reached_by : {p q : View} (more : List Entry) → q.seen ≡ p.seen ++ more → q.shape ≡ p.shape → IsSound q → Reached p q more
 reached_by {p = p} {q = q} more seen shape sound =
     let n = limit_of p.shape in
-    let l : IsLegal n [] (p.seen ++ more) = subst (λ (es : List Entry). IsLegal n [] es) seen (subst
-    (λ (z : Shape). IsLegal (limit_of z) [] q.seen) shape sound.legal) in
+    let same : ◌≡◌ {A = Shape × List Entry} (q.shape, q.seen) (p.shape, p.seen ++ more) = (λ j. (shape j, seen j)) in
+    let l : IsLegal n [] (p.seen ++ more) = subst (λ (x : Shape × List Entry). IsLegal (limit_of x.0) [] x.1) same sound.legal in
     record {
       legal = (IsLegal-split n [] p.seen more l).1;
       state = ap (λ (z : Shape). state_after (limit_of z) [] q.seen) shape ∙ (ap (λ (es : List Entry). state_after n [] es) seen
           ∙ state_after-append n [] p.seen more);
+      seen = seen;
+      whole = l;
+      lent = subst (λ (x : Shape × List Entry). IsRightlyLent x.0.page_words (limit_of x.0) x.1) same sound.lent;
     }
 
 pub reached : {p q : View} {own : List Entry} (g : Goes p q own) → Reached p q g.more
@@ -145,17 +152,21 @@ known_by : {p q : View} {more : List Entry} → Reached p q more → (a : ArenaI
 known_by {p = p} {q = q} {more = more} r a h =
     ap (λ (s : State). has_arena s a) r.state ∙ (Grows-state_after (limit_of p.shape) (state_in p) more r.legal).has a h
 
--- What was known is known, what had ended has ended, and what was given is given.
+-- What was known is known, what had ended has ended and keeps no words where it had none, and what was given is given.
 pub lasts_by : {p q : View} {more : List Entry} → Reached p q more → Lasts p q
-lasts_by {p = p} {q = q} {more = more} r = record {
-  given = λ a. subst (λ (s : State). given_of p a ≤ (arena_of s a).given) (sym r.state)
-      ((Grows-state_after (limit_of p.shape) (state_in p) more r.legal).given a);
-  known = known_by r;
-  ended = λ a h. record {
-    known = known_by r a h.known;
-    life = ap (λ (s : State). (arena_of s a).life) r.state ∙ ended_after (limit_of p.shape) (state_in p) more r.legal a h.known h.life;
-  };
-}
+lasts_by {p = p} {q = q} {more = more} r =
+    let n = limit_of p.shape in
+    let grows = Grows-state_after n (state_in p) more r.legal in
+    record {
+      given = λ a. subst (λ (s : State). given_of p a ≤ (arena_of s a).given) (sym r.state) (grows.given a);
+      known = known_by r;
+      ended = λ a h. record {
+        known = known_by r a h.known;
+        life = ap (λ (s : State). (arena_of s a).life) r.state ∙ grows.ended a h.known h.life;
+      };
+      no_words = λ a h none. subst (λ (es : List Entry). IsUnlent (loans_of es) a) (sym r.seen)
+          (none_lent_later p.shape.page_words n p.seen more a r.whole r.lent h.known h.life none);
+    }
 
 pub lasts_on : {p q : View} {own : List Entry} → Goes p q own → Lasts p q
 lasts_on g = lasts_by (reached g)

@@ -4,11 +4,11 @@ use Rattle.std.proofs.lemmas.List.Elements.{All-contains}
 use Rattle.fm_words.specs.declared.shape.Shape.{Shape}
 use Rattle.fm_base.specs.{declared.arena_id.ArenaId.{ArenaId}, Arenas.{State, Ended, has_arena, arena_of}}
 use Rattle.fm_base.specs.{Calls.{Call, Open, Enter, Read, Write, SwapIf, Add, Allocate, Leave, Hold, Unhold, Shut, End, Lend, Back, Entry}, Machine.{after}}
-use Rattle.fm_base.{specs.Histories.{IsLegal, state_after}, proofs.{Growing.{Grows-after}, Making.{IsLegal-split, state_after-append}}}
+use Rattle.fm_base.{specs.Histories.{IsLegal, state_after}, proofs.{Growing.{Grows-after, Grows-state_after}, Making.{IsLegal-split, state_after-append}}}
 use Rattle.fm_rule_facts.specs.Loans.{Loan, loan_of, loans_by, loans_after, loans_of, HasPart, IsRightlyLent, IsRightlyLentIn, IsRightlyLentFrom}
 use Rattle.fm_rule_facts.specs.Views.{View, IsKnown, IsSound, limit_of, state_in}
 use Rattle.fm_rule_facts.proofs.{Lending.{loan_cases, loan_kept, loan_was, loans_after-append, more_loans}, Unlending.{lent-first, lent-split}}
-use Rattle.fm_rule_calls.proofs.{Lasting.{ended_after}, UnderWay.{stands_under_way}}
+use Rattle.fm_rule_calls.proofs.UnderWay.{stands_under_way}
 
 -- no block has two loans
 abbrev IsOnceLent : List Loan → Type 0
@@ -73,7 +73,7 @@ module _ (a : ArenaId) (i p : ℕ) where
       → Contains (loans_after loans es) (loan_of p a i)
   kept_after size limit s loans [] l r o h n c = c
   kept_after size limit s loans (e ∷ es) l r o h n c =
-      let now : (arena_of s a).life ≢ Ended = (λ q. n (ended_after limit s (e ∷ es) l a h q)) in
+      let now : (arena_of s a).life ≢ Ended = (λ q. n ((Grows-state_after limit s (e ∷ es) l).ended a h q)) in
       kept_after size limit (after limit s e) (loans_by loans e.call) es l.2 r.1 (once_by size s loans e.call r.0 o) ((Grows-after limit s e l.0 l.1).has a h) n
       (kept_by size s loans e.call r.0 o now c)
 

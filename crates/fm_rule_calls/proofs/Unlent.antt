@@ -1,20 +1,17 @@
--- What had ended stays so as a pass goes on: it gives no more, and words that were taken back from it aren't lent to it again.
+-- What is over stays so as a pass goes on, and gives no more; a sweep that is past the last part leaves it no words.
 use Rattle.std.proofs.Common.{◌≡◌, true, List, [], ◌++◌, sym, ◌∙◌, subst, arith, ◌≤◌}
 use Rattle.fm_base.specs.{declared.arena_id.ArenaId.{ArenaId}, Arenas.{State, has_arena, arena_of}, Calls.{Entry}, Finds.{Sweep}}
 use Rattle.fm_base.specs.Histories.{IsLegal, state_after}
 use Rattle.fm_base.proofs.Growing as growing
 use Rattle.fm_words.specs.declared.shape.Shape.{Shape}
-use Rattle.fm_rule_facts.specs.{Loans.{loans_of, IsUnlent, IsRightlyLent}, Views.{View, In, IsSound, IsOver, given_of, limit_of, state_in}}
-use Rattle.fm_rule_facts.proofs.{Ending.{given_later}, Unlending.{none_lent_later, over_later}}
+use Rattle.fm_rule_facts.specs.{Views.{View, In, IsSound, IsOver, given_of, limit_of, state_in}}
+use Rattle.fm_rule_facts.proofs.{Ending.{given_later}, Unlending.{over_later}}
 use Rattle.fm_rule_calls.specs.Kept.{Goes, HasEnded, HasNoWords}
 
 module _ {p q : View} {own : List Entry} (id : ArenaId) (g : Goes p q own) (over : IsOver p id) where
   -- what the pass has seen then, in the shape that it had
   legal : IsLegal (limit_of p.shape) [] (p.seen ++ g.more)
   legal = subst (λ (x : Shape × List Entry). IsLegal (limit_of x.0) [] x.1) (λ j. (g.same_shape j, g.seen j)) g.sound.legal
-
-  right : IsRightlyLent p.shape.page_words (limit_of p.shape) (p.seen ++ g.more)
-  right = subst (λ (x : Shape × List Entry). IsRightlyLent x.0.page_words (limit_of x.0) x.1) (λ j. (g.same_shape j, g.seen j)) g.sound.lent
 
   done : growing.IsOver (arena_of (state_in p) id)
   done = record { life = over.life; empty = over.empty }
@@ -35,12 +32,6 @@ module _ {p q : View} {own : List Entry} (id : ArenaId) (g : Goes p q own) (over
   pub given_on : given_of q id ≡ given_of p id
   given_on = (λ j. (arena_of (state_after (limit_of (g.same_shape j)) [] (g.seen j)) id).given)
       ∙ given_later (limit_of p.shape) p.seen g.more id legal over.known done
-
-  -- It has no words still.
-  pub no_words_on : HasNoWords p id → HasNoWords q id
-  no_words_on none =
-      subst (λ (es : List Entry). IsUnlent (loans_of es) id) (sym g.seen)
-      (none_lent_later p.shape.page_words (limit_of p.shape) p.seen g.more id legal right over.known done none)
 
 -- What is over has ended.
 pub has_ended : {p : View} {id : ArenaId} → IsOver p id → HasEnded p id

@@ -1,9 +1,9 @@
 -- How a pass goes on by the entries of one of its calls.
 use Rattle.std.specs.Prelude.{◌≡◌, ◌≤◌, true, List, [], ◌∷◌, ◌++◌, All, ℕ}
-use Rattle.fm_base.specs.{declared.arena_id.ArenaId.{ArenaId}, Arenas.{Ended, arena_of, kind_number}, Calls.{Entry}, Histories.{made_by}}
-use Rattle.fm_base.specs.{Finds.{Close, Sweep, Rest, FindsMore}, View.{inside_after}}
+use Rattle.fm_base.specs.{declared.arena_id.ArenaId.{ArenaId}, Arenas.{Ended, arena_of}, Calls.{Entry}, Histories.{made_by}}
+use Rattle.fm_base.specs.{Finds.{Close, Rest, FindsMore}, View.{inside_after}}
 use Rattle.fm_words.specs.declared.shape.Shape.{Shape}
-use Rattle.fm_rule_facts.specs.{Hands.{Hand, slots_in}, Loans.{loans_of, IsUnlent}, Views.{View, IsKnown, IsSound, given_of, state_in}}
+use Rattle.fm_rule_facts.specs.{Hands.{slots_in}, Loans.{loans_of, IsUnlent}, Views.{View, IsKnown, IsSound, given_of, state_in}}
 
 -- The pass goes on by entries, of which these are its own, wholly after all that it had seen
 pub record Goes (old new : View) (own : List Entry) : Type 0 where
@@ -27,15 +27,6 @@ pub record Goes (old new : View) (own : List Entry) : Type 0 where
 abbrev pub shape_numbers : Shape → List ℕ
 shape_numbers z = z.passes ∷ z.slots ∷ z.pages ∷ z.page_words ∷ z.reach ∷ z.generations ∷ []
 
--- numbers that tell of arenas that ended and aren't swept, and how far each sweep is: until then their slots are in the pass's hand
-abbrev pub sweep_numbers : List Sweep → List ℕ
-sweep_numbers [] = []
-sweep_numbers (c ∷ cs) =
-    c.arena.slot ∷ c.arena.generation ∷ kind_number c.arena.kind ∷ c.arena.owner ∷ c.arena.term ∷ c.passed ∷ sweep_numbers cs
-
-unfoldable pub slots_told : List Sweep → Hand → List ℕ
-slots_told sweeps hand = sweep_numbers sweeps ++ slots_in hand
-
 -- what a pass has, and what was gathered into it
 abbrev pub rest_of : View → Rest
 rest_of p = record {
@@ -43,8 +34,9 @@ rest_of p = record {
   holds = p.holds;
   handles = p.handles;
   closes = p.closes;
+  sweeps = p.sweeps;
   pages = p.pages;
-  slots = slots_told p.sweeps p.hand;
+  slots = slots_in p.hand;
   gathered = p.gathered;
   whole = p.whole;
 }
@@ -81,8 +73,9 @@ pub record HasEnded (p : View) (id : ArenaId) : Type 0 where
 abbrev pub HasNoWords : View → ArenaId → Type 0
 HasNoWords p id = IsUnlent (loans_of p.seen) id
 
--- what was known is known, what was given is given, and what had ended has ended
+-- what was known is known, what was given is given, what had ended has ended, and what of it had no words has none
 pub record Lasts (old new : View) : Type 0 where
   pub given : (id : ArenaId) → given_of old id ≤ given_of new id
   pub known : (id : ArenaId) → IsKnown old id → IsKnown new id
   pub ended : (id : ArenaId) → HasEnded old id → HasEnded new id
+  pub no_words : (id : ArenaId) → HasEnded old id → HasNoWords old id → HasNoWords new id

@@ -7,7 +7,7 @@ use Rattle.fm_base.specs.{Calls.{Call, Open, Enter, Read, Write, SwapIf, Add, Al
 use Rattle.fm_base.{specs.Histories.{IsLegal, state_after}, proofs.Making.{state_after-append}}
 use Rattle.fm_words.specs.declared.shape.Shape.{Shape}
 use Rattle.fm_rule_facts.specs.{Memory.{Session, IsShown}, Pages.{IsBeyond, IsMapped}}
-use Rattle.fm_rule_facts.specs.{Loans.{Loan, loan_of, loans_by, loans_after, IsRightlyLentIn, IsRightlyLentFrom}, Moves.{LendsBy, MayLend, MayMake}}
+use Rattle.fm_rule_facts.specs.{Loans.{Loan, LendsWithin, loan_of, loans_by, loans_after, IsRightlyLentIn, IsRightlyLentFrom}, Views.{In}, Moves.{LendsBy, MayLend, MayMake}}
 use Rattle.fm_rule_facts.proofs.Frame.{legal_on}
 use Rattle.fm_base_machine.{specs.Functions.{Fresh, Over, stage_of, Machine, Depicts, moved}, proofs.Allowing.{not_fresh}}
 
@@ -36,36 +36,46 @@ over_now true Closing o = absurd (cc)
 over_now true Ended o = refl
 over_now false l o = absurd (cc)
 
-right_by : (size limit : ℕ) (s : State) (t : Machine) (loans : List Loan) (call : Call) → Depicts limit s t → LendsBy size t loans call
-    → IsRightlyLentIn size s loans call
-right_by size limit s t loans (Lend block id part) d m =
+right_by : (z : Shape) (limit : ℕ) (s : State) (t : Machine) (loans : List Loan) (call : Call) → Depicts limit s t → LendsBy z t loans call
+    → IsRightlyLentIn z.page_words s loans call
+right_by z limit s t loans (Lend block id part) d m =
     let n : stage_of (has_arena s id) (arena_of s id).life ≢ Fresh = (λ f. m.1 (d.life id ∙ f)) in
     (m.0, not_fresh (has_arena s id) (arena_of s id).life n, on_going (has_arena s id) (arena_of s id).life n (λ f. m.2 (d.life id ∙ f)), m.3)
-right_by size limit s t loans (Back block) d m = (m.0, m.1, m.2, over_now (has_arena s m.0) (arena_of s m.0).life (sym (d.life m.0) ∙ m.3))
-right_by size limit s t loans (Read id word) d m = m
-right_by size limit s t loans (Write id word value) d m = m
-right_by size limit s t loans (SwapIf id word old new) d m = m
-right_by size limit s t loans (Add id word n) d m = m
-right_by size limit s t loans (Open id) d m = tt
-right_by size limit s t loans (Enter id) d m = tt
-right_by size limit s t loans (Allocate id length align) d m = tt
-right_by size limit s t loans (Leave id) d m = tt
-right_by size limit s t loans (Hold id) d m = tt
-right_by size limit s t loans (Unhold id) d m = tt
-right_by size limit s t loans (Shut id) d m = tt
-right_by size limit s t loans (End id) d m = tt
+right_by z limit s t loans (Back block) d m = (m.0, m.1, m.2, over_now (has_arena s m.0) (arena_of s m.0).life (sym (d.life m.0) ∙ m.3))
+right_by z limit s t loans (Read id word) d m = m
+right_by z limit s t loans (Write id word value) d m = m
+right_by z limit s t loans (SwapIf id word old new) d m = m
+right_by z limit s t loans (Add id word n) d m = m
+right_by z limit s t loans (Open id) d m = tt
+right_by z limit s t loans (Enter id) d m = tt
+right_by z limit s t loans (Allocate id length align) d m = tt
+right_by z limit s t loans (Leave id) d m = tt
+right_by z limit s t loans (Hold id) d m = tt
+right_by z limit s t loans (Unhold id) d m = tt
+right_by z limit s t loans (Shut id) d m = tt
+right_by z limit s t loans (End id) d m = tt
 
 -- entries that the functions allow are rightly lent where a legal history goes on with them
-pub lent_on : (size limit : ℕ) (c : Caller) (h : List Entry) (loans : List Loan) (es : List Entry) (t : Machine) → IsLegal limit [] h
+pub lent_on : (z : Shape) (limit : ℕ) (c : Caller) (h : List Entry) (loans : List Loan) (es : List Entry) (t : Machine) → IsLegal limit [] h
     → Depicts limit (state_after limit [] h) t
-    → MayMake limit t c es → MayLend size t loans es → IsRightlyLentFrom size limit (state_after limit [] h) loans es
-lent_on size limit c h loans [] t l d p m = tt
-lent_on size limit c h loans (e ∷ es) t l d p m =
+    → MayMake limit t c es → MayLend z t loans es → IsRightlyLentFrom z.page_words limit (state_after limit [] h) loans es
+lent_on z limit c h loans [] t l d p m = tt
+lent_on z limit c h loans (e ∷ es) t l d p m =
     let one = legal_on limit c h (e ∷ []) t l d (p.0, p.1, p.2, tt) in
-    let rest = lent_on size limit c (h ++ e ∷ []) (loans_by loans e.call) es (moved t e.caller e.call e.reply) one.0 one.1 p.3 m.1 in (
-      right_by size limit (state_after limit [] h) t loans e.call d m.0,
-      subst (λ (s : State). IsRightlyLentFrom size limit s (loans_by loans e.call) es) (state_after-append limit [] h (e ∷ [])) rest,
+    let rest = lent_on z limit c (h ++ e ∷ []) (loans_by loans e.call) es (moved t e.caller e.call e.reply) one.0 one.1 p.3 m.1 in (
+      right_by z limit (state_after limit [] h) t loans e.call d m.0,
+      subst (λ (s : State). IsRightlyLentFrom z.page_words limit s (loans_by loans e.call) es) (state_after-append limit [] h (e ∷ [])) rest,
     )
+
+within_by : (z : Shape) (t : Machine) (loans : List Loan) (call : Call) → LendsBy z t loans call → LendsWithin z call
+within_by z t loans (Lend block id part) m = (m.4, m.5)
+within_by z t loans call m = tt
+
+-- and what they lend is the pool's
+pub within_on : (z : Shape) (t : Machine) (loans : List Loan) (es : List Entry) → MayLend z t loans es → (e : Entry) → In e es → LendsWithin z e.call
+within_on z t loans [] m e i = absurd i
+within_on z t loans (x ∷ es) m e (inl q) = subst (λ (y : Entry). LendsWithin z y.call) (sym q) (within_by z t loans x.call m.0)
+within_on z t loans (x ∷ es) m e (inr i) = within_on z (moved t x.caller x.call x.reply) (loans_by loans x.call) es m.1 e i
 
 -- ---- loans after each kind of entry
 

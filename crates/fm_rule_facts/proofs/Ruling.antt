@@ -7,15 +7,15 @@ use Rattle.atomic_table.proofs.Lists.{at_set, set_else}
 use Rattle.fm_words.specs.declared.shape.Shape.{Shape}
 use Rattle.fm_base.specs.{declared.caller.Caller.{Caller}, Calls.{Entry}, Finds.{Find, Gathered, is_number}}
 use Rattle.fm_base_machine.specs.{Functions.{Closes, Over, Machine}, Steps.{moved_by}}
-use Rattle.fm_rule_facts.specs.Views.{all_gathered, brought, View, In, limit_of}
+use Rattle.fm_rule_facts.specs.Views.{all_gathered, brought, caller_of, View, In, limit_of}
 use Rattle.fm_rule_facts.specs.Facts.{Memory, Work, free, shut, Berth, loose, claimed, mapped, unmapped, IsAt, Pages, HasPage, Owners, Shows, World, HasDraw, HasClose, HasSweep, KeepsSlot, Somewhere, Knows, Rule, KeepsCaller, WantsNumber, IsUsed, wanted, IsLooked, LookedBy, KeepsNumber, WasDrawn, bit_of, IsSpent}
 use Rattle.fm_rule_facts.specs.Moves.{Moved, Same, KeepsHand, KeepsCloses, KeepsSweeps, KeepsSlots, KeepsPages, KeepsHolds, told, Gives, MayLend, NumbersOn}
 use Rattle.fm_rule_facts.specs.{Hands.{number_drawn}, Holds.{holds_of}, Loans.{Loan, loans_of, loans_after}}
-use Rattle.fm_rule_facts.{proofs.Lending.{loans_after-append, lent-append, lent_on}, specs.Gone.{FoundBy, IsFounded}}
+use Rattle.fm_rule_facts.{proofs.Lending.{loans_after-append, lent-append, lent_on, within_on}, specs.Gone.{FoundBy, IsFounded}}
 use Rattle.fm_rule_facts.proofs.{Looking.{wants_loose, looked_on, looked_told, none_looked}, Gone.{none_founded, found_on, founded_on, founded_told}}
 use Rattle.fm_rule_facts.proofs.{Frame.{legal_on}, Summing.{total-set}, Handles.{handles_told}}
 use Rattle.fm_rule_facts.proofs.Founds.{NoneDrawn, NoDraw, none_within, counted_later, counted_told, counted_set}
-use Rattle.fm_rule_facts.proofs.{Keeping.{set_there, in_left, stays_somewhere, silent_on, drawn_still, drawn_before, others_know}, Owning.{own_view, gives_by}}
+use Rattle.fm_rule_facts.proofs.{Keeping.{set_there, in_append, in_left, stays_somewhere, silent_on, drawn_still, drawn_before, others_know}, Owning.{own_view, gives_by}}
 use Rattle.fm_rule_facts.proofs.Sounding.{sound_of}
 use mathlib.Core.Option.{some-injective}
 use mathlib.Core.Logic.{dite}
@@ -87,7 +87,7 @@ unlooked {z} {ws} {vs} r v fs none f i =
 module _ (z : Shape) (ws ws' : List ℕ) (vs : List View) (r : Rule z ws vs) (me : ℕ) (v p : View) (es : List Entry) (fs : ℕ → List Find) (m' : Memory)
     (o' : Owners) (at : get_elem? vs me ≡ some v) (l : v.live ≡ true) (d : Moved me z v.caller r.memory r.machine r.owners es m' o') (s : Same v p) where
   abbrev After : Type 0
-  After = MayLend z.page_words r.machine (loans_of r.history) es → PagesAfter z r.history m' r.machine o' es
+  After = MayLend z r.machine (loans_of r.history) es → PagesAfter z r.history m' r.machine o' es
       → KeepsCloses me v p r.machine r.owners (moved_by r.machine es) o'
       → KeepsSweeps me v p r.memory r.machine r.owners m' (moved_by r.machine es) o' → KeepsSlots z me v p r.memory r.owners m' o'
       → KeepsPages me v p r.owners o'
@@ -133,7 +133,8 @@ module _ (z : Shape) (ws ws' : List ℕ) (vs : List View) (r : Rule z ws vs) (me
         legal = on.0;
         rightly =
             lent-append z.page_words (limit_of z) [] [] r.history es r.rightly
-            (lent_on z.page_words (limit_of z) v.caller r.history (loans_of r.history) es r.machine r.legal r.depicts d.allowed lends);
+            (lent_on z (limit_of z) v.caller r.history (loans_of r.history) es r.machine r.legal r.depicts d.allowed lends);
+        within = λ e i. ⊎_elim (r.within e) (within_on z r.machine (loans_of r.history) es lends e) (in_append e r.history es i);
         pages = subst (λ (ls : List Loan). Pages z ls m'.page_bits m'.maps m'.cells o'.berth m'.sessions t'.life t'.word t'.given)
             (sym (loans_after-append [] r.history es)) pages;
         depicts = on.1;
@@ -148,6 +149,7 @@ module _ (z : Shape) (ws ws' : List ℕ) (vs : List View) (r : Rule z ws vs) (me
             silent_on (limit_of z) r.history v.caller r.machine es d.allowed c far (r.later c (λ y. n (after c y)));
         terms = λ c y. let x = r.terms c (before c y) in (x.0, (let a = x.1 in let b = kn.terms.terms c.number in omega arith));
         last = kn.terms.last;
+        used = λ n t h. ⊎_elim (λ x. after (caller_of n t) (r.used n t x)) (after (caller_of n t)) (kn.terms.used n t h);
         callers = λ c y. here c (KeepsCaller c) (caller_still v p zs es fs s c (q.stays c)) (r.callers c (before c y));
         drawers = λ k i h.
             let y = r.drawers k i (let b = d.callers.draw in omega arith) in

@@ -1,5 +1,5 @@
 -- Session words stay beside the machine over each kind of entry.
-use Rattle.std.{proofs.Common.{◌≡◌, ◌≢◌, ◌⊎◌, ℕ, ◌+◌, ◌<◌, ◌≤◌, sym, refl, ap, ◌∙◌, subst, arith, inl, inr, ⊎_elim}, specs.Int.{bit_at}}
+use Rattle.std.{proofs.Common.{◌≡◌, ◌≢◌, ◌⊎◌, ℕ, ◌+◌, ◌-◌, ◌<◌, ◌≤◌, sym, refl, ap, ◌∙◌, subst, arith, inl, inr, ⊎_elim}, specs.Int.{bit_at}}
 use mathlib.Core.Logic.{dite}
 use native.Mathlib.Decide.{ℕ_discrete}
 use Rattle.fm_words.specs.declared.shape.Shape.{Shape}
@@ -54,6 +54,14 @@ module _ (z : Shape) (sessions : ℕ → Session) (life : ArenaId → Stage) (r 
   was_opened : (a : ArenaId) (x : Stage) (s g : ℕ) → x ≢ Fresh → WasOpened life s g → WasOpened (put_at life a x) s g
   was_opened a x s g n y = (y.0, y.1, y.2, at_cases life a x y.0 (λ l. l ≢ Fresh) (λ e. n) (λ e. y.3))
 
+  -- what was opened is so by the stages before, where the stage of an opened arena changed
+  was_known : (a : ArenaId) (x : Stage) (b : ArenaId) → life a ≢ Fresh → put_at life a x b ≢ Fresh → life b ≢ Fresh
+  was_known a x b n = at_cases life a x b (λ (y : Stage). y ≢ Fresh → life b ≢ Fresh) (λ e q f. n (sym (ap life e) ∙ f)) (λ ne q. q)
+
+  older_still : (a : ArenaId) (x : Stage) → life a ≢ Fresh → x ≢ Fresh → (b : ArenaId) (g : ℕ) → put_at life a x b ≢ Fresh → g < b.generation
+      → WasOpened (put_at life a x) b.slot g
+  older_still a x n some b g q h = was_opened a x b.slot g some (r.older b g (was_known a x b n q) h)
+
   -- what a free slot says stays where another slot is free no more
   free_else : (a : ArenaId) (x : Session) (y : Stage) → ((g : ℕ) → x ≢ free g) → (s g : ℕ) → put sessions a.slot x s ≡ free g
       → (b : ArenaId) → b.slot ≡ s → g ≤ b.generation → put_at life a y b ≡ Fresh
@@ -89,6 +97,7 @@ module _ (z : Shape) (sessions : ℕ → Session) (life : ArenaId → Stage) (r 
     fits = λ b. at_cases life a Closes b (λ (x : Stage). x ≢ Fresh → Fits z b)
         (λ e q. r.fits b (λ p. let y : life b ≡ Lives = ap life e ∙ l in absurd (cc)))
         (λ n q. r.fits b q);
+    older = older_still a Closes (λ e. let y : Lives ≡ Fresh = sym l ∙ e in absurd (cc)) (λ e. absurd (cc));
   }
 
   pub sessions_end : (a : ArenaId) → life a ≡ Closes → Sessions z sessions (put_at life a Over)
@@ -104,6 +113,7 @@ module _ (z : Shape) (sessions : ℕ → Session) (life : ArenaId → Stage) (r 
     fits = λ b. at_cases life a Over b (λ (x : Stage). x ≢ Fresh → Fits z b)
         (λ e q. r.fits b (λ p. let y : life b ≡ Closes = ap life e ∙ l in absurd (cc)))
         (λ n q. r.fits b q);
+    older = older_still a Over (λ e. let y : Closes ≡ Fresh = sym l ∙ e in absurd (cc)) (λ e. absurd (cc));
   }
 
   -- no other arena stands in the slot of one that has ended and isn't retired
@@ -141,6 +151,7 @@ module _ (z : Shape) (sessions : ℕ → Session) (life : ArenaId → Stage) (r 
         (λ e q. let i : a.generation + 1 ≡ g + 1 = cc in (a, sym e, omega arith, (λ n. let x : Over ≡ Fresh = sym o ∙ n in absurd (cc))))
         (λ n q. r.before s g q);
     fits = r.fits;
+    older = r.older;
   }
 
   module _ (a : ArenaId) (f : sessions a.slot ≡ free a.generation) where
@@ -150,6 +161,19 @@ module _ (z : Shape) (sessions : ℕ → Session) (life : ArenaId → Stage) (r 
     unlike : (b : ArenaId) → b.slot ≡ a.slot → ¬ (IsStanding (life b))
     unlike b e (inl q) = let y : sessions a.slot ≡ live b = ap sessions (sym e) ∙ r.alive_shown b q in absurd (cc)
     unlike b e (inr q) = let y : sessions a.slot ≡ shut b = ap sessions (sym e) ∙ r.closing_shown b q in absurd (cc)
+
+    -- the generation before it was opened, and so each earlier one
+    earlier : (b : ArenaId) (g : ℕ) → b ≡ a → g < b.generation → WasOpened life b.slot g
+    earlier b g e h =
+        let same : b.generation ≡ a.generation = ap (λ (x : ArenaId). x.generation) e in
+        let m : ℕ = a.generation - 1 in
+        let next : a.generation ≡ m + 1 = omega arith in
+        let y = r.before a.slot m (f ∙ ap free next) in
+        let slot : y.0.slot ≡ b.slot = y.1 ∙ sym (ap (λ (x : ArenaId). x.slot) e) in
+        let of : y.0.generation ≡ m = y.2 in
+        dite (ℕ_discrete g m)
+        (λ q. (y.0, slot, of ∙ sym q, y.3))
+        (λ ne. subst (λ (k : ℕ). WasOpened life k g) slot (r.older y.0 g y.3 (omega arith)))
 
     pub sessions_open : Fits z a → Sessions z (put sessions a.slot (live a)) (put_at life a Lives)
     sessions_open fit = record {
@@ -177,6 +201,9 @@ module _ (z : Shape) (sessions : ℕ → Session) (life : ArenaId → Stage) (r 
           (λ e q. absurd (cc))
           (λ n q. was_opened a Lives s g (λ e. absurd (cc)) (r.before s g q));
       fits = λ b. at_cases life a Lives b (λ (x : Stage). x ≢ Fresh → Fits z b) (λ e q. subst (Fits z) (sym e) fit) (λ n q. r.fits b q);
+      older = λ b g. at_cases life a Lives b (λ (x : Stage). x ≢ Fresh → g < b.generation → WasOpened (put_at life a Lives) b.slot g)
+          (λ e q h. was_opened a Lives b.slot g (λ p. absurd (cc)) (earlier b g e h))
+          (λ n q h. was_opened a Lives b.slot g (λ p. absurd (cc)) (r.older b g q h));
     }
 
 -- ---- slots

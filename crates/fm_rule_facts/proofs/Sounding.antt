@@ -7,13 +7,13 @@ use Rattle.fm_words.specs.{declared.shape.Shape.{Shape}, Shapes.{IsValid}}
 use Rattle.fm_base.specs.declared.{caller.Caller.{Caller}, arena_id.ArenaId.{ArenaId}}
 use Rattle.fm_base.specs.{Arenas.{only_caller, Life, Alive, Closing, Ended, State, IsUnderWay, has_arena, arena_of}, Calls.{Entry}}
 use Rattle.fm_base.specs.{Histories.{IsLegal, state_after, made_by}, Finds.{Gathered, Sweep}}
-use Rattle.fm_rule_facts.specs.{Berths.{LentAt}, Parts.{wiping}, Views.{FewLeft, brought, View, Fits, In, IsSound, IsKnown, limit_of, state_in}}
+use Rattle.fm_rule_facts.specs.{Berths.{LentAt}, Parts.{wiping}, Views.{FewLeft, brought, View, Fits, In, IsSound, IsKnown, caller_of, limit_of, state_in}}
 use Rattle.fm_rule_facts.specs.Facts.{Berth, loose, claimed, mapped, unmapped, IsAt, IsSweeping, IsWiped, HasSwept, HasPage, Owns, Rule, IsOnce, WasDrawn, IsDrawn, HasNumberInHand}
-use Rattle.fm_rule_facts.{proofs.Handing.{slot_below}, specs.{Holds.{grips, holds_of}, Loans.{Loan, loans_of, IsRightlyLent, loan_of, HasPart}}}
+use Rattle.fm_rule_facts.{proofs.Handing.{slot_below}, specs.{Holds.{grips, holds_of}, Loans.{Loan, loans_of, IsRightlyLent, LendsWithin, loan_of, HasPart}}}
 use Rattle.fm_rule_facts.{proofs.{Lending.{over_now}, Alone.{none_now, numbers_gone}, Given.{given_lent, mapped_part}}, specs.Gone.{FoundBy}}
 use Rattle.fm_rule_facts.proofs.{Callers.{all_now, few_gathered, whole_has, knows_callers}, Sessions.{unstanding}, Summing.{total-has, some_hold}}
 use Rattle.fm_rule_facts.proofs.{Gripping.{held_now, held_lives}, Founds.{find_within}, Keeping.{in_left}}
-use Rattle.fm_base_machine.{specs.Functions.{Fresh, Lives, Over, stage_of}, proofs.{Putting.{contains_first}, Allowing.{not_fresh}}}
+use Rattle.fm_base_machine.{specs.Functions.{Fresh, Lives, Closes, Over, stage_of}, proofs.{Putting.{contains_first}, Allowing.{not_fresh}}}
 
 -- an arena of the list was opened
 pub opened_life : (b : Bool) (l : Life) → b ≡ true → stage_of b l ≢ Fresh
@@ -39,6 +39,13 @@ alive_now true Alive e = (refl, refl)
 alive_now true Closing e = absurd (cc)
 alive_now true Ended e = absurd (cc)
 alive_now false l e = absurd (cc)
+
+-- an arena that was shut
+closing_now : (b : Bool) (l : Life) → stage_of b l ≡ Closes → (b ≡ true) × (l ≡ Closing)
+closing_now true Alive e = absurd (cc)
+closing_now true Closing e = (refl, refl)
+closing_now true Ended e = absurd (cc)
+closing_now false l e = absurd (cc)
 
 -- an arena of which a live view has a hold is alive
 lives_held : (z : Shape) (ws : List ℕ) (vs : List View) (r : Rule z ws vs) (me : ℕ) (v : View) → get_elem? vs me ≡ some v → v.live ≡ true
@@ -130,11 +137,23 @@ sound_of z ws vs r me v at l lone q =
       limit = limit_below v.shape valid;
       legal = subst (λ (x : Shape × List Entry). IsLegal (limit_of x.0) [] x.1) (λ i. (sym e i, sym q i)) r.legal;
       lent = subst (λ (x : Shape × List Entry). IsRightlyLent x.0.page_words (limit_of x.0) x.1) (λ i. (sym e i, sym q i)) r.rightly;
+      within = λ x i. subst (λ (y : Shape). LendsWithin y x.call) (sym e) (r.within x (subst (In x) q i));
       number = (let a = (r.terms v.caller u.drawn).0 in let c : v.shape.passes ≡ z.passes = ap (λ (x : Shape). x.passes) e in omega arith);
       inside = λ a i. subst (λ (x : State). IsUnderWay x v.caller a) (sym st) (r.depicts.listed v.caller a (u.work.inside ∙ i));
       outside = λ a w. sym u.work.inside ∙ r.depicts.under v.caller a (subst (λ (x : State). IsUnderWay x v.caller a) st w);
       fits = λ a h. subst (λ (x : Shape). Fits x a) (sym e) (r.world.sessions.fits a (known a h));
+      older = λ a g h less.
+          let y = r.world.sessions.older a g (known a h) less in (
+            y.0,
+            y.1,
+            y.2,
+            ap (λ (x : State). has_arena x y.0) st ∙ not_fresh (has_arena s y.0) (arena_of s y.0).life (λ f. y.3 (r.depicts.life y.0 ∙ f)),
+          );
       hand = λ s i. subst (λ (y : Shape). s < y.slots) (sym e) (slot_below z r.memory.bits r.memory.sessions r.owners.holder me s v.hand u.work.hand i);
+      closing = λ c i.
+          let y = closing_now (has_arena s c.arena) (arena_of s c.arena).life (sym (r.depicts.life c.arena) ∙ (u.work.closes c i).life) in
+          (ap (λ (x : State). has_arena x c.arena) st ∙ y.0, ap (λ (x : State). (arena_of x c.arena).life) st ∙ y.1);
+      closes_once = u.work.once;
       swept = λ c i.
           let y = u.work.sweeps c i in
           record {
@@ -210,4 +229,11 @@ sound_of z ws vs r me v at l lone q =
       one_each = subst (IsOnce (λ (g : Gathered). g.caller)) (all_now z r.history r.memory r.machine r.owners me v lone u) u.one_each;
       others = λ g i. (u.gathered g i).apart;
       term = (let a = (r.terms v.caller u.drawn).1 in let b = r.last v.caller.number in omega arith);
+      earlier = λ w c t h less.
+          let drawn : WasDrawn r.memory.draw r.owners.who r.owners.rank c = ⊎_elim
+          (λ (x : c ≡ v.caller). subst (WasDrawn r.memory.draw r.owners.who r.owners.rank) (sym x) u.drawn)
+          (λ (g : (g : Gathered) × In g v.gathered × (g.caller ≡ c)). subst (WasDrawn r.memory.draw r.owners.who r.owners.rank) g.2 (u.gathered g.0 g.1).drawn)
+          h in
+          whole_has z r.history r.memory r.machine r.owners me v lone u w (caller_of c.number t)
+          (r.used c.number t (let a = (r.terms c drawn).1 in omega arith));
     }

@@ -18,11 +18,11 @@ still_none size s loans call a o r n l h e = n l h e
 
 -- nothing is lent to it later
 pub none_lent_on : (size limit : ℕ) (s : State) (loans : List Loan) (es : List Entry) (a : ArenaId) → IsLegal limit s es → has_arena s a ≡ true
-    → IsOver (arena_of s a) → IsRightlyLentFrom size limit s loans es → IsUnlent loans a → IsUnlent (loans_after loans es) a
+    → (arena_of s a).life ≡ Ended → IsRightlyLentFrom size limit s loans es → IsUnlent loans a → IsUnlent (loans_after loans es) a
 none_lent_on size limit s loans [] a l h o r n = n
 none_lent_on size limit s loans (e ∷ es) a l h o r n =
     let g = Grows-after limit s e l.0 l.1 in
-    none_lent_on size limit (after limit s e) (loans_by loans e.call) es a l.2 (g.has a h) (g.over a h o) r.1 (still_none size s loans e.call a o.life r.0 n)
+    none_lent_on size limit (after limit s e) (loans_by loans e.call) es a l.2 (g.has a h) (g.ended a h o) r.1 (still_none size s loans e.call a o r.0 n)
 
 -- ---- histories
 
@@ -47,7 +47,7 @@ over_later limit h more a l k o =
 
 -- and nothing is lent to it
 pub none_lent_later : (size limit : ℕ) (h more : List Entry) (a : ArenaId) → IsLegal limit [] (h ++ more) → IsRightlyLent size limit (h ++ more)
-    → has_arena (state_after limit [] h) a ≡ true → IsOver (arena_of (state_after limit [] h) a) → IsUnlent (loans_of h) a → IsUnlent (loans_of (h ++ more)) a
+    → has_arena (state_after limit [] h) a ≡ true → (arena_of (state_after limit [] h) a).life ≡ Ended → IsUnlent (loans_of h) a → IsUnlent (loans_of (h ++ more)) a
 none_lent_later size limit h more a l r k o n =
     subst (λ (ls : List Loan). IsUnlent ls a) (sym (loans_after-append [] h more))
     (none_lent_on size limit (state_after limit [] h) (loans_of h) more a (IsLegal-split limit [] h more l).1 k o (lent-split size limit [] [] h more r) n)

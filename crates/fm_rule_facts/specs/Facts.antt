@@ -5,9 +5,9 @@ use lib.ListN.{get_elem?}
 use Rattle.fm_words.specs.{declared.shape.Shape.{Shape}, Shapes.{IsValid}}
 use Rattle.fm_base.specs.{declared.{caller.Caller.{Caller}, arena_id.ArenaId.{ArenaId}}, Calls.{Entry}, Histories.{IsLegal, state_after, made_by}}
 use Rattle.fm_base.specs.{Finds.{Find, Gathered, Close, Sweep, is_draw, is_number, group_of}, Arenas.{only_caller}}
-use Rattle.fm_rule_facts.specs.Loans.{loans_of, IsRightlyLent}
+use Rattle.fm_rule_facts.specs.Loans.{loans_of, IsRightlyLent, LendsWithin}
 use Rattle.fm_rule_facts.specs.Hands.{Hand, nothing, taken, learnt, retired, HasSlot, IsTaker, Number, no_number, number_taken, number_learnt, number_drawn, number_left, number_joined, HasNumberIn, last_term, most_draws}
-use Rattle.fm_rule_facts.specs.{Views.{Met, View, Fits, In, HasOwnHandles, all_gathered, limit_of, prefix}, Parts.{Mapping, Swept, unread, named, wiping}}
+use Rattle.fm_rule_facts.specs.{Views.{Met, View, Fits, In, HasOwnHandles, all_gathered, caller_of, limit_of, prefix}, Parts.{Mapping, Swept, unread, named, wiping}}
 use Rattle.fm_rule_facts.specs.{Gone.{IsFounded}, Holds.{holds_of, total, all_holds}}
 use Rattle.fm_base_machine.specs.Functions.{Stage, Fresh, Lives, Closes, Over, Machine, Depicts}
 pub use Rattle.fm_rule_facts.specs.Views.{IsOnce, Begins}
@@ -39,6 +39,8 @@ pub record Sessions (z : Shape) (sessions : ℕ → Session) (life : ArenaId →
   -- the generation before was opened
   pub before : (s g : ℕ) → sessions s ≡ free (g + 1) → (a : ArenaId) × (a.slot ≡ s) × (a.generation ≡ g) × (life a ≢ Fresh)
   pub fits : (a : ArenaId) → life a ≢ Fresh → Fits z a
+  -- each generation before that of an arena was opened
+  pub older : (a : ArenaId) (g : ℕ) → life a ≢ Fresh → g < a.generation → (b : ArenaId) × (b.slot ≡ a.slot) × (b.generation ≡ g) × (life b ≢ Fresh)
 
 -- slots whose bit is 1 are free, and have a generation left; no bit is 1 where there is no slot
 pub record Slots (z : Shape) (bits : ℕ) (sessions : ℕ → Session) : Type 0 where
@@ -352,6 +354,7 @@ pub record Rule (z : Shape) (words : List ℕ) (views : List View) : Type 0 wher
   pub valid : IsValid z
   pub legal : IsLegal (limit_of z) [] history
   pub rightly : IsRightlyLent z.page_words (limit_of z) history
+  pub within : (e : Entry) → In e history → LendsWithin z e.call
   pub pages : Pages z (loans_of history) memory.page_bits memory.maps memory.cells owners.berth memory.sessions machine.life machine.word machine.given
   pub depicts : Depicts (limit_of z) (state_after (limit_of z) [] history) machine
   pub shows : Shows z words memory
@@ -365,6 +368,8 @@ pub record Rule (z : Shape) (words : List ℕ) (views : List View) : Type 0 wher
   -- who was drawn has a number of the pool, and no later term than it
   pub terms : (c : Caller) → WasDrawn memory.draw owners.who owners.rank c → (c.number < z.passes) × (c.term ≤ memory.terms c.number)
   pub last : (n : ℕ) → memory.terms n ≤ last_term
+  -- each term of a number below its next one was drawn
+  pub used : (n t : ℕ) → t < memory.terms n → WasDrawn memory.draw owners.who owners.rank (caller_of n t)
   pub callers : (c : Caller) → WasDrawn memory.draw owners.who owners.rank c → Somewhere views (owners.seat c) (KeepsCaller c)
   -- each caller but the first was drawn by one that was drawn earlier
   pub drawers : (k : ℕ) → 0 < k → k < memory.draw

@@ -1,5 +1,6 @@
 -- Blocks of a pool's words that are lent to arenas as their parts.
-use Rattle.std.specs.Prelude.{◌≡◌, ◌≢◌, ℕ, ◌/◌, ◌==◌, true, List, [], ◌∷◌, filter, not, Contains, All, ⊤}
+use Rattle.std.specs.Prelude.{◌≡◌, ◌≢◌, ℕ, ◌/◌, ◌<◌, ◌==◌, true, List, [], ◌∷◌, filter, not, Contains, All, ⊤}
+use Rattle.fm_words.specs.declared.shape.Shape.{Shape}
 use Rattle.fm_base.specs.{declared.arena_id.ArenaId.{ArenaId}, Arenas.{State, Ended, has_arena, arena_of}}
 use Rattle.fm_base.specs.{Calls.{Call, Read, Write, SwapIf, Add, Lend, Back, Entry}, Machine.{after}}
 
@@ -56,3 +57,8 @@ IsRightlyLentFrom size limit s loans (e ∷ es) =
 
 abbrev pub IsRightlyLent : ℕ → ℕ → List Entry → Type 0
 IsRightlyLent size limit es = IsRightlyLentFrom size limit [] [] es
+
+-- the call lends one of the pool's blocks, as one of the parts that an arena can have
+abbrev pub LendsWithin : Shape → Call → Type 0
+LendsWithin z (Lend block id part) = (block < z.pages) × (part < z.reach)
+LendsWithin z call = ⊤

@@ -6,12 +6,12 @@ use lib.ListN.{get_elem?}
 use Rattle.fm_words.specs.declared.shape.Shape.{Shape}
 use Rattle.fm_base.specs.{declared.{caller.Caller.{Caller}, arena_id.ArenaId.{ArenaId}}, Calls.{Call, Read, Write, SwapIf, Add, End, Lend, Back, Entry}}
 use Rattle.fm_base.specs.{Histories.{made_by}, Finds.{Find, Gathered, is_draw}}
-use Rattle.fm_rule_facts.specs.{Loans.{loans_of, Loan, loan_of, loans_by, IsFree, HasPart}, Hands.{nothing, number_drawn, HasNumberIn, last_term, most_draws}}
+use Rattle.fm_rule_facts.specs.{Loans.{loans_of, Loan, loan_of, loans_by, IsFree, HasPart}, Hands.{nothing, number_drawn, number_learnt, HasNumberIn, last_term, most_draws}}
 use Rattle.fm_rule_facts.specs.declared.step.Step.{Step}
 use Rattle.fm_rule_facts.specs.declared.step.Step.TheVariants.{Visits, Draws, Holds, Backs, TakesSlot, ReadsMap, Maps, Allocates, SweepsGiven, SweepsMap, LearnsTerm}
-use Rattle.fm_rule_facts.specs.{Views.{Met, View, In, IsSound, IsBusy, all_gathered, HasFind, HasAllDrawn, given_of, limit_of}, Steps.{part, entries, noted}}
+use Rattle.fm_rule_facts.specs.{Views.{Met, View, In, IsSound, IsBusy, all_gathered, caller_of, HasFind, HasAllDrawn, given_of, limit_of}, Steps.{part, entries, noted}}
 use Rattle.fm_rule_facts.specs.{Words.{own_word, alive_holds}, Holds.{grips, holds_of, all_holds}, Gone.{IsTakenBy, OpenedBy}}
-use Rattle.fm_rule_facts.specs.Facts.{Memory, free, shut, IsStanding, IsAt, HasPage, Owners, HasClose, HasSweep, KeepsSlot, Begins, Rule, bit_of, KeepsNumber, WantsNumber, IsSpent, IsFreeNumber, HasNumberInHand, Berth}
+use Rattle.fm_rule_facts.specs.Facts.{Memory, free, shut, IsStanding, IsAt, HasPage, Owners, HasClose, HasSweep, KeepsSlot, Begins, Rule, bit_of, KeepsNumber, WantsNumber, IsSpent, IsFreeNumber, HasNumberInHand, Berth, WasDrawn}
 use Rattle.fm_base_machine.specs.{Functions.{Fresh, Closes, Over, Machine, moved, MayBy, reply_by, Stage}, Steps.{moved_by}}
 
 -- entries of one caller that the functions allow
@@ -20,19 +20,20 @@ MayMake limit t c [] = Unit {0}
 MayMake limit t c (e ∷ es) =
     (e.caller ≡ c) × MayBy limit t e.caller e.call × (e.reply ≡ reply_by limit t e.call) × MayMake limit (moved t e.caller e.call e.reply) c es
 
--- where a call is right by these loans, by the functions; a block has `size` words
-abbrev pub LendsBy : ℕ → Machine → List Loan → Call → Type 0
-LendsBy size t loans (Lend block id part) = IsFree loans block × (t.life id ≢ Fresh) × (t.life id ≢ Over) × ¬ (HasPart loans id part)
-LendsBy size t loans (Back block) = (id : ArenaId) × (p : ℕ) × Contains loans (loan_of block id p) × (t.life id ≡ Over)
-LendsBy size t loans (Read id word) = HasPart loans id (word / size)
-LendsBy size t loans (Write id word value) = HasPart loans id (word / size)
-LendsBy size t loans (SwapIf id word old new) = HasPart loans id (word / size)
-LendsBy size t loans (Add id word n) = HasPart loans id (word / size)
-LendsBy size t loans call = ⊤
+-- where a call is right by these loans, by the functions, and lends a block of the pool as a part that arenas have
+abbrev pub LendsBy : Shape → Machine → List Loan → Call → Type 0
+LendsBy z t loans (Lend block id part) =
+    IsFree loans block × (t.life id ≢ Fresh) × (t.life id ≢ Over) × ¬ (HasPart loans id part) × (block < z.pages) × (part < z.reach)
+LendsBy z t loans (Back block) = (id : ArenaId) × (p : ℕ) × Contains loans (loan_of block id p) × (t.life id ≡ Over)
+LendsBy z t loans (Read id word) = HasPart loans id (word / z.page_words)
+LendsBy z t loans (Write id word value) = HasPart loans id (word / z.page_words)
+LendsBy z t loans (SwapIf id word old new) = HasPart loans id (word / z.page_words)
+LendsBy z t loans (Add id word n) = HasPart loans id (word / z.page_words)
+LendsBy z t loans call = ⊤
 
-abbrev pub MayLend : ℕ → Machine → List Loan → List Entry → Type 0
-MayLend size t loans [] = ⊤
-MayLend size t loans (e ∷ es) = LendsBy size t loans e.call × MayLend size (moved t e.caller e.call e.reply) (loans_by loans e.call) es
+abbrev pub MayLend : Shape → Machine → List Loan → List Entry → Type 0
+MayLend z t loans [] = ⊤
+MayLend z t loans (e ∷ es) = LendsBy z t loans e.call × MayLend z (moved t e.caller e.call e.reply) (loans_by loans e.call) es
 
 abbrev pub Ends : Call → ArenaId → Type 0
 Ends (End a) b = a ≡ b
@@ -81,10 +82,11 @@ KeepsNumbers z me v p m o m' o' = (n : ℕ) → n < z.passes → bit_of m'.numbe
 abbrev pub FreesNumbers : (m' : Memory) (o' : Owners) → Type 0
 FreesNumbers m' o' = (n : ℕ) → bit_of m'.numbers n ≡ 1 → IsFreeNumber m' o' n
 
--- who was drawn has no later term, and terms stay within
+-- who was drawn has no later term, and terms stay within; a term that is passed by was drawn
 pub record KeepsTerms (z : Shape) (m : Memory) (o : Owners) (m' : Memory) : Type 0 where
   pub terms : (n : ℕ) → m.terms n ≤ m'.terms n
   pub last : (n : ℕ) → m'.terms n ≤ last_term
+  pub used : (n t : ℕ) → t < m'.terms n → (t < m.terms n) ⊎ WasDrawn m.draw o.who o.rank (caller_of n t)
 
 -- where numbers and terms are after the step
 pub record NumbersOn (z : Shape) (me : ℕ) (v p : View) (m : Memory) (o : Owners) (m' : Memory) (o' : Owners) : Type 0 where
@@ -184,6 +186,8 @@ pub record LearnsCount (v : View) (x : ℕ) : Type 0 where
   pub complete : HasAllDrawn v → x ≡ length v.gathered + 1
   -- and the count never falls
   pub later : (f : Find) → HasFind v f → is_draw f.step ≡ true → f.found ≤ x
+  -- the next caller of the number in its hand was drawn by none of its finds
+  pub undrawn : (n t : ℕ) → v.number ≡ number_learnt n t → (f : Find) → HasFind v f → f.drew ≢ Some (caller_of n t)
 
 -- what is learnt by the word x of slot bits: where it isn't 0 some slot's bit is 1; and by a pass that is known to be whole
 pub record LearnsSlots (v : View) (x : ℕ) : Type 0 where

@@ -2,10 +2,10 @@
 use Rattle.std.specs.Prelude.{◌≡◌, ◌≢◌, ◌⊎◌, ℕ, ◌+◌, ◌-◌, min, ◌*◌, ◌/◌, ◌<◌, ◌≤◌, ◌^◌, ◌==◌, Bool, true, false, if◌then◌else◌, List, [], ◌∷◌, ◌++◌, length, Contains, Option, Some, zero, suc}
 use Rattle.fm_words.specs.{declared.shape.Shape.{Shape}, Shapes.{IsValid}, Bits.{number_at}}
 use Rattle.fm_base.specs.declared.{caller.Caller.{Caller}, arena_id.ArenaId.{ArenaId}, kind.Kind.{Kind, TheVariants.{Automatic}}}
-use Rattle.fm_base.specs.{Arenas.{State, Alive, Ended, IsUnderWay, has_arena, arena_of, owner_of, same_id, only_caller}, Calls.{Entry}}
+use Rattle.fm_base.specs.{Arenas.{State, Alive, Closing, Ended, IsUnderWay, has_arena, arena_of, owner_of, same_id, only_caller}, Calls.{Entry}}
 use Rattle.fm_base.specs.{Histories.{IsLegal, state_after, made_by}, Finds.{Find, Gathered, Close, Sweep, is_draw, is_slot, is_page, is_number, group_of}}
 use Rattle.fm_base_machine.specs.Handles.{AreLeft, one_if}
-use Rattle.fm_rule_facts.specs.Loans.{Loan, loan_of, loans_of, HasPart, IsRightlyLent}
+use Rattle.fm_rule_facts.specs.Loans.{Loan, loan_of, loans_of, HasPart, IsRightlyLent, LendsWithin}
 use Rattle.fm_rule_facts.specs.{Hands.{Hand, nothing, HasSlot, Number, no_number, number_drawn, last_term, most_draws}, Parts.{Mapping, Swept, wiping}}
 
 -- what another had seen that a pass has met, and the callers that it brought
@@ -88,6 +88,10 @@ pub record IsOver (v : View) (a : ArenaId) : Type 0 where
 -- the arena is alive
 abbrev pub IsAlive : View → ArenaId → Type 0
 IsAlive v a = IsKnown v a × ((arena_of (state_in v) a).life ≡ Alive)
+
+-- the arena was shut, and hasn't ended
+abbrev pub IsShut : View → ArenaId → Type 0
+IsShut v a = IsKnown v a × ((arena_of (state_in v) a).life ≡ Closing)
 
 abbrev pub is_automatic : Kind → Bool
 is_automatic Automatic = true
@@ -223,17 +227,28 @@ abbrev pub IsNumberGone : View → Find → ℕ → Type 0
 IsNumberGone v f n = (length v.gathered + 1 ≡ most_draws)
     ⊎ ((c : Caller) × HasCaller v c × (c.number ≡ n) × ((c.term ≡ last_term) ⊎ ((g : Gathered) → In g (prefix f.gathered v.gathered) → g.caller ≢ c)))
 
+-- the caller of a number that has this term
+abbrev pub caller_of : (number term : ℕ) → Caller
+caller_of n t = record { number = n; term = t }
+
 -- what holds of a pass at any time
 pub record IsSound (v : View) : Type 0 where
   pub valid : IsValid v.shape
   pub limit : limit_of v.shape ≤ 2 ^ 40
   pub legal : IsLegal (limit_of v.shape) [] v.seen
   pub lent : IsRightlyLent v.shape.page_words (limit_of v.shape) v.seen
+  -- each block that was lent is one of the pool's, as one of the parts that an arena can have
+  pub within : (e : Entry) → In e v.seen → LendsWithin v.shape e.call
   pub number : v.caller.number < v.shape.passes
   pub inside : (a : ArenaId) → v.inside ≡ Some a → IsUnderWay (state_in v) v.caller a
   pub outside : (a : ArenaId) → IsUnderWay (state_in v) v.caller a → v.inside ≡ Some a
   pub fits : (a : ArenaId) → IsKnown v a → Fits v.shape a
+  -- of each slot one generation was opened after the other
+  pub older : (a : ArenaId) (g : ℕ) → IsKnown v a → g < a.generation → (b : ArenaId) × (b.slot ≡ a.slot) × (b.generation ≡ g) × IsKnown v b
   pub hand : (s : ℕ) → HasSlot s v.hand → s < v.shape.slots
+  -- the arenas whose closes it has, one close each, and those that it has to sweep
+  pub closing : (c : Close) → In c v.closes → IsShut v c.arena
+  pub closes_once : IsOnce (λ (c : Close). c.arena) v.closes
   pub swept : (c : Sweep) → In c v.sweeps → IsOver v c.arena
   -- each page is one of the pool's, lent as one of the parts that an arena can have
   pub loans : (l : Loan) → Contains (loans_of v.seen) l → (l.block < v.shape.pages) × (l.part < v.shape.reach)
@@ -267,3 +282,5 @@ pub record IsSound (v : View) : Type 0 where
   pub one_each : IsOnce (λ (g : Gathered). g.caller) v.gathered
   pub others : (g : Gathered) → In g v.gathered → g.caller ≢ v.caller
   pub term : v.caller.term ≤ last_term
+  -- a pass that is known to be whole has with each caller those of the earlier terms of its number
+  pub earlier : v.whole ≡ true → (c : Caller) (t : ℕ) → HasCaller v c → t < c.term → HasCaller v (caller_of c.number t)

@@ -7,7 +7,7 @@ use lib.ListN.{get_elem?}
 use Rattle.fm_words.specs.{declared.shape.Shape.{Shape}, Places.{at as place_at, draw as draw_place}}
 use Rattle.fm_base.specs.{Calls.{Entry}, Finds.{Find, Gathered, is_number}, declared.caller.Caller.{Caller}}
 use Rattle.fm_base_machine.{specs.Functions.{put, put_by}, proofs.Putting.{put_here, put_else, by_here, by_else, one_caller}}
-use Rattle.fm_rule_facts.specs.{Views.{View, In, all_gathered}, Holds.{holds_of}}
+use Rattle.fm_rule_facts.specs.{Views.{View, In, all_gathered, caller_of}, Holds.{holds_of}}
 use Rattle.fm_rule_facts.specs.Facts.{Memory, Owners, HasDraw, HasClose, HasSweep, KeepsSlot, DrewIn, IsDrawn, Somewhere, Owns, Knows, Rule, HasPage, WantsNumber, IsUsed, used, wanted, IsLooked, WasDrawn, bit_of, next_of, IsUndrawn, IsSpent, IsCounted, HasNumberInHand, KeepsCaller, KeepsNumber}
 use Rattle.fm_rule_facts.{specs.Hands.{number_learnt, number_drawn, HasNumberIn, most_draws}, proofs.Looking.{looked_on, looked_told, none_looked, wants_in}}
 use Rattle.fm_rule_facts.{specs.{Moves.{told}, Gone.{IsFounded}}, proofs.{Ruling.{page_like}, Gone.{NoSlots, none_founded, founded_same, founded_told}}}
@@ -149,6 +149,7 @@ module _ (z : Shape) (me : ℕ) (v : View) (l : v.live ≡ true) (lone : v.met �
       valid = r.valid;
       legal = r.legal;
       rightly = r.rightly;
+      within = r.within;
       pages = r.pages;
       depicts = r.depicts;
       shows = shows_draw z r.valid ws r.memory r.shows (d + 1);
@@ -174,6 +175,7 @@ module _ (z : Shape) (me : ℕ) (v : View) (l : v.live ≡ true) (lone : v.met �
         | no ne ↦ r.terms x (back x ne q)
       ];
       last = r.last;
+      used = λ x t h. on (caller_of x t) (r.used x t h);
       callers = λ x q. elim (one_caller x c) [
         | yes e ↦ record {
           view = drawer;

@@ -12,7 +12,7 @@ use native.Mathlib.Decide.{ℕ_discrete}
 use Rattle.atomic_table.proofs.Lists.{set_else}
 use Rattle.fm_rule_facts.{proofs.Looking.{looked_told, none_looked}, specs.declared.step.Step.TheVariants.{Draws}}
 use Rattle.fm_rule_facts.specs.Hands.{Number, no_number, number_learnt, number_drawn, number_left, HasNumberIn, drawn_by, number_after, most_draws}
-use Rattle.fm_rule_facts.specs.{Views.{View, In, all_gathered}, Holds.{holds_of}}
+use Rattle.fm_rule_facts.specs.{Views.{View, In, all_gathered, caller_of}, Holds.{holds_of}}
 use Rattle.fm_rule_facts.specs.Steps.{part, entries, noted, draws, note_draw, is_clear, draw_next, CanDraw, can_draw, can_look}
 use Rattle.fm_rule_facts.specs.Facts.{HasGathered, HasDraw, HasClose, HasSweep, KeepsSlot, DrewIn, Owns, Knows, Rule, HasPage, WasDrawn, IsUndrawn, HasNumberInHand, KeepsCaller, KeepsNumber, WantsNumber, IsUsed, wanted, full, IsLooked, Somewhere}
 use Rattle.fm_rule_facts.{specs.{Moves.{told, Gives, LearnsCount, MayStep}, Gone.{IsFounded}}, proofs.{Ruling.{page_like}, Sounding.{sound_of}}}
@@ -266,6 +266,11 @@ module _ (z : Shape) (me : ℕ) (v : View) (l : v.live ≡ true) (lone : v.met �
     whole = λ w. is_found ∙ all_counted z r.history r.memory r.machine r.owners me v lone mine r.ranks w;
     complete = λ h. is_found ∙ complete_counted z ws vs r me v at l lone h;
     later = λ f h e. let a = (find_within r.memory.draw r.owners.who r.owners.rank v (r.counted me v at) f h).found e in let y = is_found in omega arith;
+    undrawn = λ n t h f i e.
+        let hand : IsUndrawn z r.memory r.owners me n × (t ≡ r.memory.terms n) =
+        subst (HasNumberInHand z r.history r.memory r.machine r.owners me v) h mine.number in
+        hand.0.fresh (subst (WasDrawn r.memory.draw r.owners.who r.owners.rank) (λ j. record { number = n; term = hand.1 j })
+        ((find_within r.memory.draw r.owners.who r.owners.rank v (r.counted me v at) f i).drew (caller_of n t) e).1);
   }
 
 -- the count of draws is exchanged for one more where it is the expected one, and fits

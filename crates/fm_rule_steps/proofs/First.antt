@@ -152,6 +152,7 @@ module _ (z : Shape) (ws : List ℕ) (pages f : ℕ → ℕ) (valid : IsValid z)
     valid = valid;
     legal = tt;
     rightly = tt;
+    within = λ e i. absurd i;
     pages = record {
       bit_is = λ p b. (refl, claims.low p b);
       is_bit = λ p low e. claims.loose p low;
@@ -184,6 +185,7 @@ module _ (z : Shape) (ws : List ℕ) (pages f : ℕ → ℕ) (valid : IsValid z)
         newest = λ s a. ⊎_elim (λ e. absurd (cc)) (λ e. absurd (cc));
         before = λ s g e. (let q : 0 ≡ g + 1 = cc in absurd (omega arith));
         fits = λ a n. absurd (n refl);
+        older = λ a g n h. absurd (n refl);
       };
       slots = record {
         bit_is = λ s b. (0, refl, (let l = valid.generations.0 in omega arith));
@@ -204,6 +206,7 @@ module _ (z : Shape) (ws : List ℕ) (pages f : ℕ → ℕ) (valid : IsValid z)
     terms = λ c h. subst (λ (x : Caller). (x.number < z.passes) × (x.term ≤ 0)) (sym (only_drawn c h))
         ((let p = valid.passes.0 in omega arith), omega arith);
     last = λ n. omega arith;
+    used = λ n t h. absurd (omega arith);
     callers = λ c h. record { view = first_view z; there = refl; holds = inl (refl, sym (only_drawn c h)) };
     free_numbers = λ n b. record {
       mark = refl;

@@ -73,7 +73,7 @@ module _ (z : Shape) (me : ℕ) (v : View) (l : v.live ≡ true) (a : ArenaId) w
 
     -- the call makes the count of holds n, of which the pass has these
     counts_to : (x n : ℕ) (hs : List ArenaId) (call : Call) → MayBy (limit_of z) r.machine v.caller call → Fine ≡ reply_by (limit_of z) r.machine call
-        → ((b : ArenaId) → ¬ (Ends call b)) → LendsBy z.page_words r.machine (loans_of r.history) call
+        → ((b : ArenaId) → ¬ (Ends call b)) → LendsBy z r.machine (loans_of r.history) call
         → loans_by (loans_of r.history) call ≡ loans_of r.history
         → moved r.machine v.caller call Fine ≡ record r.machine { holds = put_at r.machine.holds a n } → r.machine.life a ≡ Lives → n ≤ 65535
         → x ≡ alive_word a n → ((b : ArenaId) → how_many b hs + r.machine.holds b ≡ how_many b gs + put_at r.machine.holds a n b)

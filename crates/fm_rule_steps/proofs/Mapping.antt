@@ -111,6 +111,8 @@ module _ (z : Shape) (me : ℕ) (v : View) (l : v.live ≡ true) (ws : List ℕ)
                 λ o. unstanding (r.machine.life a) o stands,
                 no_part z (loans_of r.history) r.memory.page_bits r.memory.maps r.memory.cells r.owners.berth r.memory.sessions r.machine.life r.machine.word
                     r.machine.given r.valid.page_words.0 r.world.sessions r.pages a i stands none,
+                (r.pages.claimed_is p me at_hand).0,
+                low,
               ),
               tt,
             );

@@ -100,7 +100,7 @@ module _ (z : Shape) (me : ℕ) (v : View) (l : v.live ≡ true) (ws : List ℕ)
           (λ (y : KeepsNumber k v). (y.0, ⊎_elim inl (λ (q : HasNumberIn k v.number). inr (subst (HasNumberIn k) in_hand q)) y.1)),
         ));
         freed = λ k b. let y = r.free_numbers k b in record { mark = y.mark; fresh = y.fresh };
-        terms = record { terms = λ k. omega arith; last = r.last };
+        terms = record { terms = λ k. omega arith; last = r.last; used = λ k t h. inl h };
         wants = λ k h. ((l, inr (x, ap (λ (s : ℕ). number_learnt s x) (sym (subst (HasNumberIn k) in_hand (wants_in k v h))))), refl);
       })
       (record {
@@ -163,6 +163,16 @@ module _ (z : Shape) (me : ℕ) (v : View) (l : v.live ≡ true) (ws : List ℕ)
           last = λ k. dite (ℕ_discrete k n)
               (λ e. let a : terms' k ≡ c.term + 1 = ap terms' e ∙ here in let b = h.left in omega arith)
               (λ ne. let a = on k ne in let b = r.last k in omega arith);
+          used = λ k t low. dite (ℕ_discrete k n)
+              (λ e.
+              let a : terms' k ≡ c.term + 1 = ap terms' e ∙ here in
+              let b : r.memory.terms k ≡ c.term = ap r.memory.terms e ∙ sym h.term in
+              dite (ℕ_discrete t c.term)
+              (λ q. inr (subst (WasDrawn r.memory.draw r.owners.who r.owners.rank) (λ j. record { number = sym e j; term = sym q j })
+              (subst (WasDrawn r.memory.draw r.owners.who r.owners.rank) h.gathered.2
+              (gathered_all z r.history r.memory r.machine r.owners me v mine h.gathered.0 h.gathered.1).1.drawn)))
+              (λ ne. inl (omega arith)))
+              (λ ne. inl (let a = on k ne in omega arith));
         };
         wants = λ k h. absurd (⊎_elim (λ (e : v.number ≡ number_taken k). let q : number_taken k ≡ number_joined c = sym e ∙ in_hand in cc)
             (λ (e : (t : ℕ) × (v.number ≡ number_learnt k t)). let q : number_learnt k e.0 ≡ number_joined c = sym e.1 ∙ in_hand in cc) h.1);
@@ -229,7 +239,7 @@ module _ (z : Shape) (me : ℕ) (v : View) (l : v.live ≡ true) (ws : List ℕ)
               fresh = λ q. h.fresh (subst (λ (x : ℕ). WasDrawn r.memory.draw r.owners.who r.owners.rank (next_of r.memory.terms x)) e q);
             })
             (λ ne. let y = r.free_numbers k (sym (bit_on k ne) ∙ b) in record { mark = y.mark; fresh = y.fresh });
-        terms = record { terms = λ k. omega arith; last = r.last };
+        terms = record { terms = λ k. omega arith; last = r.last; used = λ k t h. inl h };
         wants = λ k h. absurd (⊎_elim (λ (e : v.number ≡ number_taken k). let q : number_taken k ≡ number_left n = sym e ∙ in_hand in cc)
             (λ (e : (t : ℕ) × (v.number ≡ number_learnt k t)). let q : number_learnt k e.0 ≡ number_left n = sym e.1 ∙ in_hand in cc) h.1);
       })

@@ -23,7 +23,7 @@ module _ (z : Shape) (me : ℕ) (v : View) (l : v.live ≡ true) (ws : List ℕ)
     pub stays : moved_by r.machine es ≡ r.machine
     pub moved : PagesMoved me r.machine.life r.memory.maps r.memory.cells r.owners.berth maps r.memory.cells berth
     pub ended : (b : ArenaId) → r.machine.life b ≡ Over → r.memory.sessions b.slot ≡ shut b → (k : ℕ) → maps b.slot k ≡ r.memory.maps b.slot k
-    pub lends : MayLend z.page_words r.machine (loans_of r.history) es
+    pub lends : MayLend z r.machine (loans_of r.history) es
     pub pages : PagesAfter z r.history (record r.memory { page_bits = bits; maps = maps }) r.machine (record r.owners { berth = berth }) es
     pub keep : KeepsPages me v (record v { pages = ps; reads = ms }) r.owners (record r.owners { berth = berth })
     pub shows : Shows z (set ws i x) (record r.memory { page_bits = bits; maps = maps })

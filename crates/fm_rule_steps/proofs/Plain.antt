@@ -90,7 +90,7 @@ Made z ws vs me v i x p es fs = (w : View) × (rule : Rule z (set ws i x) (set v
 pub record Calls (z : Shape) (h : List Entry) (t : Machine) (c : Caller) (es : List Entry) (t' : Machine) : Type 0 where
   pub may : MayMake (limit_of z) t c es
   pub ends : (b : ArenaId) → NoEnd es b
-  pub lends : MayLend z.page_words t (loans_of h) es
+  pub lends : MayLend z t (loans_of h) es
   pub loans : loans_after (loans_of h) es ≡ loans_of h
   pub moves : moved_by t es ≡ t'
   pub life : t'.life ≡ t.life

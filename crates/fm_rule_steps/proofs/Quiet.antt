@@ -15,7 +15,7 @@ module _ (z : Shape) (ws : List ℕ) (vs : List View) (r : Rule z ws vs) (me : �
   pub quiet : (es : List Entry) (fs : ℕ → List Find) → NoneDrawn fs
       → ((f : Find) → In f (fs (length r.history)) → FoundBy z r.history r.memory r.owners.taker r.machine.life v.caller f)
       → AreLooked r v fs → MayMake (limit_of z) r.machine v.caller es → ((b : ArenaId) → NoEnd es b)
-      → MayLend z.page_words r.machine (loans_of r.history) es
+      → MayLend z r.machine (loans_of r.history) es
       → loans_after (loans_of r.history) es ≡ loans_of r.history → moved_by r.machine es ≡ r.machine → Made z ws vs me v i (get_or ws i 0) v es fs
   quiet es fs nd new looks may ends lends same stays =
       let mine = own z ws vs r me v at l in
@@ -43,7 +43,7 @@ module _ (z : Shape) (ws : List ℕ) (vs : List View) (r : Rule z ws vs) (me : �
   none_drawn fs nd n f j = let y = nd n f j in (y.0, y.1)
 
   pub answers_on : (es : List Entry) → MayMake (limit_of z) r.machine v.caller es → ((b : ArenaId) → NoEnd es b)
-      → MayLend z.page_words r.machine (loans_of r.history) es → loans_after (loans_of r.history) es ≡ loans_of r.history → moved_by r.machine es ≡ r.machine
+      → MayLend z r.machine (loans_of r.history) es → loans_after (loans_of r.history) es ≡ loans_of r.history → moved_by r.machine es ≡ r.machine
       → Made z ws vs me v i (get_or ws i 0) v es none_noted
   answers_on es = quiet es none_noted (none_drawn none_noted no_draw) (unfound none_noted no_draw) (unlooked r v none_noted (λ n f i. absurd i))
 

@@ -46,7 +46,7 @@ module _ (z : Shape) (me : ℕ) (v : View) (l : v.live ≡ true) (a : ArenaId) (
     -- the step that makes this one entry, and leaves the words and the given bytes so
     pub act : (i x : ℕ) (call : Call) (reply : Reply) (m' : ℕ → ℕ → ℕ) (g' : ℕ → ℕ) (f : ArenaId → ℕ → ℕ) (g : ArenaId → ℕ)
         → moved r.machine v.caller call reply ≡ record r.machine { word = f; given = g } → MayBy (limit_of z) r.machine v.caller call
-        → reply ≡ reply_by (limit_of z) r.machine call → ((b : ArenaId) → ¬ (Ends call b)) → LendsBy z.page_words r.machine (loans_of r.history) call
+        → reply ≡ reply_by (limit_of z) r.machine call → ((b : ArenaId) → ¬ (Ends call b)) → LendsBy z r.machine (loans_of r.history) call
         → loans_by (loans_of r.history) call ≡ loans_of r.history → Shows z (set ws i x) (record r.memory { cells = m'; given = g' })
         → World z (record r.memory { cells = m'; given = g' }) (record r.machine { word = f; given = g })
         → Pages z (loans_of r.history) r.memory.page_bits r.memory.maps m' r.owners.berth r.memory.sessions r.machine.life f g
@@ -100,7 +100,7 @@ module _ (z : Shape) (me : ℕ) (v : View) (l : v.live ≡ true) (a : ArenaId) (
       is_word : found ws ≡ r.machine.word a w
       is_word = r.shows.cells p o there.page in_page ∙ sym (r.pages.says.words a w p (stands ws vs r at) named)
 
-      lends : LendsBy z.page_words r.machine (loans_of r.history) (Read a w)
+      lends : LendsBy z r.machine (loans_of r.history) (Read a w)
       lends = (
         p,
         mapped_lent z (loans_of r.history) r.memory.page_bits r.memory.maps r.memory.cells r.owners.berth r.memory.sessions r.machine.life r.machine.word
@@ -113,7 +113,7 @@ module _ (z : Shape) (me : ℕ) (v : View) (l : v.live ≡ true) (a : ArenaId) (
 
       -- the word is left as it was
       looks : (call : Call) (reply : Reply) → moved r.machine v.caller call reply ≡ r.machine → MayBy (limit_of z) r.machine v.caller call
-          → reply ≡ reply_by (limit_of z) r.machine call → ((b : ArenaId) → ¬ (Ends call b)) → LendsBy z.page_words r.machine (loans_of r.history) call
+          → reply ≡ reply_by (limit_of z) r.machine call → ((b : ArenaId) → ¬ (Ends call b)) → LendsBy z r.machine (loans_of r.history) call
           → loans_by (loans_of r.history) call ≡ loans_of r.history → Made z ws vs me v i (found ws) v (entry_of v.caller call reply ∷ []) none_noted
       looks call reply is may answer ends lends same =
           act ws vs r at i (found ws) call reply r.memory.cells r.memory.given r.machine.word r.machine.given is may answer ends lends same
@@ -123,7 +123,7 @@ module _ (z : Shape) (me : ℕ) (v : View) (l : v.live ≡ true) (a : ArenaId) (
       puts : (y : ℕ) (call : Call) (reply : Reply)
           → moved r.machine v.caller call reply ≡ record r.machine { word = put_at r.machine.word a (put (r.machine.word a) w y) }
           → MayBy (limit_of z) r.machine v.caller call → reply ≡ reply_by (limit_of z) r.machine call → ((b : ArenaId) → ¬ (Ends call b))
-          → LendsBy z.page_words r.machine (loans_of r.history) call → loans_by (loans_of r.history) call ≡ loans_of r.history
+          → LendsBy z r.machine (loans_of r.history) call → loans_by (loans_of r.history) call ≡ loans_of r.history
           → Made z ws vs me v i y v (entry_of v.caller call reply ∷ []) none_noted
       puts y call reply is may answer ends lends same =
           act ws vs r at i y call reply (put r.memory.cells p (put (r.memory.cells p) o y)) r.memory.given

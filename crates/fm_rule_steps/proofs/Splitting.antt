@@ -74,6 +74,7 @@ with_owners z ws xs vs us r words f g callers drawers numbers closed swept slots
   valid = r.valid;
   legal = r.legal;
   rightly = r.rightly;
+  within = r.within;
   pages = r.pages;
   depicts = r.depicts;
   shows = subst (λ (l : List ℕ). Shows z l r.memory) (sym words) r.shows;
@@ -85,6 +86,7 @@ with_owners z ws xs vs us r words f g callers drawers numbers closed swept slots
   later = r.later;
   terms = r.terms;
   last = r.last;
+  used = r.used;
   callers = callers;
   drawers = drawers;
   free_numbers = λ n b. let y = r.free_numbers n b in record { mark = y.mark; fresh = y.fresh };

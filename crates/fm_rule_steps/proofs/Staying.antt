@@ -111,6 +111,7 @@ module _ (z : Shape) (ws : List ℕ) (vs : List View) (r : Rule z ws vs) (me : �
       terms = record {
         terms = λ n. (let e = terms n in omega arith);
         last = λ n. (let e = terms n in let y = r.last n in omega arith);
+        used = λ n t h. inl (let e = terms n in omega arith);
       };
       wants = λ n h. (
         (

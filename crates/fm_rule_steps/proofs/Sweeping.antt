@@ -74,7 +74,7 @@ module _ (z : Shape) (me : ℕ) (v : View) (l : v.live ≡ true) (a : ArenaId) (
     pub same_given : (b : ℕ) → b ≢ a.slot → given b ≡ r.memory.given b
     pub others : (p j : ℕ) → IsAt j (r.owners.berth p) → j ≢ me → (berth p ≡ r.owners.berth p) × ((w : ℕ) → cells p w ≡ r.memory.cells p w)
     pub claims : (p : ℕ) → r.owners.berth p ≡ claimed me → berth p ≡ claimed me
-    pub lends : MayLend z.page_words r.machine (loans_of r.history) es
+    pub lends : MayLend z r.machine (loans_of r.history) es
     pub pages : PagesAfter z r.history (memory_of bits maps cells given) r.machine (record r.owners { berth = berth }) es
     pub there : (c : Sweep) → In c v.sweeps → (d : Sweep) × In d cs × (d.arena ≡ c.arena)
     pub keep : KeepsPages me v (record v { sweeps = cs; swept = s }) r.owners (record r.owners { berth = berth })

@@ -145,7 +145,7 @@ module _ (z : Shape) (me : ℕ) (v : View) (l : v.live ≡ true) (ws : List ℕ)
           freed = λ k b.
               let ne : k ≢ n = (λ q. let y : bit_of numbers' k ≡ 0 = ap (bit_of numbers') q ∙ zero in omega arith) in
               let y = r.free_numbers k (sym (bit_on k ne) ∙ b) in record { mark = y.mark; fresh = y.fresh };
-          terms = record { terms = λ k. omega arith; last = r.last };
+          terms = record { terms = λ k. omega arith; last = r.last; used = λ k t h. inl h };
           wants = λ k h. absurd (nothing_in k (wants_in k v h));
         })
         (record {

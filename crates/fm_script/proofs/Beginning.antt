@@ -1,8 +1,8 @@
 -- What the run of a script begins with, and what it leaves.
 use Rattle.std.{proofs.Common.{◌≡◌, ℕ, ◌+◌, ◌-◌, ◌≤◌, List, length, sym, ap, ◌∙◌, subst, arith}, specs.Borrow.{Bor}}
 use Rattle.fm_base.specs.{declared.caller.Caller.{Caller}, Finds.{Rest}}
-use Rattle.fm_arena.{specs.Shares.{CanShare}, proofs.Opening.{has_no_slot}}
-use Rattle.fm_rule_facts.specs.Views.{View, IsSound}
+use Rattle.fm_arena.specs.Shares.{CanShare}
+use Rattle.fm_rule_facts.specs.{Hands.{slots_in}, Views.{View, IsSound}}
 use Rattle.fm_rule.specs.{declared.pool.Pool.{Pool}, Finishing.{CanFinish, FinishedView, Finishes}, Views.{first_pass}}
 use Rattle.fm_words.specs.declared.shape.Shape.{Shape}
 use Rattle.fm_script_text.specs.{declared.line.Line.{Line}, Scripts.{ScriptOf}}
@@ -59,7 +59,7 @@ module _ (s : ScriptOf) (w : IsWritten s) (order : List Line) (names : Numbers) 
         whole = record { sound = sound; whole = ap (λ (v : View). v.whole) first };
         unused = ap (λ (v : View). v.seen) first;
         first = ap (λ (v : View). v.caller) first;
-        no_slot = has_no_slot p (ap (λ (v : View). v.hand) first) (ap (λ (v : View). v.sweeps) first);
+        no_slot = record { sweeps = ap (λ (v : View). v.sweeps) first; slots = ap (λ (v : View). slots_in v.hand) first };
         no_close = ap (λ (v : View). v.closes) first;
         alone = ap (λ (v : View). v.gathered) first;
       };

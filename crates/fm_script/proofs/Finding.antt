@@ -1,32 +1,24 @@
 -- What the passes of workers found where a line found no slot.
 use Rattle.std.proofs.Common.{◌≡◌, ℕ, true, List, [], ◌∷◌, ◌++◌, length, length-append, map, refl, sym, ap, ◌∙◌, subst, append_assoc, arith, inl, inr}
 use Rattle.std.{specs.{Prelude.{⊤}, List.{AllByRecursion}}, proofs.lemmas.List.{append-nil, Elements.{filter-append}}}
-use Rattle.fm_base.specs.{declared.caller.Caller.{Caller}, Calls.{Entry}, Finds.{Sweep, Find, Gathered, Rest, is_slot}, Histories.{made_by}}
-use Rattle.fm_rule_facts.specs.{Hands.{Hand, nothing, taken, learnt, retired}, Splits.{as_gathered}, Views.{View, Begins, In, NoneLeft}}
-use Rattle.fm_rule_calls.specs.Kept.{slots_told}
-use Rattle.fm_arena.specs.Opening.{HasNoSlot}
+use Rattle.fm_base.specs.{declared.caller.Caller.{Caller}, Calls.{Entry}, Finds.{Find, Gathered, is_slot}, Histories.{made_by}}
+use Rattle.fm_rule_facts.specs.{Hands.{Hand, nothing, taken, learnt, retired, slots_in}, Splits.{as_gathered}, Views.{View, Begins, In, NoneLeft}}
 use Rattle.fm_script_text.specs.declared.line.Line.{Line}
 use Rattle.fm_words.specs.declared.shape.Shape.{Shape}
 use Rattle.fm_script_lines.specs.{declared.{numbers.Numbers.{Numbers}, reply.Reply.{Reply}, standing.Standing.{Standing}}, Playing.{LinesRan}}
-use Rattle.fm_script_lines.specs.{Report.{Player, runs}, Runs.{Went}, Pages.{EachBehind, FindsFew, LendsRightly}, Slots.{AreFound}}
+use Rattle.fm_script_lines.specs.{Report.{Player, runs}, Pages.{EachBehind, FindsFew, LendsRightly}, Slots.{AreFound}}
 use Rattle.fm_script_lines.proofs.Lending.{behind_as, few_later, lends_later}
 use Rattle.fm_script_laws.specs.Slots.{FindsTold}
 use Rattle.fm_workers_crew.specs.Crew.{IsFresh, IsIn, callers}
 
 -- ---- a pass's slots
 
--- Lines leave a pass without a slot as it was.
-pub no_slot_still : {p q : View} {own : List Entry} → Went p q own → HasNoSlot p → HasNoSlot q
-no_slot_still w none = ap (λ (x : Rest). x.slots) w.rest ∙ none
-
--- What is told of slots tells of the one in the hand.
-pub none_held : (cs : List Sweep) (hand : Hand) → slots_told cs hand ≡ [] → hand ≡ nothing
-unfolding slots_told
-none_held [] nothing e = refl
-none_held [] (taken slot) e = absurd (cc)
-none_held [] (learnt slot generation) e = absurd (cc)
-none_held [] (retired slot) e = absurd (cc)
-none_held (c ∷ cs) hand e = absurd (cc)
+-- A hand without a slot is empty.
+pub none_held : (hand : Hand) → slots_in hand ≡ [] → hand ≡ nothing
+none_held nothing e = refl
+none_held (taken slot) e = absurd (cc)
+none_held (learnt slot generation) e = absurd (cc)
+none_held (retired slot) e = absurd (cc)
 
 -- ---- one worker
 

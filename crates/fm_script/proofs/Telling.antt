@@ -1,11 +1,12 @@
 -- What a script's passes did is its report.
-use Rattle.std.proofs.Common.{◌≡◌, ℕ, ◌+◌, ◌<◌, Bool, true, false, if◌then◌else◌, List, [], ◌∷◌, ◌++◌, length, length-append, map, append_assoc, refl, sym, ap, ◌∙◌, subst, arith, inl, inr, Option}
+use Rattle.std.proofs.Common.{◌≡◌, ℕ, ◌+◌, ◌<◌, ◌≤◌, Bool, true, false, if◌then◌else◌, List, [], ◌∷◌, ◌++◌, length, map, Option}
+use Rattle.std.proofs.Common.{length-append, append_assoc, refl, sym, ap, ◌∙◌, subst, arith, inl, inr}
 use Rattle.std.{specs.List.{AllByRecursion, flat_map}, proofs.lemmas.List.{length-map, get_or_past, map-append}}
 use Rattle.fm_base.specs.{declared.caller.Caller.{Caller}, Arenas.{are_one}, Calls.{Entry}, Finds.{Gathered}, Histories.{IsLegal, made_by}}
 use Rattle.fm_base.proofs.Names.{are_one-true}
 use Rattle.fm_base_lists.{specs.Among.{IsAmong, AreApart}, proofs.Each.{all_among, all_weaker}}
 use Rattle.fm_words.specs.declared.shape.Shape.{Shape}
-use Rattle.fm_rule_facts.{specs.Views.{View, In, IsSound, limit_of}, proofs.Keeping.{in_right}}
+use Rattle.fm_rule_facts.{specs.{Hands.{last_term}, Views.{View, In, IsSound, limit_of}}, proofs.Keeping.{in_right}}
 use Rattle.fm_rule_calls.specs.Kept.{rest_of}
 use Rattle.fm_arena.specs.Opening.{HasNoSlot}
 use Rattle.fm_script_text.specs.{declared.line.Line.{Line}, Scripts.{ScriptOf}}
@@ -13,12 +14,12 @@ use Rattle.fm_script_lines.specs.declared.{numbers.Numbers.{Numbers}, reply.Repl
 use Rattle.fm_script_lines.specs.{Numbers.{number_at, number_from}, Ordering.{in_order, worker_lines}}
 use Rattle.fm_script_lines.specs.Report.{AreDrawn, Done, Played, AreRun, AreWorked, IsCut, IsReport, all_done, gathered_names, is_first, lines_by, lines_of, lent_names, names_after, none_stands, number_of, runs, worked}
 use Rattle.fm_script_lines.{specs.{Pages.{HavePages}, Slots.{HaveSlots, OpenRightly}, Standings.{Names, lent, standing_at}}, proofs.Lent.{stays_lent}}
-use Rattle.fm_script_lines.proofs.Rows.{ran_many}
+use Rattle.fm_script_lines.proofs.{Opening.{no_slot_still}, Rows.{ran_many}}
 use Rattle.fm_script_lines.specs.Report as report
 use Rattle.fm_script_laws.{specs.Slots.{FindsTold}, proofs.Workers.{workers_find}}
 use Rattle.fm_workers_crew.specs.Crew.{CrewGathered, IsFresh, callers as crew_callers}
 use Rattle.fm_script.specs.{declared.player.Player.{Player}, Players.{playing}, Runs.{AllRan, CanRun, names_lent}}
-use Rattle.fm_script.proofs.{Finding.{all_told, callers_gathered, no_slot_still, none_held}, After.{lent_next, made_lent}, Gathered.{gathered_table, plain_at}}
+use Rattle.fm_script.proofs.{Finding.{all_told, callers_gathered, none_held}, After.{lent_next, made_lent}, Gathered.{gathered_table, plain_at}}
 use Rattle.fm_script.proofs.{Paged.{have_pages}, Reported.{Reported, start_at, worked_lines}, Running.{workers_of}}
 
 -- The entries of one caller are its own.
@@ -116,7 +117,7 @@ module _ (names : Numbers) (lines : List Line) (old new : View) (tasks players :
     subst AreApart (sym crew_called) crew.distinct,
   )
 
-  -- The first pass drew them, each with a number of the pool.
+  -- The first pass drew them, each with a number of the pool and a term that numbers can have.
   are_drawn : AreDrawn old.shape.passes the_played
   are_drawn =
       let shape : all.before.shape.passes ≡ old.shape.passes = ap (λ (z : Shape). z.passes) all.first.went.same_shape in
@@ -125,6 +126,8 @@ module _ (names : Numbers) (lines : List Line) (old new : View) (tasks players :
         numbers = subst (λ (cs : List Caller). AllByRecursion (λ c. c.number < old.shape.passes) cs) (sym crew_called)
             (all_weaker (IsFresh all.before) (λ c. c.number < old.shape.passes) (λ c f. let few = f.number in omega (arith, few, shape))
             (crew_callers crew.crew) crew.fresh);
+        terms = subst (λ (cs : List Caller). AllByRecursion (λ c. c.term ≤ last_term) cs) (sym crew_called)
+            (all_weaker (IsFresh all.before) (λ c. c.term ≤ last_term) (λ c f. f.term) (crew_callers crew.crew) crew.fresh);
       }
 
   begun : all.before.seen ≡ all.first.went.more
@@ -153,7 +156,9 @@ module _ (names : Numbers) (lines : List Line) (old new : View) (tasks players :
   -- ---- slots
 
   no_slot : HasNoSlot all.between
-  no_slot = ap (λ (v : View). (rest_of v).slots) crew.is ∙ no_slot_still all.first.went can.only.no_slot
+  no_slot =
+      let firsts = no_slot_still all.first.went can.only.no_slot in
+      record { sweeps = ap (λ (v : View). v.sweeps) crew.is ∙ firsts.sweeps; slots = ap (λ (v : View). (rest_of v).slots) crew.is ∙ firsts.slots }
 
   sound_between : IsSound all.between
   sound_between = all.worked.crew.still_sound all.whole.sound
@@ -164,7 +169,7 @@ module _ (names : Numbers) (lines : List Line) (old new : View) (tasks players :
   workers_told : AllByRecursion (FindsTold all.between.shape all.between.seen) workers.ps
   workers_told =
       all_told all.before all.between crew.more crew.seen
-      (λ g f i j step none. sound_between.none_left wholly (none_held all.between.sweeps all.between.hand no_slot) g.caller f (inr (g, i, refl, j))
+      (λ g f i j step none. sound_between.none_left wholly (none_held all.between.hand no_slot.slots) g.caller f (inr (g, i, refl, j))
       step none)
       crew.passes workers.ps workers.found
       (subst (λ (gs : List Gathered). AllByRecursion (IsFresh all.before) (crew_callers gs)) crew.are_passes crew.fresh) crew.within workers.entries

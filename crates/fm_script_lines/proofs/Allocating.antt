@@ -16,7 +16,7 @@ use Rattle.fm_script_lines.specs.declared.{outcome.LineOutcome.{LineOutcome}, re
 use Rattle.fm_script_lines.specs.{declared.standing.Standing.{Standing, TheVariants.{Segment}}, Calls.{Allocates, CallDoes, On, Skips, coming}}
 use Rattle.fm_script_lines.specs.Outcomes.{outcome}
 use Rattle.fm_script_lines.specs.Pages.{AllocatesRightly, HasEntered, IfAllocates, IsFullRightly, IsScarceBehind, PagesTold, PagesToldBy, answered}
-use Rattle.fm_script_lines.specs.{Played.{Done}, Runs.{Went}, Standings.{arena_of}}
+use Rattle.fm_script_lines.{specs.{Played.{Done}, Runs.{Went}, Standings.{arena_of}}, proofs.Opening.{no_slot_still}}
 
 -- ---- one line
 
@@ -151,7 +151,7 @@ module _ {p q : View} {own : List Entry} (d : Done) (w : Went p q own) (whole : 
         → AllocatesExactly q r id size align result → IsFullRightly p.shape (p.seen ++ own) size align d
     full_rightly {r = r} result is does a =
         let exact : FullExactly q id size align result =
-        a.exact (ap (λ (x : Rest). x.whole) w.rest ∙ whole) (ap (λ (x : Rest). x.closes) w.rest ∙ closed) (ap (λ (x : Rest). x.slots) w.rest ∙ none) in
+        a.exact (ap (λ (x : Rest). x.whole) w.rest ∙ whole) (ap (λ (x : Rest). x.closes) w.rest ∙ closed) (no_slot_still w none) in
         record {
           full = λ lacks.
               let full : result ≡ Err refusal.PoolFull = answered_once result (Err refusal.PoolFull) (sym is ∙ lacks) in

@@ -66,11 +66,15 @@ made_after {p = p} w =
     ap (λ (es : List Entry). made_by p.caller es) w.seen
     ∙ (filter-append _ p.seen w.more ∙ ap (λ (es : List Entry). made_by p.caller p.seen ++ es) w.by_pass)
 
+-- Lines leave a pass without a slot as it was.
+pub no_slot_still : {p q : View} {own : List Entry} → Went p q own → HasNoSlot p → HasNoSlot q
+no_slot_still w none = record { sweeps = ap (λ (x : Rest). x.sweeps) w.rest ∙ none.sweeps; slots = ap (λ (x : Rest). x.slots) w.rest ∙ none.slots }
+
 -- What a pass by itself was told of slots, in the words of entries.
 pub opens_rightly : {p q r : View} {own : List Entry} (d : Done) → Went p q own → SlotsTold q r d.reply → p.whole ≡ true → HasNoSlot p
     → OpensRightly p.shape (p.seen ++ own) d
 opens_rightly {p = p} {q = q} {own = own} d w told whole none =
-    let t = told.exact (ap (λ (x : Rest). x.whole) w.rest ∙ whole) (ap (λ (x : Rest). x.slots) w.rest ∙ none) in
+    let t = told.exact (ap (λ (x : Rest). x.whole) w.rest ∙ whole) (no_slot_still w none) in
     let seen : q.seen ≡ p.seen ++ own = w.seen ∙ ap (λ (es : List Entry). p.seen ++ es) (w.alone whole) in
     record {
       refused = λ lacks. subst (λ (z : Shape). AllBusyIn z (p.seen ++ own)) w.same_shape (subst (λ (es : List Entry). AllBusyIn q.shape es) seen (t.0 lacks));

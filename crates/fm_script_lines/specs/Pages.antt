@@ -1,8 +1,9 @@
 -- Where a line that allocates is refused for want of pages, and which parts of its arena it gives pages.
-use Rattle.std.specs.{Prelude.{◌≡◌, ◌≢◌, ◌<◌, ◌≤◌, ◌+◌, ◌*◌, ◌/◌, ℕ, true, List, [], ◌∷◌, ◌++◌, Result, Ok, Err, IfSome, ⊤}, List.{AllByRecursion}}
+use Rattle.std.specs.{Prelude.{◌≡◌, ◌≢◌, ◌<◌, ◌≤◌, ◌+◌, ◌*◌, ◌/◌, ℕ, List, [], ◌∷◌, ◌++◌, Result, Ok, Err, IfSome, ⊤}, List.{AllByRecursion}}
 use Rattle.fm_words.specs.{declared.shape.Shape.{Shape}, Places.{page_groups}}
-use Rattle.fm_base.specs.declared.{arena_id.ArenaId.{ArenaId}, caller.Caller.{Caller}, refusal.Refusal.{Refusal, TheVariants.{PoolFull}}}
-use Rattle.fm_base.specs.{Calls.{Entry, Enter, Fine, Lend, entry_of}, Histories.{made_by, state_after}, Machine.{rounded_up}, View.{is_loan}}
+use Rattle.fm_base.specs.declared.{arena_id.ArenaId.{ArenaId}, caller.Caller.{Caller}, refusal.Refusal.{Refusal, TheVariants.{NoRoom, PoolFull}}}
+use Rattle.fm_base.specs.{Calls.{Allocate, Entry, Enter, Fine, Given, Leave, Lend, entry_of}, Histories.{made_by, state_after}, Machine.{rounded_up}, View.{but_loans}}
+use Rattle.fm_base.specs.Calls as machine_call
 use Rattle.fm_base.specs.Arenas as machine
 use Rattle.fm_base_lists.specs.Among.{IsAmong}
 use Rattle.fm_rule_facts.specs.{Loans.{loans_of}, Scarcity.{lacking, parts_before}, Views.{View, Begins, limit_of, unlent, unlent_in}}
@@ -77,8 +78,8 @@ FindsFew z c history own d = IfAllocates d.line.command (λ size align.
 
 -- ---- what is lent
 
--- The entry lends a page to the arena as a part with a byte of the range, as the arena's count placed it at a point of
--- the line's call
+-- The entry lends a page to the arena as a part with a byte of the range, which is within the limit, as the arena's count
+-- placed it at a point of the line's call that lies before the entry
 pub record LendsInRange (z : Shape) (c : Caller) (history own run : List Entry) (id : ArenaId) (size align : ℕ)
     (e : Entry) : Type 0 where
   pub page : ℕ
@@ -86,14 +87,34 @@ pub record LendsInRange (z : Shape) (c : Caller) (history own run : List Entry) 
   pub lends : e.call ≡ Lend page id part
   pub at : List Entry
   pub point : IsPointOf c history own run at
+  pub made : List Entry
+  pub later : List Entry
+  pub until : Begins at made
+  pub stands : history ≡ made ++ e ∷ later
+  pub fits : end_behind z at id size align ≤ limit_of z
   pub after : given_behind z at id / (z.page_words * 8) ≤ part
   pub before : part * (z.page_words * 8) < end_behind z at id size align
 
--- A line that allocates lends and takes back nothing but so, in the arena that it entered
+-- The line enters the arena, lends pages for its range alone, does the rest, and leaves
+pub record LendsInside (z : Shape) (c : Caller) (history own run : List Entry) (id : ArenaId) (size align : ℕ)
+    (rest : List Entry) : Type 0 where
+  pub lends : List Entry
+  pub are : AllByRecursion (LendsInRange z c history own run id size align) lends
+  pub is : run ≡ entry_of c (Enter id) Fine ∷ (lends ++ rest) ++ entry_of c (Leave id) Fine ∷ []
+
+-- by its answer: it allocates, unless a page is wanting; and where it is refused before that, it lends nothing
+abbrev pub LineLends : Shape → Caller → (history own run : List Entry) → (size align : ℕ) → Reply → Type 0
+LineLends z c history own run size align (Place place) =
+    (id : ArenaId) × LendsInside z c history own run id size align (entry_of c (Allocate id size align) (Given place) ∷ [])
+LineLends z c history own run size align (Refused (NoRoom given)) =
+    (id : ArenaId) × LendsInside z c history own run id size align (entry_of c (Allocate id size align) (machine_call.NoRoom given) ∷ [])
+LineLends z c history own run size align (Refused PoolFull) =
+    (id : ArenaId) × LendsInside z c history own run id size align []
+LineLends z c history own run size align reply = but_loans run ≡ run
+
+-- So a line that allocates lends
 abbrev pub LendsRightly : Shape → Caller → (history own : List Entry) → Done → Type 0
-LendsRightly z c history own d = IfAllocates d.line.command (λ size align.
-    (e : Entry) → IsAmong e d.run → is_loan e.call ≡ true
-    → (id : ArenaId) × HasEntered id d.run × LendsInRange z c history own d.run id size align e)
+LendsRightly z c history own d = IfAllocates d.line.command (λ size align. LineLends z c history own d.run size align d.reply)
 
 -- ---- all lines
 

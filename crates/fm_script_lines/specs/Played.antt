@@ -1,7 +1,8 @@
 -- Lines that ran, those of one caller and those of a script, and their entries in a history.
-use Rattle.std.specs.{Prelude.{◌≡◌, ℕ, ◌<◌, List, ◌∷◌, ◌++◌, map}, List.{AllByRecursion, flat_map}}
+use Rattle.std.specs.{Prelude.{◌≡◌, ℕ, ◌<◌, ◌≤◌, List, ◌∷◌, ◌++◌, map}, List.{AllByRecursion, flat_map}}
 use Rattle.fm_base.specs.{declared.caller.Caller.{Caller}, Arenas.{only_caller}, Calls.{Entry}, Histories.{made_by}}
 use Rattle.fm_base_lists.specs.Among.{IsAmong}
+use Rattle.fm_rule_facts.specs.Hands.{last_term}
 use Rattle.fm_script_text.specs.declared.line.Line.{Line}
 use Rattle.fm_script_lines.specs.declared.{reply.Reply.{Reply}, standing.Standing.{Standing}}
 
@@ -41,10 +42,11 @@ all_done p = p.firsts ++ (worked p.players ++ p.lasts)
 abbrev pub callers : Played → List Caller
 callers p = p.main ∷ map (λ w. w.caller) p.players
 
--- the first lines' caller is the first one of a pool of so many passes, and each worker's has a number of the pool
+-- the first lines' caller is the first one of a pool of so many passes, and each worker's has a number of the pool and a term that numbers can have
 pub record AreDrawn (passes : ℕ) (p : Played) : Type 0 where
   pub first : p.main ≡ only_caller
   pub numbers : AllByRecursion (λ c. c.number < passes) (map (λ w. w.caller) p.players)
+  pub terms : AllByRecursion (λ c. c.term ≤ last_term) (map (λ w. w.caller) p.players)
 
 -- the first lines' entries stand before the workers', and these before the last lines'
 pub record IsCut (history : List Entry) (p : Played) : Type 0 where

@@ -8,7 +8,8 @@ use Rattle.fm_base_bytes.specs.Bytes.{number_of}
 use Rattle.fm_lanes.specs.{declared.{order.Order.{Order}, value.Value.{Value}, value_kind.ValueKind.{ValueKind}}, Coding.{value_of, bytes_of_value}}
 use Rattle.fm_lanes.specs.{Kind.{width_of}, Value.{kind_of}}
 use Rattle.fm_lanes.specs.declared.value_kind.ValueKind.TheVariants as kind
-use Rattle.fm_layout.{specs.{Tree.{Tree}, WellFormed.{IsWellFormed}}, proofs.{Powers.{IsPowerOfTwo-from_test}, Sound.{positive_power}}}
+use Rattle.fm_base_bytes.proofs.Powers.{IsPowerOfTwo-from_test}
+use Rattle.fm_layout.{specs.{Tree.{Tree}, WellFormed.{IsWellFormed}}, proofs.Sound.{positive_power}}
 use Rattle.fm_path.{specs.{Resolution.{Resolution, StaysInside}, declared.value_spec.ValueSpec.{ValueSpec}}, proofs.Resolving.{stays_inside}}
 use Rattle.fm_path_meaning.{specs.Walk.{offset_at}, proofs.Inside.{divides_from, divides_gives, divides_add, divides_trans}}
 use Rattle.fm_segment.specs.Region.{Region}

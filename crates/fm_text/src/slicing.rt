@@ -1,8 +1,6 @@
-ghost use Rattle.std.specs.Prelude.{◌≡◌, IfOk, IsTrue};
-ghost use Rattle.std.specs.Int.{is_power_of_two};
-ghost use Rattle.fm_base.specs.Machine.{rounded_up};
+ghost use Rattle.std.specs.Prelude.{◌≡◌, IfOk};
 
-use fm_base::Refusal;
+use fm_base::{Refusal, round_up};
 use fm_segment::Segment;
 use std::marker::Model;
 
@@ -25,16 +23,6 @@ impl Model for SlicingAllocator {
     ghost view = { λ s. record { segment = s.segment; used = s.used } };
 
     ghost invariant = { λ s. s.used ≤ s.segment.size };
-}
-
-/// The least multiple of `align`, a power of two, that is at least `place`: by a mask, since a division would cost more than
-/// all else of an allocation.
-fn rounded(place: u64, align: u64) -> u128
-    requires { IsTrue (is_power_of_two align) }
-    ensures { result ≡ rounded_up place align }
-{
-    let below = u128::from(align - 1);
-    (u128::from(place) + below) & !below
 }
 
 impl SlicingAllocator {
@@ -69,7 +57,7 @@ impl SlicingAllocator {
             return Err(Refusal::BadAlignment);
         }
         let first = self.segment.first();
-        let offset = rounded(first + self.used, align) - u128::from(first);
+        let offset = round_up(first + self.used, align) - u128::from(first);
         if offset > u128::from(self.segment.size()) {
             return Err(Refusal::Bounds);
         }

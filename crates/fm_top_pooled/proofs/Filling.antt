@@ -7,7 +7,7 @@ use Rattle.fm_base_bytes.{specs.Bytes.{AreBytes}, proofs.Words.{length-bytes_in}
 use Rattle.fm_segment_access.{specs.{Alone.{bytes_of_arena, with_bytes}, Runs.{DoesPutAll}}, proofs.Splicing.{keeps_count}}
 use Rattle.fm_segment_laws.proofs.{Staying.{StayBelow, tidy_alone}, Putting.{put_all_stays}}
 use Rattle.fm_arena.proofs.Lasting.{keeps as pool_keeps}
-use Rattle.fm_rule_calls.{specs.Told.{view_of_pass}, proofs.Sweeps.{no_sweeps}}
+use Rattle.fm_rule_calls.specs.Told.{view_of_pass}
 use Rattle.fm_gate.specs.Needs.{IsOutside}
 use Rattle.fm_top_load.specs.Held.{IsHeld, OnlyIn, words_at}
 use Rattle.fm_rule_facts.specs.Views.{View, IsKnown, IsSound, limit_of, state_in}
@@ -34,7 +34,7 @@ lone_on pool p q own lone makes tidy outside sound = record {
       (makes.told.seen ∙ ap (λ (es : List Entry). p.seen ++ es) (makes.alone (inr lone.whole))) tidy;
   gathered = ap (λ (x : Rest). x.gathered) makes.told.rest ∙ lone.gathered;
   none_to_end = ap (λ (x : Rest). x.closes) makes.told.rest ∙ lone.none_to_end;
-  none_to_sweep = no_sweeps p q makes.told.rest lone.none_to_sweep;
+  none_to_sweep = ap (λ (x : Rest). x.sweeps) makes.told.rest ∙ lone.none_to_sweep;
   no_page = ap (λ (x : Rest). x.pages) makes.told.rest ∙ lone.no_page;
 }
 

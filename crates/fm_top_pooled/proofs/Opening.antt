@@ -5,7 +5,7 @@ use Rattle.fm_base.specs.declared.{arena_id.ArenaId.{ArenaId}, kind.Kind.TheVari
 use Rattle.fm_base.specs.{Arenas.{Arena, State, arena_of, has_arena, same_id}, Calls.{Entry, Open, Fine, entry_of}, Does.{DoesOpen}, Finds.{Gathered, Rest}}
 use Rattle.fm_base.{specs.{Histories.{IsTidy, state_after}, Machine.{opened}, View.{but_loans}}, proofs.{Lookup.{arena_of-append}, Names.{same_id-true}}}
 use Rattle.fm_gate.specs.{Needs.{IsOutside}, Learnt.{AfterOpen, AllBusy}}
-use Rattle.fm_rule_calls.{specs.{Kept.{Kept}, Told.{view_of_pass}}, proofs.{Sweeps.{no_sweeps}, Telling.{did_of}}}
+use Rattle.fm_rule_calls.{specs.{Kept.{Kept}, Told.{view_of_pass}}, proofs.Telling.{did_of}}
 use Rattle.fm_top_load.{specs.Held.{names_in}, proofs.Holding.{did_only, opened_held}}
 use Rattle.fm_rule_facts.specs.{Loans.{Loan, loans_of}, Scarcity.{parts_before}, Views.{View, IsKnown, IsSound, limit_of, state_in, unlent}}
 use Rattle.fm_rule.specs.{declared.pool.Pool.{Pool}, Views.{first_pass, numbers_of}}
@@ -74,7 +74,7 @@ kept_alone {p = p} {q = q} lone k outside none = record {
       (tidy_none (limit_of p.shape) (state_in p) k.own (loans_too k.own none));
   gathered = k.goes.same_gathered ∙ lone.gathered;
   none_to_end = ap (λ (x : Rest). x.closes) k.rest ∙ lone.none_to_end;
-  none_to_sweep = no_sweeps p q k.rest lone.none_to_sweep;
+  none_to_sweep = ap (λ (x : Rest). x.sweeps) k.rest ∙ lone.none_to_sweep;
   no_page = ap (λ (x : Rest). x.pages) k.rest ∙ lone.no_page;
 }
 

@@ -44,7 +44,7 @@ least_power w n k (suc j, is) least most = dite (dec_le (suc j) k) (λ y. subst 
 
 -- A pool can have a shape of at most 33 such pages.
 pub can_be : (arenas reach w : ℕ) → 0 < arenas → arenas ≤ 2 → 0 < reach → reach ≤ 32 → 0 < w → w ≤ 262144
-    → IsValid (record { passes = 136; slots = arenas; pages = reach + (arenas - 1); page_words = w; reach = reach; generations = 1 })
+    → IsValid (record { passes = 17; slots = arenas; pages = reach + (arenas - 1); page_words = w; reach = reach; generations = 1 })
 can_be arenas reach w some few one most wide high =
     let all : (reach + (arenas - 1)) * w ≤ 33 * 262144 = mul-le (reach + (arenas - 1)) w 33 262144 (omega arith) high in
     record {

@@ -14,7 +14,7 @@ use Rattle.fm_records.{specs.Shares.{AreSpared}, proofs.AnsweringBytes.{length-p
 use Rattle.fm_rule.specs.{declared.pool.Pool.{Pool}, Finishing.{FinishedView, Finishes}, GivenBytes.{state_of}}
 use Rattle.fm_segment.specs.Region.{Region, region_of}
 use Rattle.fm_words.specs.declared.shape.Shape.{Shape}
-use Rattle.fm_workers_crew.{specs.Crew.{AreTooMany, CrewGathered, IsFresh, IsWhole, callers}, proofs.Wanting.{few_last}}
+use Rattle.fm_workers_crew.{specs.Crew.{AreTooMany, CrewGathered, IsFresh, IsWhole, callers}, proofs.Again.{crews_come, few_of_one}}
 use Rattle.fm_workers.specs.Query.{CanQueryWith, IsReadByCrew, NobodyElseWrites, OnlyReads, QueriedWith}
 use Rattle.fm_top_pooled.specs.Asking.{Asked, AskedOf, HasPasses, KeepsHistory}
 use Rattle.fm_top_pooled.specs.Shown.{AreRead, AsksWord, IsReadByOther, ShowsBoth, ShowsQuery, ShowsRecords, state_before}
@@ -90,10 +90,13 @@ asked {p = p} {q = q} threads plan h crew few read stocked same spared = record 
   drawn = omega (arith, ap (λ (v : View). length v.gathered) crew.is, length-append p.gathered crew.crew, few);
 }
 
--- there is a number for each worker
-pub never_wanting : {pool : Pool} {p : View} {s : Region} (threads : ℕ) → IsStocked pool p s → HasPasses p threads → AreTooMany p threads → ⊥
-never_wanting {p = p} threads h passes (inl few) = let last = few_last p.gathered in omega (arith, few, last, passes)
-never_wanting threads h passes (inr most) = let all = h.passes in omega (arith, most, all, passes)
+-- there is a number for each worker, since numbers come back
+pub never_wanting : {pool : Pool} {p : View} {s : Region} (threads : ℕ) → IsStocked pool p s → HasPasses p threads → ¬ (AreTooMany p threads)
+never_wanting {p = p} threads h passes =
+    let left = passes.left in
+    let few = passes.crew.few in
+    let all = h.passes in
+    crews_come.back p threads (is_whole h) (λ n. let one = few_of_one n p.gathered in omega arith) (omega arith) (omega arith)
 
 -- ---- a query
 

@@ -1,7 +1,7 @@
 -- What a crew leaves that was asked of records in a pool, and what a finished pool keeps of its pass.
 use Rattle.std.specs.Prelude.{◌≡◌, ℕ, ◌+◌, ◌<◌, ◌≤◌, List, ◌++◌, length}
 use Rattle.fm_base.specs.Calls.{Entry}
-use Rattle.fm_rule_facts.specs.Views.{View}
+use Rattle.fm_rule_facts.specs.{Hands.{last_term}, Views.{View}}
 use Rattle.fm_records_query.specs.Plan.{Plan}
 use Rattle.fm_records.specs.Shares.{AreSpared}
 use Rattle.fm_rule.specs.{declared.pool.Pool.{Pool}, Finishing.{FinishedView}}
@@ -13,9 +13,9 @@ pub record IsCrew (threads : ℕ) : Type 0 where
   pub some : 0 < threads
   pub few : threads ≤ 16
 
--- such a crew can be drawn still
+-- such a crew can be drawn still: the pool has a number for each of its passes, and no number was drawn as often as can be counted
 pub record HasPasses (p : View) (threads : ℕ) : Type 0 where
-  pub left : length p.gathered + (1 + threads) ≤ p.shape.passes
+  pub left : length p.gathered + threads < last_term
   pub crew : IsCrew threads
 
 -- At most so many passes were drawn; the records stood, nobody changed them, and then others have read each word that is asked for

@@ -15,9 +15,9 @@ use Rattle.fm_rule.specs.declared.pool.Pool.{Pool}
 use Rattle.fm_segment.specs.{Access.{IsKnown as IsKnownTo}, Region.{Region, region_of}}
 use Rattle.fm_words.specs.declared.shape.Shape.{Shape}
 
--- how many passes a pool has
+-- how many passes a pool has: the first, and one for each worker of the greatest crew
 abbrev pub pool_passes : ℕ
-pool_passes = 136
+pool_passes = 17
 
 -- the history that it has seen changes only bytes that were given
 abbrev pub IsTidyPass : View → Type 0

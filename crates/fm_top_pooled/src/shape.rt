@@ -6,9 +6,8 @@ ghost use Rattle.fm_words.specs.Shapes.{IsValid};
 use fm_top_load::RECORD_FILE_LIMIT;
 use fm_words::Shape;
 
-/// 16 workers whose numbers are multiples of 8, since these are drawn first, so no two of their marks lie in one line of 64
-/// bytes; the first pass; and seven marks that nobody uses, which keep the last one off the line of a session.
-const PASSES: u32 = 16 * 8 + 1 + 7;
+/// The first pass, and one for each worker of the greatest crew: the pool is made before it is said how many there are.
+const PASSES: u32 = 1 + 16;
 
 /// How many pages an arena has at most: a few long ones, since a visit asks for its page anew.
 const MOST_PAGES: u64 = 32;

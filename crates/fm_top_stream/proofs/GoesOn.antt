@@ -15,11 +15,12 @@ use Rattle.fm_records_query.specs.Plan.{Plan}
 use Rattle.fm_records.specs.{declared.found.Found.{Found}, Alone.{bytes_at_places}, Answers.{answer}, Few.{AreFew}, Joined.{CanJoin, joined}}
 use Rattle.fm_records.proofs.{AnsweringBytes.{places_have}, Few.{few_join}, Joining.{answer-append}}
 use Rattle.fm_words.specs.declared.shape.Shape.{Shape}
-use Rattle.fm_top_load.specs.{declared.chunk.Part.{Part}, Held.{IsHeld, OnlyIn, names_in}, Reading.{piece_limit}, Whole.{IsCut, IsWhole}}
+use Rattle.fm_top_load.specs.{declared.chunk.{Chunk.{Chunk}, Part.{Part}}, Held.{IsHeld, OnlyIn, names_in}, Reached.{IsNextPiece}, Reading.{piece_limit}}
+use Rattle.fm_top_load.specs.Whole.{IsCut, IsWhole}
 use Rattle.fm_top_load.proofs.Chunks.{first_to_last}
 use Rattle.fm_top_pooled.{specs.{Shown.{AsksWord, IsReadByOther}, Stocked.{IsAlone, IsStockedOf, bytes_in_pool}}, proofs.Filling.{held_room}}
 use Rattle.fm_top_pooled.proofs.Shows.{pooled_is, read_in}
-use Rattle.fm_top_stream.specs.{Chunks.{all_bytes}, Gone.{CanAsk, CanTakeChunk, GoesByChunk, GoesThrough, GoneSoFar, GoneThrough, HasGone, HasNext}}
+use Rattle.fm_top_stream.specs.{Chunks.{all_bytes}, Gone.{CanAnswer, CanAsk, CanTakeChunk, GoesByChunk, GoesThrough, GoneSoFar, GoneThrough, HasGone, HasNext}}
 use Rattle.fm_top_stream.specs.{declared.{under_way.UnderWay.{UnderWay}, gone.Gone.{Gone}, placed.Placed.{Placed}}, Shown.{ShowsChunk}}
 use Rattle.fm_top_stream.specs.Steps.{AnswersOn, CanClose, Closes, GoesOn, StandsIn, arenas_of}
 use Rattle.fm_top_stream.proofs.Runs.{all_more, count_more, cut_more, cut_whole, even_all, even_sum, first_more, is_ragged, whole_file, whole_more}
@@ -270,6 +271,22 @@ stands_still {limit} {most} {at} {told} {name} {v = v} {w = w} {x = x} stands ot
       cut = subst (λ (o : Arena). IsCut limit most told name at (take x.chunk.count (bytes_in o.words)) x.chunk.ended) (sym same) stands.cut;
       some = stands.some;
       within = stands.within;
+    }
+
+-- A chunk can be answered over, once the first piece behind it was read.
+pub can_answer : {part : Part} {told now : Option Contents} {threads : ℕ} {p : Plan} {pool : Pool} {g : UnderWay} {x : Placed} {s : Region} {buffer bytes : List ℕ}
+    {first : Chunk} → CanTakeChunk part told threads p pool g x → s ≡ region_of x.arena 0 x.chunk.count → now ≡ told → buffer ≡ bytes
+    → length bytes ≡ piece_limit → IsNextPiece part.limit part.most told part.name.now part.at bytes first
+    → CanAnswer part now threads p pool g.pass s buffer first
+can_answer {part = part} {p = p} {s = s} {first = first} can is same back long next =
+    let alone = can.has.gone.gone.alone in
+    record {
+      asks = can.asks;
+      alone = alone;
+      stocked = is_stocked alone can.asks.room can.has.stands s is;
+      even = (λ j. (is j).size % p.size) ∙ can.even;
+      read = record { room = ap (λ (bs : List ℕ). length bs) back ∙ long; small = can.read.small; short = can.read.short };
+      next = subst (λ (x : Option Contents × List ℕ). IsNextPiece part.limit part.most x.0 part.name.now part.at x.1 first) (λ j. (sym same j, sym back j)) next;
     }
 
 module _ {part : Part} {told : Option Contents} {threads : ℕ} {p : Plan} {pool : Pool} {g : UnderWay} {x : Placed} (can : CanTakeChunk part told threads p pool g x)

@@ -277,7 +277,7 @@ module _ {passes : ℕ} {part : Part} {told : Option Contents} {pool : Pool} {p 
               (tidy_alone (limit_of m.shape) part.most b (state_in m) crew.more (reach asked).legal w.given stays);
           gathered = refl;
           none_to_end = crew.closes ∙ alone.none_to_end;
-          none_to_sweep = crew.sweeps alone.none_to_sweep;
+          none_to_sweep = crew.sweeps ∙ alone.none_to_sweep;
           no_page = crew.pages ∙ alone.no_page;
         };
         more = crew.more;

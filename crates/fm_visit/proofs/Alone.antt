@@ -2,12 +2,12 @@
 use Rattle.std.proofs.Common.{◌≡◌, ℕ, suc, ◌+◌, ◌*◌, true, List, [], ◌∷◌, length, take, drop, slice_index, refl, sym, ap, subst, ◌∙◌, arith}
 use Rattle.std.proofs.lemmas.List.{drop_more}
 use Rattle.fm_base.specs.declared.{caller.Caller.{Caller}, arena_id.ArenaId.{ArenaId}}
-use Rattle.fm_base.specs.{Arenas.{State, arena_of, has_arena, word_in}, Calls.{Found, Entry}, Histories.{IsLegal, state_after}, View.{View, Did, IsByItself}, Visits.{entries_of, writes}}
+use Rattle.fm_base.specs.{Arenas.{State, arena_of, has_arena, word_in}, Calls.{Found, Entry}, Histories.{IsLegal, state_after}, View.{View, Did, IsByItself}, Visits.{entries_of, reads, writes}}
 use Rattle.fm_base.proofs.Faith.{Makes-alone}
 use Rattle.fm_base_bytes.{specs.Words.{bytes_in}, proofs.Words.{take-bytes_in, drop-bytes_in}}
 use Rattle.fm_segment_access.specs.Alone.{bytes_of_arena, ChangesBytes}
 use Rattle.fm_segment_access.proofs.{Alone.{Puts, changes}, Writing.{writes_leave}}
-use Rattle.fm_visit.specs.{Acts.{reads}, Learnt.{FindsWords}}
+use Rattle.fm_visit.specs.Learnt.{FindsWords}
 
 -- Reads find the words that stand there, and change nothing.
 pub record ReadsAre (s t : State) (id : ArenaId) (word : ℕ) (vs : List ℕ) : Type 0 where

@@ -1,12 +1,12 @@
 -- What a caller inside an arena learns of a call, from what it did.
 use Rattle.std.proofs.Common.{◌≡◌, ℕ, ◌/◌, List, [], ◌∷◌, length, refl, ◌∙◌, Some, Result, Ok, Err}
 use Rattle.fm_base.specs.declared.{arena_id.ArenaId.{ArenaId}, refusal.Refusal.{Refusal}}
-use Rattle.fm_base.specs.{Calls.{Call, Reply, Read, Write, Found, Fine}, Does.{DidAct, DidActs}, Learnt.{AfterAct, AfterStores}, Outcomes.{Lasts}}
-use Rattle.fm_base.specs.{View.{View, Did, IsByItself}, Visits.{Acts, entries_of, writes}}
+use Rattle.fm_base.specs.{Calls.{Call, Reply, Read, Write, Found, Fine}, Does.{DidAct, DidActs}, Learnt.{AfterAct, AfterLoads, AfterStores}, Outcomes.{Lasts}}
+use Rattle.fm_base.specs.{View.{View, Did, IsByItself}, Visits.{Acts, entries_of, reads, writes}}
 use Rattle.fm_base.proofs.{Making.{Makes-none}, Outcomes.{Makes-lasts}}
 use Rattle.fm_segment.{specs.Region.{Region}, proofs.Access.{known_still}}
-use Rattle.fm_visit.specs.Acts.{ActsAt, GetsWord, GetsWords, PutsWords, IsOfArguments, reads}
-use Rattle.fm_visit.specs.Learnt.{IsIn, AfterInside, AfterGetWord, AfterGetWords, AfterPutWords, AfterLoads, place_of_words, place_to_put}
+use Rattle.fm_visit.specs.Acts.{ActsAt, GetsWord, GetsWords, PutsWords, IsOfArguments}
+use Rattle.fm_visit.specs.Learnt.{IsIn, AfterInside, AfterGetWord, AfterGetWords, AfterPutWords, place_of_words, place_to_put}
 use Rattle.fm_visit.proofs.{Alone.{finds_words, puts_words}, Places.{words_err, put_err, put_ok, words_are_at}}
 
 -- these acts, and nothing else

@@ -1,5 +1,4 @@
 mod Alone
 mod Learning
-mod Loading
 mod Places
 mod Visiting

@@ -1,19 +1,14 @@
 -- What a caller inside an arena does by one call: acts, the lowest word first, and nothing else.
-use Rattle.std.{specs.Prelude.{◌≡◌, ℕ, ◌/◌, List, [], ◌∷◌, Result, Ok, Err, ⊤}, proofs.Common.{suc}}
+use Rattle.std.specs.Prelude.{◌≡◌, ℕ, ◌/◌, List, [], ◌∷◌, Result, Ok, Err, ⊤}
 use Rattle.fm_base.specs.declared.{caller.Caller.{Caller}, arena_id.ArenaId.{ArenaId}}
 use Rattle.fm_base.specs.declared.refusal.Refusal.{Refusal, TheVariants.{Bounds, Misaligned, ReadOnly, Unsupported}}
-use Rattle.fm_base.specs.{Calls.{Read, Found, Entry}, Visits.{Acts, entries_of, writes}}
+use Rattle.fm_base.specs.{Calls.{Entry}, Visits.{Acts, entries_of, reads, writes}}
 
 -- these entries are the caller's acts, and the acts are as Do says
 pub record HasActs (c : Caller) (Do : Acts → Type 0) (own : List Entry) : Type 0 where
   pub acts : Acts
   pub are : Do acts
   pub entries : own ≡ entries_of c acts
-
--- a Read of each of these words, the first at this index, which finds it
-abbrev pub reads : ArenaId → ℕ → List ℕ → Acts
-reads id word [] = []
-reads id word (v ∷ vs) = (Read id word, Found v) ∷ reads id (suc word) vs
 
 -- the acts at the place, or the refusal that came before any
 abbrev pub ActsAt : {X : Type 0} → Result ℕ Refusal → (ℕ → Result X Refusal → Acts → Type 0) → Result X Refusal → Acts → Type 0

@@ -1,11 +1,11 @@
 -- What calls inside an arena ask for, and what their caller learns: one record each.
 use Rattle.std.specs.Prelude.{◌≡◌, ℕ, ◌+◌, ◌*◌, ◌&&◌, List, [], ◌∷◌, length, take, drop, nat_lt, Some, Result, Ok, Err, IfOk, IfErr, if◌then◌else◌}
 use Rattle.fm_base.specs.declared.{arena_id.ArenaId.{ArenaId}, refusal.Refusal.{Refusal, TheVariants.{ReadOnly}}}
-use Rattle.fm_base.specs.{Does.{DidActs}, Outcomes.{Lasts}, View.{View, Did, IsByItself}, Visits.{Acts}}
+use Rattle.fm_base.specs.{Outcomes.{Lasts}, View.{View, Did, IsByItself}, Visits.{Acts}}
 use Rattle.fm_base_bytes.specs.Words.{bytes_in}
 use Rattle.fm_segment_access.specs.{Alone.{bytes_of_arena, ChangesBytes}, Found.{if_placed}}
 use Rattle.fm_segment.specs.{Access.{IsKnown}, Region.{Region}}
-use Rattle.fm_visit.specs.Acts.{HasActs, ActsAt, GetsWord, GetsWords, PutsWords, IsOfArguments, reads}
+use Rattle.fm_visit.specs.Acts.{HasActs, ActsAt, GetsWord, GetsWords, PutsWords, IsOfArguments}
 
 -- inside the arena of this name; the memory knows the segment
 pub record IsIn (v : View) (id : ArenaId) (r : Region) : Type 0 where
@@ -61,9 +61,3 @@ module _ (old new : View) (r : Region) where
   AfterPutWords offset words =
       AfterInside old new r.arena r (ActsAt (place_to_put offset (length words) r) (PutsWords r.arena words))
       (λ u. ChangesBytes old new r.arena (r.first + offset) (bytes_in words))
-
--- of loading words one after the other: a Read of each
-pub record AfterLoads (old new : View) (first : ℕ) (words : List ℕ) : Type 0 where
-  pub did : DidActs old new (λ a. reads a first words)
-  pub inside : new.inside ≡ old.inside
-  pub lasts : Lasts old new

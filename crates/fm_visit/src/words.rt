@@ -1,6 +1,5 @@
 ghost use Rattle.std.specs.Prelude.{◌≡◌, ◌+◌, ◌*◌, ◌^◌, ◌≤◌, ◌∷◌, [], length, IfOk, IfErr};
-ghost use Rattle.fm_base.specs.Does.{CanReachAll};
-ghost use Rattle.fm_visit.specs.Learnt.{IsIn, AfterGetWord, AfterGetWords, AfterPutWords, AfterLoads, place_of_words, place_to_put};
+ghost use Rattle.fm_visit.specs.Learnt.{IsIn, AfterGetWord, AfterGetWords, AfterPutWords, place_of_words, place_to_put};
 
 use fm_base::{Memory, Refusal};
 use fm_segment::{Segment, is_aligned};
@@ -47,7 +46,7 @@ pub fn get_words<M: Memory>(
     ensures size { length into.new ≡ length into.old }
 {
     let place = place_of(s, offset, into.len() as u64)?;
-    load_words(m, place / 8, into);
+    m.load_words(place / 8, into);
     Ok(())
 }
 
@@ -94,17 +93,4 @@ fn writable_place_of(s: &Segment, offset: u64, count: u64) -> Result<u64, Refusa
         return Err(Refusal::ReadOnly);
     }
     place_of(s, offset, count)
-}
-
-/// Loads the words from the index `first` on, inside the arena.
-fn load_words<M: Memory>(m: &mut M, first: u64, into: &mut [u64])
-    requires { CanReachAll (M.view m.old) first (length into.old) }
-    ensures loads { AfterLoads (M.view m.old) (M.view m.new) first into.new }
-    ensures size { length into.new ≡ length into.old }
-{
-    let mut k = 0;
-    while k < into.len() {
-        into[k] = m.load(first + k as u64);
-        k += 1;
-    }
 }

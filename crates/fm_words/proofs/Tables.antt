@@ -1,10 +1,10 @@
 -- Each word of a table is that of one place.
-use Rattle.std.proofs.Common.{◌≡◌, ◌≢◌, ℕ, zero, suc, ◌+◌, ◌-◌, ◌*◌, ◌/◌, ◌%◌, ◌<◌, ◌≤◌, List, length, set, slice_index, refl, ap, arith, inl, inr, get_or-set_other, get_or-set_same, mul-le-mul_left}
+use Rattle.std.proofs.Common.{◌≡◌, ◌≢◌, ℕ, zero, suc, ◌+◌, ◌-◌, ◌*◌, ◌/◌, ◌%◌, ◌<◌, ◌≤◌, List, length, set, slice_index, refl, sym, ap, ◌∙◌, subst, arith, inl, inr, get_or-set_other, get_or-set_same, mul-le-mul_left}
 use Rattle.std.proofs.lemmas.{Bool.{cases_lt}, Nat.{mul-add-lt, same_from_place, div-add-mod', mod_below, div_below}}
 use mathlib.Core.Logic.{dite}
 use native.Mathlib.Decide.{ℕ_discrete}
 use Rattle.fm_words.specs.{declared.shape.Shape.{Shape}, Shapes.{IsValid}}
-use Rattle.fm_words.specs.Places.{Place, front, draw, slot_bits, mark, page_bits, session, given, map, number_bits, term, page_word, IsPlace, page_groups, groups, marks_from, sessions_from, given_from, maps_from, pages_from, page_bits_from, numbers_from, terms_from, at, words, NamesEachWordOnce}
+use Rattle.fm_words.specs.Places.{Place, front, draw, slot_bits, mark, gap, page_bits, session, given, map, number_bits, term, page_word, IsPlace, page_groups, groups, marks_from, sessions_from, given_from, maps_from, pages_from, page_bits_from, numbers_from, terms_from, at, words, NamesEachWordOnce}
 
 -- Places lie within the table.
 pub at-within : (z : Shape) (p : Place) → IsPlace z p → at z p < words z
@@ -13,6 +13,7 @@ at-within z front h = omega arith
 at-within z draw h = omega arith
 at-within z slot_bits h = omega arith
 at-within z (mark k) h = omega arith
+at-within z (gap k i) h = let a = h.0 in let b = h.1 in omega arith
 at-within z (session s) h = omega arith
 at-within z (given s) h = omega arith
 at-within z (map s i) h =
@@ -41,6 +42,24 @@ page-below z k w h =
     let below : k * z.page_words + w < z.pages * z.page_words = omega (arith, row) in
     omega arith
 
+-- A word behind a mark is that of no other kind.
+gap-else : (z : Shape) (k i : ℕ) (q : Place) → k < z.passes → i < 7 → IsPlace z q → at z (gap k i) ≡ at z q → (l : ℕ) × (j : ℕ) × (q ≡ gap l j)
+unfolding at
+gap-else z k i (gap l j) low few h e = (l, j, refl)
+gap-else z k i _ low few h e = absurd (omega arith)
+
+gap-same : (z : Shape) (k i l j : ℕ) → i < 7 → j < 7 → at z (gap k i) ≡ at z (gap l j) → gap k i ≡ gap l j
+unfolding at
+gap-same z k i l j few less e =
+    let p : k ≡ l = omega arith in
+    let q : i ≡ j = omega arith in
+    λ n. gap (p n) (q n)
+
+gap-one : (z : Shape) (k i : ℕ) (q : Place) → IsPlace z (gap k i) → IsPlace z q → at z (gap k i) ≡ at z q → gap k i ≡ q
+gap-one z k i q a b e =
+    let y = gap-else z k i q a.0 a.1 b e in
+    gap-same z k i y.0 y.1 a.1 (subst (IsPlace z) y.2 b).1 (e ∙ ap (at z) y.2) ∙ sym y.2
+
 -- Two places are never one word.
 pub at-apart : (z : Shape) (p q : Place) → IsPlace z p → IsPlace z q → at z p ≡ at z q → p ≡ q
 unfolding at
@@ -48,6 +67,8 @@ at-apart z front front a b e = refl
 at-apart z draw draw a b e = refl
 at-apart z slot_bits slot_bits a b e = refl
 at-apart z (mark k) (mark i) a b e = let h : k ≡ i = omega arith in ap mark h
+at-apart z (gap k i) q a b e = gap-one z k i q a b e
+at-apart z p (gap k i) a b e = sym (gap-one z k i p b a (sym e))
 at-apart z (session s) (session t) a b e = let h : s ≡ t = omega arith in ap session h
 at-apart z (given s) (given t) a b e = let h : s ≡ t = omega arith in ap given h
 at-apart z (map s i) (map t j) a b e =
@@ -148,7 +169,11 @@ named_from_sessions z i h below = elim (cases_lt i (given_from z)) [
 named_from_marks : (z : Shape) (i : ℕ) → marks_from ≤ i → i < words z → PlaceAt z i
 unfolding at
 named_from_marks z i h below = elim (cases_lt i (sessions_from z)) [
-  | inl l ↦ (mark (i - marks_from), omega arith, omega arith)
+  | inl l ↦ (
+      let n : ℕ = i - marks_from in
+      dite (ℕ_discrete (n % 8) 0)
+      (λ e. (mark (n / 8), omega arith, omega arith))
+      (λ ne. (gap (n / 8) (n % 8 - 1), (omega arith, omega arith), omega arith)))
   | inr l ↦ named_from_sessions z i l below
 ]
 
@@ -178,8 +203,8 @@ pub at-set_other : (z : Shape) (table : List ℕ) (p q : Place) (x : ℕ) → Is
     → slice_index (set table (at z p) x) (at z q) ≡ slice_index table (at z q)
 at-set_other z table p q x a b ne = get_or-set_other table (at z p) (at z q) x 0 (λ e. ne (at-apart z q p b a e))
 
--- A table has at most 3 + 64 + 4,096 + 128 + 64 * 4,096 + 64 + 4,096 + 2^24 words.
-pub words-le : (z : Shape) → IsValid z → words z ≤ 17047811
+-- A table has at most 3 + 64 + 8 * 4,096 + 128 + 64 * 4,096 + 64 + 4,096 + 2^24 words.
+pub words-le : (z : Shape) → IsValid z → words z ≤ 17076483
 unfolding words
 words-le z v =
     let passes = v.passes.1 in let slots = v.slots.1 in let pages = v.words in

@@ -12,6 +12,8 @@ pub data Place : Type 0 where
   slot_bits : Place
   -- the mark of a pass
   mark : ℕ → Place
+  -- one of the words behind a mark, which nobody uses: they keep the next mark off its cache line
+  gap : ℕ → ℕ → Place
   -- the session of a slot
   session : ℕ → Place
   -- the count of bytes that the arena in a slot has given
@@ -41,6 +43,7 @@ IsPlace z front = Unit {0}
 IsPlace z draw = Unit {0}
 IsPlace z slot_bits = Unit {0}
 IsPlace z (mark k) = k < z.passes
+IsPlace z (gap k i) = (k < z.passes) × (i < 7)
 IsPlace z (session s) = s < z.slots
 IsPlace z (given s) = s < z.slots
 IsPlace z (map s i) = (s < z.slots) × (i < z.reach)
@@ -54,7 +57,7 @@ abbrev pub marks_from : ℕ
 marks_from = 3
 
 abbrev pub sessions_from : Shape → ℕ
-sessions_from z = marks_from + z.passes
+sessions_from z = marks_from + 8 * z.passes
 
 abbrev pub given_from : Shape → ℕ
 given_from z = sessions_from z + z.slots
@@ -83,7 +86,8 @@ unfoldable pub at : Shape → Place → ℕ
 at z front = 0
 at z draw = 1
 at z slot_bits = 2
-at z (mark k) = marks_from + k
+at z (mark k) = marks_from + 8 * k
+at z (gap k i) = marks_from + (8 * k + (1 + i))
 at z (session s) = sessions_from z + s
 at z (given s) = given_from z + s
 at z (map s i) = maps_from z + (s * z.reach + i)

@@ -3,8 +3,11 @@ use crate::shape::Shape;
 /// The words before the marks: front, draw and slot bits.
 const SINGLE_WORDS: u64 = 3;
 
-/// Places of words in the table, from 0. It has the single words first, then a mark for each pass, a session for each
-/// slot, a count of given bytes for each slot, the map words of each slot, and the pages, one after another; then the
+/// From one mark to the next: a cache line, since each pass stores its mark at each visit.
+const MARK_WORDS: u64 = 8;
+
+/// Places of words in the table, from 0. It has the single words first, then a mark for each pass with seven words behind
+/// it that nobody uses, a session for each slot, a count of given bytes for each slot, the map words of each slot, and the pages, one after another; then the
 /// words of page bits, the words of number bits, and last a term for each number.
 ///
 /// What a visit looks at comes first, since its places are computed at each visit.
@@ -88,7 +91,7 @@ impl Shape {
         requires { IsPlace self.now (mark pass) }
         ensures { result ≡ at self.now (mark pass) }
     {
-        SINGLE_WORDS + u64::from(pass)
+        SINGLE_WORDS + MARK_WORDS * u64::from(pass)
     }
 
     /// The place of a slot's session.
@@ -154,7 +157,7 @@ impl Shape {
     fn sessions_from(&self) -> u64
         ensures { result ≡ sessions_from self.now }
     {
-        SINGLE_WORDS + u64::from(self.passes)
+        SINGLE_WORDS + MARK_WORDS * u64::from(self.passes)
     }
 
     fn given_from(&self) -> u64

@@ -6,7 +6,7 @@ use Rattle.fm_rule_facts.{specs.{Hands.{no_number}, Views.{View, In}}, proofs.Ke
 use Rattle.fm_rule.specs.{declared.pool.Pool.{Pool}, Draws.{Looked}, Passes.{IsOf}}
 use Rattle.fm_gate.specs.Needs.{IsOutside}
 use Rattle.fm_arena.{specs.Learnt.{AfterIntoPass}, proofs.Lasting.{keeps}}
-use Rattle.fm_rule_calls.{specs.Told.{view_of_pass}, proofs.{Going.{reached_by, lasts_by}, Sweeps.{no_sweeps}}}
+use Rattle.fm_rule_calls.{specs.Told.{view_of_pass}, proofs.Going.{reached_by, lasts_by}}
 use Rattle.fm_workers_crew.specs.{declared.worker.Worker.{Worker}, Beside.{GatheredBeside, WorkedBeside}}
 use Rattle.fm_workers_crew.specs.Crew.{AreDone, DrewEach, IsFresh, IsIn, IsWhole, callers}
 use Rattle.fm_workers_crew.specs.Rounds.{CalledAll, GatheredCrew, IsWorked, Went, crew_of, passes_of, tasks_of}
@@ -117,8 +117,8 @@ module _ {T : Type 0} {P : List Entry → Type 0} {old drew acted got new : View
           ∙ (ap (λ (r : Rest). r.closes) k.makes.told.rest ∙ ap (λ (v : View). v.closes) m.is));
       pages = ap (λ (v : View). v.pages) l.asked.is ∙ (ap (λ (v : View). v.pages) g.is
           ∙ (ap (λ (r : Rest). r.pages) k.makes.told.rest ∙ ap (λ (v : View). v.pages) m.is));
-      sweeps = λ e. ap (λ (v : View). v.sweeps) l.asked.is ∙ (ap (λ (v : View). v.sweeps) g.is
-          ∙ no_sweeps drew acted k.makes.told.rest (ap (λ (v : View). v.sweeps) m.is ∙ e));
+      sweeps = ap (λ (v : View). v.sweeps) l.asked.is ∙ (ap (λ (v : View). v.sweeps) g.is
+          ∙ (ap (λ (r : Rest). r.sweeps) k.makes.told.rest ∙ ap (λ (v : View). v.sweeps) m.is));
       whole = λ w. l.whole ∙ found_whole w;
       alone = λ w. only_own_or_crew old new entries (crew_of vs) seen_now caller_now gathered_now apart_all l.sound (l.whole ∙ found_whole w);
       lasts = lasts_by (reached_by entries seen_now shape_now l.sound);

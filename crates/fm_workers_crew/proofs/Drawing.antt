@@ -64,7 +64,7 @@ module _ {old now : View} (m : Went old now) where
         draws = m.draws ++ ds;
         finds = a.found ∙ (ap (λ (fs : List Find). fs ++ ds) m.finds ∙ append_assoc old.finds m.draws ds);
         only_draws = λ f i. ⊎_elim (m.only_draws f) (a.only f) (in_append f m.draws ds i);
-        gathered = λ f i. ⊎_elim (m.gathered f) (λ (j : In f ds). a.gathered f j ∙ ap (λ (gs : List Gathered). length gs) gathered_still)
+        gathered = λ f i. ⊎_elim (m.gathered f) (λ (j : In f ds). (a.kept f j).gathered ∙ ap (λ (gs : List Gathered). length gs) gathered_still)
             (in_append f m.draws ds i);
         is = a.is ∙ (ap (λ (v : View). record v { seen = next.seen; finds = next.finds; whole = next.whole; number = no_number }) m.is
             ∙ (λ i. record old { seen = next.seen; finds = next.finds; whole = next.whole; number = sym none i }));
@@ -87,6 +87,7 @@ drawn_since {old = old} {now = now} {next = next} {d = d} none m k =
       fresh = record {
         number = subst (λ (x : Caller). x.number < old.shape.passes) (sym c)
             (subst (λ (z : Shape). k.caller.number < z.passes) (shape_still w) k.fresh.number);
+        term = k.sound.term;
         later = λ e. k.fresh.later (sym c ∙ e);
         other = λ h. k.fresh.other (has_caller_by old next k.caller (caller_still w) (gathered_still w) (subst (λ (x : Caller). HasCaller old x) c h));
         silent = nil_left (made_by d.caller old.seen) (made_by d.caller w.more) parts;

@@ -1,3 +1,4 @@
+pub mod Again
 pub mod Besides
 pub mod Callers
 pub mod Drawing

@@ -6,7 +6,7 @@ use Rattle.fm_base_lists.proofs.Each.{all_both, all_split}
 use Rattle.fm_base.specs.{declared.caller.Caller.{Caller}, Calls.{Entry}, Histories.{made_by}, Finds.{Find, Gathered, Rest, is_draw}, View.{Did}}
 use Rattle.fm_rule_facts.specs.{Views.{View, In}, Splits.{as_gathered}}
 use Rattle.fm_rule.specs.{declared.pool.Pool.{Pool}, Passes.{IsOf}}
-use Rattle.fm_rule_calls.{specs.{Kept.{Lasts}, Told.{view_of_pass}}, proofs.{Going.{reached_by, lasts_by}, Sweeps.{no_sweeps}}}
+use Rattle.fm_rule_calls.{specs.{Kept.{Lasts}, Told.{view_of_pass}}, proofs.Going.{reached_by, lasts_by}}
 use Rattle.fm_arena.proofs.Lasting.{keeps}
 use Rattle.fm_workers_crew.specs.{declared.worker.Worker.{Worker}, Crew.{IsFresh, IsIn, AreDone, callers}}
 use Rattle.fm_workers_crew.{specs.Rounds.{IsDrawn, IsSpare, IsWorked, tasks_of, crew_of, passes_of}, proofs.{Drawing.{made_behind}, Wholes.{NoDraws}}}
@@ -42,7 +42,7 @@ spare_worked {pool = pool} {d = d} {e = e} s k out =
       no_handle = ap (λ (r : Rest). r.handles) rest ∙ s.no_handle;
       no_page = ap (λ (r : Rest). r.pages) rest ∙ s.no_page;
       no_close = ap (λ (r : Rest). r.closes) rest ∙ s.no_close;
-      no_sweep = no_sweeps d e rest s.no_sweep;
+      no_sweep = ap (λ (r : Rest). r.sweeps) rest ∙ s.no_sweep;
       no_other = ap (λ (r : Rest). r.gathered) rest ∙ s.no_other;
     }
 

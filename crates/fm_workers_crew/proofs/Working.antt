@@ -127,7 +127,7 @@ module _ {T : Type 0} {old drew got new : View} {vs : List (Worker T)} {b : Bool
 
 -- What isn't touched lasts.
 pub lasts_none : (p : View) → Lasts p p
-lasts_none p = record { given = λ a. omega arith; known = λ a h. h; ended = λ a h. h }
+lasts_none p = record { given = λ a. omega arith; known = λ a h. h; ended = λ a h. h; no_words = λ a h n. n }
 
 -- Nobody was drawn.
 unfoldable pub nobody : (p : View) → CrewGathered p p

@@ -27,7 +27,7 @@ pub record GatheredBeside (Acts : List Entry → Type 0) (old new : View) : Type
   pub caller : new.caller ≡ old.caller
   pub closes : new.closes ≡ old.closes
   pub pages : new.pages ≡ old.pages
-  pub sweeps : old.sweeps ≡ [] → new.sweeps ≡ []
+  pub sweeps : new.sweeps ≡ old.sweeps
   -- a pass that was known to be whole is so again, and nobody but it and the crew made an entry
   pub whole : IsWhole old → new.whole ≡ true
   pub alone : IsWhole old → AllByRecursion (λ e. (e.caller ≡ old.caller) ⊎ IsAmong e.caller (callers crew)) more

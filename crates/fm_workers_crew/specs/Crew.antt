@@ -1,6 +1,6 @@
 -- What a crew of passes did, each at a task of its own, for the pass that drew them and gathered them again.
 use Rattle.fm_rule_calls.specs.Kept.{Lasts}
-use Rattle.std.specs.Prelude.{◌≡◌, ◌≢◌, ◌⊎◌, ◌+◌, ◌<◌, ◌==◌, true, if◌then◌else◌, ℕ, List, [], ◌∷◌, ◌++◌, length, map, All, Result, Ok, Err, None, ⊤}
+use Rattle.std.specs.Prelude.{◌≡◌, ◌≢◌, ◌⊎◌, ◌+◌, ◌<◌, ◌≤◌, ◌==◌, true, if◌then◌else◌, ℕ, List, [], ◌∷◌, ◌++◌, length, map, All, Result, Ok, Err, None, ⊤}
 use Rattle.std.specs.List.{AllByRecursion}
 use Rattle.fm_words.specs.{declared.shape.Shape.{Shape}, Places.{groups}}
 use Rattle.fm_base.specs.{declared.{caller.Caller.{Caller}, refusal.Refusal.{Refusal, TheVariants.{Memory, NoPass}}}, Calls.{Entry}, Histories.{made_by}}
@@ -18,9 +18,10 @@ abbrev pub DrewEach : List Find → List Caller → Type 0
 DrewEach finds [] = (f : Find) → In f finds → f.drew ≡ None
 DrewEach finds (c ∷ cs) = (run : List Find) × (behind : List Find) × (finds ≡ run ++ behind) × Drew c run × DrewEach behind cs
 
--- the caller isn't the pool's first, nor one that the pass has, and had made no entry
+-- the caller is of the pool, but neither its first nor one that the pass has, and had made no entry
 pub record IsFresh (p : View) (c : Caller) : Type 0 where
   pub number : c.number < p.shape.passes
+  pub term : c.term ≤ last_term
   pub later : c ≢ only_caller
   pub other : ¬ (HasCaller p c)
   pub silent : made_by c p.seen ≡ []
@@ -90,6 +91,11 @@ pub record FoundNoNumber (z : Shape) (draws : List Find) : Type 0 where
 abbrev pub how_many_last : List Gathered → ℕ
 how_many_last [] = 0
 how_many_last (g ∷ gs) = (if g.caller.term == last_term then 1 else 0) + how_many_last gs
+
+-- how many of them were of this number
+abbrev pub how_many_of : ℕ → List Gathered → ℕ
+how_many_of n [] = 0
+how_many_of n (g ∷ gs) = (if g.caller.number == n then 1 else 0) + how_many_of n gs
 
 -- for so many passes more a whole pass has too few numbers, or the draws can't be counted any more
 abbrev pub AreTooMany : View → (more : ℕ) → Type 0

@@ -3,9 +3,11 @@
 
 mod beside;
 mod crew;
+mod laws;
 mod work;
 mod worker;
 
 pub use beside::{Beside, work_crew_beside};
 pub use crew::work_crew;
+pub use laws::crews_come_again;
 pub use work::Work;

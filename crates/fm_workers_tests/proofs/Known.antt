@@ -12,6 +12,7 @@ lasts_then a b = record {
   given = λ id. le_trans (a.given id) (b.given id);
   known = λ id k. b.known id (a.known id k);
   ended = λ id e. b.ended id (a.ended id e);
+  no_words = λ id e none. b.no_words id (a.ended id e) (a.no_words id e none);
 }
 
 -- The pass that a draw answered is drawn.

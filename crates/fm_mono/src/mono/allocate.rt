@@ -1,20 +1,11 @@
 ghost use Rattle.std.specs.Prelude.{◌≡◌, ◌<◌, None, true, Err};
 ghost use Rattle.fm_base.specs.Arenas.{Alive, has_arena, arena_of};
 ghost use Rattle.fm_base.specs.Learnt.{CanVisit, AfterAllocate};
-ghost use Rattle.fm_base.specs.Machine.{rounded_up, IsPower};
+ghost use Rattle.fm_base.specs.Machine.{IsPower};
 ghost use Rattle.fm_mono.specs.Shown.{Allots, WantsWords, view_of, nature_of_mono};
 
 use super::Mono;
-use fm_base::{ArenaId, Refusal};
-
-/// The least multiple of `align` that is at least `given`.
-fn rounded(given: u64, align: u64) -> u128
-    requires { 0 < align }
-    ensures { result ≡ rounded_up given align }
-{
-    let align = u128::from(align);
-    (u128::from(given) + (align - 1)) / align * align
-}
+use fm_base::{ArenaId, Refusal, round_up};
 
 impl Mono {
     /// Gives `size` bytes at the next place that is a multiple of `align`, as `allocate` does. It waits for nobody.
@@ -48,7 +39,7 @@ impl Mono {
         let limit = self.limit;
         let arena = &mut self.arenas[id.slot as usize];
         let given = arena.given;
-        let place = rounded(given, align);
+        let place = round_up(given, align);
         let end = place + u128::from(size);
         if end > u128::from(limit) {
             return Err(Refusal::NoRoom(given));

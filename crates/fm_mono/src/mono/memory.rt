@@ -31,6 +31,10 @@ impl Memory for Mono {
         self.word(word)
     }
 
+    fn load_words(&mut self, first: u64, words: &mut [u64]) {
+        self.get_words(first, words);
+    }
+
     fn store(&mut self, word: u64, v: u64) {
         self.put(word, v);
     }

@@ -2,7 +2,7 @@ ghost use Rattle.std.specs.Prelude.{◌≡◌, ◌<◌, ◌≤◌, [], None, Som
 ghost use Rattle.fm_words.specs.Shapes.{IsValid};
 ghost use Rattle.fm_rule_facts.specs.Hands.{learnt, no_number, nothing};
 ghost use Rattle.fm_rule.specs.Passes.{IsOf};
-ghost use Rattle.fm_pages.specs.Claims.{PageClaimed, Went};
+ghost use Rattle.fm_pages.specs.Claims.{HasClaimed, PageClaimed, Went};
 
 use crate::tests::compared::same;
 use fm_base::{ArenaId, Kind, Refusal};
@@ -79,7 +79,8 @@ fn entered<R: Abort + AllocGlobal>(rt: &R, shape: Shape) -> (Pool, Pass, ArenaId
 fn claimed<R: Abort + Wait>(rt: &R, pool: &Pool, pass: &mut Pass, index: u32) -> Page
     requires of { IsOf pool.now pass.old }
     requires none { pass.old.pages ≡ [] }
-    ensures { PageClaimed pass.old pass.new result.index }
+    ensures claimed { PageClaimed pass.old pass.new result.index }
+    ensures page { HasClaimed pass.new result }
 {
     match claim(rt, pool, pass) {
         Ok(page) => {

@@ -86,8 +86,8 @@ fn check_words<R: Abort + AllocGlobal>(rt: &R, shape: Shape, words: u64, set: Se
 
 #[test]
 fn pools_begin_with_zeros_one_draw_and_bits(rt: HostRuntime) {
-    check_words(&rt, LEAST, 11, (1, 1, 9, 0));
-    check_words(&rt, LARGER, 51, (3, 15, 47, 0b110));
+    check_words(&rt, LEAST, 18, (1, 1, 16, 0));
+    check_words(&rt, LARGER, 72, (3, 15, 68, 0b110));
 }
 
 /// The first and the last word of number bits of a pool that is new.
@@ -119,13 +119,13 @@ fn every_number_but_the_first_is_free(rt: HostRuntime) {
 #[test]
 fn pools_of_the_greatest_shapes_can_be_had(rt: HostRuntime) {
     let numbers = u64::MAX - 1;
-    let greatest = (u64::MAX, u64::MAX, 17_043_651, numbers);
-    check_words(&rt, GREATEST, 17_047_811, greatest);
+    let greatest = (u64::MAX, u64::MAX, 17_072_323, numbers);
+    check_words(&rt, GREATEST, 17_076_483, greatest);
     check_words(
         &rt,
         WIDEST,
-        16_785_524,
-        (0xffff, 0xffff, 16_781_364, numbers),
+        16_814_196,
+        (0xffff, 0xffff, 16_810_036, numbers),
     );
 }
 
@@ -157,7 +157,7 @@ fn every_page_is_free(rt: HostRuntime) {
 fn a_page_is_taken_by_its_bit(rt: HostRuntime) {
     let (pool, mut pass) = Pool::make(rt.alloc(), LARGER).expect(&rt, "words");
     same(&rt, step_take_page(&pool, &mut pass, 0, 0b1111, 2), 0b1111);
-    same(&rt, word_at(&pool, 46), Some(0b1011));
+    same(&rt, word_at(&pool, 67), Some(0b1011));
 }
 
 #[test]
@@ -228,15 +228,28 @@ fn a_number_comes_back_with_its_next_term(rt: HostRuntime) {
 }
 
 #[test]
-fn numbers_that_are_drawn_first_are_eight_apart(rt: HostRuntime) {
+fn the_lowest_free_number_is_drawn(rt: HostRuntime) {
     let shape = Shape { passes: 136, ..TWO };
     let (pool, mut first) = Pool::make(rt.alloc(), shape).expect(&rt, "words");
-    for turn in 1..17u32 {
+    for number in 1..136u32 {
         let drawn = pool.draw(&rt, &mut first).expect(&rt, "a pass");
-        same(&rt, drawn.number(), 8 * turn);
+        same(&rt, drawn.number(), number);
     }
-    let drawn = pool.draw(&rt, &mut first).expect(&rt, "a pass");
-    same(&rt, drawn.number(), 1);
+    same(&rt, pool.draw(&rt, &mut first).is_err(), true);
+}
+
+#[test]
+fn a_number_that_comes_back_is_drawn_before_higher_ones(rt: HostRuntime) {
+    let shape = Shape { passes: 4, ..TWO };
+    let (pool, mut first) = Pool::make(rt.alloc(), shape).expect(&rt, "words");
+    let lower = pool.draw(&rt, &mut first).expect(&rt, "a pass");
+    let higher = pool.draw(&rt, &mut first).expect(&rt, "a pass");
+    same(&rt, (lower.number(), higher.number()), (1, 2));
+    pool.gather(&mut first, lower);
+    let again = pool.draw(&rt, &mut first).expect(&rt, "a pass");
+    same(&rt, (again.number(), again.term()), (1, 1));
+    let next = pool.draw(&rt, &mut first).expect(&rt, "a pass");
+    same(&rt, (next.number(), next.term()), (3, 0));
 }
 
 #[test]

@@ -159,57 +159,57 @@ fn the_least_shape_has_one_of_each(rt: HostRuntime) {
     same(&rt, LEAST.draw_place(), 1);
     same(&rt, LEAST.slot_bits_place(), 2);
     same(&rt, LEAST.mark_place(0), 3);
-    same(&rt, LEAST.session_place(0), 4);
-    same(&rt, LEAST.given_place(0), 5);
-    same(&rt, LEAST.map_place(0, 0), 6);
-    same(&rt, LEAST.page_place(0, 0), 7);
-    same(&rt, LEAST.page_bits_place(0), 8);
+    same(&rt, LEAST.session_place(0), 11);
+    same(&rt, LEAST.given_place(0), 12);
+    same(&rt, LEAST.map_place(0, 0), 13);
+    same(&rt, LEAST.page_place(0, 0), 14);
+    same(&rt, LEAST.page_bits_place(0), 15);
     same(&rt, LEAST.groups(), 1);
-    same(&rt, LEAST.number_bits_place(0), 9);
-    same(&rt, LEAST.term_place(0), 10);
-    same(&rt, LEAST.words(), 11);
+    same(&rt, LEAST.number_bits_place(0), 16);
+    same(&rt, LEAST.term_place(0), 17);
+    same(&rt, LEAST.words(), 18);
 }
 
 #[test]
 fn the_greatest_shape_has_128_mebibytes(rt: HostRuntime) {
     same(&rt, GREATEST.is_valid(), true);
-    same(&rt, GREATEST.mark_place(4_095), 4_098);
-    same(&rt, GREATEST.session_place(0), 4_099);
-    same(&rt, GREATEST.session_place(63), 4_162);
-    same(&rt, GREATEST.given_place(0), 4_163);
-    same(&rt, GREATEST.given_place(63), 4_226);
-    same(&rt, GREATEST.map_place(0, 0), 4_227);
-    same(&rt, GREATEST.map_place(63, 4_095), 266_370);
-    same(&rt, GREATEST.page_place(0, 0), 266_371);
-    same(&rt, GREATEST.page_place(4_095, 4_095), 17_043_586);
+    same(&rt, GREATEST.mark_place(4_095), 32_763);
+    same(&rt, GREATEST.session_place(0), 32_771);
+    same(&rt, GREATEST.session_place(63), 32_834);
+    same(&rt, GREATEST.given_place(0), 32_835);
+    same(&rt, GREATEST.given_place(63), 32_898);
+    same(&rt, GREATEST.map_place(0, 0), 32_899);
+    same(&rt, GREATEST.map_place(63, 4_095), 295_042);
+    same(&rt, GREATEST.page_place(0, 0), 295_043);
+    same(&rt, GREATEST.page_place(4_095, 4_095), 17_072_258);
     same(&rt, GREATEST.page_groups(), 64);
-    same(&rt, GREATEST.page_bits_place(0), 17_043_587);
-    same(&rt, GREATEST.page_bits_place(63), 17_043_650);
+    same(&rt, GREATEST.page_bits_place(0), 17_072_259);
+    same(&rt, GREATEST.page_bits_place(63), 17_072_322);
     same(&rt, GREATEST.groups(), 64);
-    same(&rt, GREATEST.number_bits_place(0), 17_043_651);
-    same(&rt, GREATEST.number_bits_place(63), 17_043_714);
-    same(&rt, GREATEST.term_place(0), 17_043_715);
-    same(&rt, GREATEST.term_place(4_095), 17_047_810);
-    same(&rt, GREATEST.words(), 17_047_811);
+    same(&rt, GREATEST.number_bits_place(0), 17_072_323);
+    same(&rt, GREATEST.number_bits_place(63), 17_072_386);
+    same(&rt, GREATEST.term_place(0), 17_072_387);
+    same(&rt, GREATEST.term_place(4_095), 17_076_482);
+    same(&rt, GREATEST.words(), 17_076_483);
 }
 
 #[test]
 fn words_of_each_kind_lie_one_after_another(rt: HostRuntime) {
     every_word_has_one_place();
     same(&rt, SMALL.is_valid(), true);
-    same(&rt, SMALL.mark_place(2), 5);
-    same(&rt, SMALL.session_place(1), 7);
-    same(&rt, SMALL.given_place(1), 9);
-    same(&rt, SMALL.map_place(0, 3), 13);
-    same(&rt, SMALL.map_place(1, 0), 14);
-    same(&rt, SMALL.map_place(1, 3), 17);
-    same(&rt, SMALL.page_place(0, 15), 33);
-    same(&rt, SMALL.page_place(1, 0), 34);
-    same(&rt, SMALL.page_place(7, 15), 145);
-    same(&rt, SMALL.page_bits_place(0), 146);
-    same(&rt, SMALL.number_bits_place(0), 147);
-    same(&rt, SMALL.term_place(2), 150);
-    same(&rt, SMALL.words(), 151);
+    same(&rt, SMALL.mark_place(2), 19);
+    same(&rt, SMALL.session_place(1), 28);
+    same(&rt, SMALL.given_place(1), 30);
+    same(&rt, SMALL.map_place(0, 3), 34);
+    same(&rt, SMALL.map_place(1, 0), 35);
+    same(&rt, SMALL.map_place(1, 3), 38);
+    same(&rt, SMALL.page_place(0, 15), 54);
+    same(&rt, SMALL.page_place(1, 0), 55);
+    same(&rt, SMALL.page_place(7, 15), 166);
+    same(&rt, SMALL.page_bits_place(0), 167);
+    same(&rt, SMALL.number_bits_place(0), 168);
+    same(&rt, SMALL.term_place(2), 171);
+    same(&rt, SMALL.words(), 172);
 }
 
 #[test]

@@ -7,4 +7,4 @@ returns-in-None g c = after_kept c.in-None.ensures
 
 pub returns-in-Some : goal.returns-in-Some
 returns-in-Some g c =
-    after_ended c.requires.handle.automatic c.in-Some.ensures (finished _ refl c.in-Some.ensures.outside.no_slot c.walk.ensures c.sweep.ensures)
+    after_ended c.requires.handle.automatic c.in-Some.ensures (finished _ refl c.walk.ensures c.sweep.ensures)

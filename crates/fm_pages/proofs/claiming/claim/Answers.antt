@@ -1,4 +1,4 @@
-use Rattle.fm_pages.proofs.{Bids.{bids_begin, bids_go_on, bid_claimed}, Looking.{bid_none}}
+use Rattle.fm_pages.proofs.{Bids.{bids_begin, bids_go_on, bid_claimed, page_claimed}, Looking.{bid_none}}
 use Rattle.fm_pages.proofs.claiming.claim.Goals as goal
 
 pub loop-init : goal.loop-init
@@ -17,7 +17,7 @@ pub finds_none-requires-clause-none : goal.finds_none-requires-clause-none
 finds_none-requires-clause-none g c = c.loop.invariant.none
 
 pub returns-then-try_page : goal.returns-then-try_page
-returns-then-try_page g c = bid_claimed c.loop.invariant _ c.if-try_page.ensures
+returns-then-try_page g c = page_claimed (bid_claimed c.loop.invariant _ c.if-try_page.ensures) c.of.ensures.same c.of.ensures.maker
 
 pub loop-preserved-else-try_page : goal.loop-preserved-else-try_page
 loop-preserved-else-try_page g c = bids_go_on c.loop.invariant c.if-try_page.ensures

@@ -19,5 +19,6 @@ pub returns-else-not-covered : goal.returns-else-not-covered
 returns-else-not-covered g c =
     let r = room_some c.limit.result c.args.count c.args.size c.args.align c.in-Some.place (sym c.in-Some.is ∙ c.room.ensures) in
     tried_covered c.args.id c.args.count c.args.size c.args.align c.step_allocate-found-in-Some.result c.requires.inside
+    (subst (λ (n : ℕ). rounded_up c.args.count c.args.align + c.args.size ≤ n) (c.limit.ensures ∙ ap limit_of (sym c.requires.of.1)) r.1)
     (subst (λ (n : ℕ). Covered c.args.pass.now c.cover-covered.new.pass c.args.id c.args.count (n + c.args.size) true) r.0 c.if-not-covered.ensures)
     c.step_allocate-found-in-Some.ensures.stepped c.step_allocate-found-in-Some.ensures.count

@@ -10,8 +10,8 @@ returns-in-Err g c = none_free c.args.id c.args.part c.step_read_map-word.result
 
 pub returns-in-Some : goal.returns-in-Some
 returns-in-Some g c = race_lost c.args.id c.args.part c.step_read_map-word.result c.in-Ok.page.index c.requires.none
-    c.step_read_map-word.ensures.stepped c.in-Ok.ensures c.in-Some.ensures.1 c.free_page.ensures
+    c.step_read_map-word.ensures.stepped c.in-Ok.ensures.0 c.in-Some.ensures.2 c.free_page.ensures
 
 pub returns-in_default : goal.returns-in_default
 returns-in_default g c = provided c.args.id c.args.part c.step_read_map-word.result c.in-Ok.page.index c.requires.none
-    c.step_read_map-word.ensures.stepped c.in-Ok.ensures c.in_default.ensures
+    c.step_read_map-word.ensures.stepped c.in-Ok.ensures.0 c.in_default.ensures

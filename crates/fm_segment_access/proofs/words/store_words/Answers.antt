@@ -1,12 +1,12 @@
 use Rattle.std.proofs.{Common.{arith, sym, subst, drop, ◌*◌}, lemmas.List.{length-take}}
-use Rattle.fm_base.{specs.Learnt.{AfterStores}, proofs.Storing.{stores_none, stores_reach, stores_more}}
+use Rattle.fm_base.{specs.Learnt.{AfterStores}, proofs.Rows.{acts_none, acts_reach, acts_more, writes_in_a_row}}
 use Rattle.fm_base_bytes.{specs.Words.{words_from}, proofs.Words.{length-words_from, words_from-append}}
 use Rattle.fm_segment_access.proofs.Reading.{words_read}
 use Rattle.fm_segment_access.proofs.words.store_words.Goals as goal
 
 pub loop-k-init : goal.loop-k-init
 unfolding words_from
-loop-k-init g c = (stores_none c.args.first c.args.count c.requires.sound c.requires.reach, omega arith)
+loop-k-init g c = (acts_none writes_in_a_row c.args.first c.args.count c.requires.sound c.requires.reach, omega arith)
 
 pub store_words-requires : goal.store_words-requires
 store_words-requires g c =
@@ -17,7 +17,7 @@ store_words-requires g c =
     (let d = c.read_u64_into.auto.dst in omega (arith, length-take n c.loop-k.words))
     (let whole = c.requires.whole in omega arith) c.read_u64_into.ensures in
     rw (read, length-words_from n (drop (8 * k) c.args.bytes.now))
-    (stores_reach c.loop-k.invariant.0 k (length-words_from k c.args.bytes.now) c.args.count n c.requires.reach (omega arith))
+    (acts_reach c.loop-k.invariant.0 k (length-words_from k c.args.bytes.now) c.args.count n c.requires.reach (omega arith))
 
 pub loop-k-preserved : goal.loop-k-preserved
 loop-k-preserved g c =
@@ -29,7 +29,7 @@ loop-k-preserved g c =
     (let d = c.read_u64_into.auto.dst in omega (arith, length-take n c.loop-k.words))
     (let whole = c.requires.whole in omega arith) c.read_u64_into.ensures in (
       subst (λ ws. AfterStores (v c.args.m.now) (v c.store_words.new.self) c.args.first ws) (sym (words_from-append c.loop-k.k n bytes))
-          (stores_more c.loop-k.invariant.0 c.loop-k.k (length-words_from c.loop-k.k bytes) (words_from n (drop (8 * c.loop-k.k) bytes))
+          (acts_more c.loop-k.invariant.0 c.loop-k.k (length-words_from c.loop-k.k bytes) writes_in_a_row (words_from n (drop (8 * c.loop-k.k) bytes))
           (rw read at c.store_words.ensures)),
       omega arith,
     )

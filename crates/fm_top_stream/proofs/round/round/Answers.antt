@@ -1,12 +1,20 @@
-use Rattle.std.proofs.Common.{Option, Some, length, ap, sym, ◌∙◌, subst}
+use Rattle.std.proofs.{Common.{◌≡◌, ◌++◌, Option, Some, length, take, drop, ap, sym, ◌∙◌, subst}, lemmas.List.{take_at}}
 use Rattle.fm_io.{specs.Files.{Contents}, proofs.Left.{leaves_then}}
 use Rattle.fm_top_load.{specs.{declared.load_fault.LoadFault.{LoadFault}, Whole.{TellsLoad}}, proofs.Telling.{read_quietly, tells_memory, tells_then}}
-use Rattle.fm_top_stream.{specs.Steps.{AnswersOn}, proofs.{Chunking.{further_some, further_then}, GoesOn.{goes_by, goes_on, next_joins}}}
+use Rattle.fm_top_stream.{specs.Steps.{AnswersOn}, proofs.{Chunking.{further_some, further_then}, GoesOn.{can_answer, goes_by, goes_on, next_joins}}}
 use Rattle.fm_top_stream.proofs.round.round.Goals as goal
 
 pub returns-in-Err-answered-clause-reads : goal.returns-in-Err-answered-clause-reads
 returns-in-Err-answered-clause-reads g c =
     further_some c.args.part.now.limit (further_then c.args.part.now.limit c.in-Ok.ensures.reads c.in-Err-answered.ensures.reads)
+
+pub answered-requires-after_bounds : goal.answered-requires-after_bounds
+answered-requires-after_bounds g c κs within =
+    let was = c.args.going.buffer in
+    let now = c.next_piece.new.buffer in
+    let len : length now ≡ was.len = c.in-Ok.ensures.buffer ∙ sym (ap length c.deref_mut.ensures.value ∙ c.requires.read.room) ∙ c.deref_mut.ensures.len in
+    let back : take was.len (now ++ drop (length now) was.items) ≡ now = take_at now (drop (length now) was.items) was.len len in
+    can_answer c.requires c.of-s.ensures (read_quietly c.in-Ok.ensures.tells).held back c.in-Ok.ensures.buffer c.in-Ok.ensures.took
 
 pub joined-requires : goal.joined-requires
 joined-requires g c =

@@ -14,6 +14,6 @@ load_words-requires g c =
 
 pub returns-clause-got : goal.returns-clause-got
 returns-clause-got g c =
-    words_got c.requires.inside c.args.offset c.load_words.new.into
-    (ap (λ n. place_of_words c.args.offset n c.args.s.now) c.load_words.ensures.size ∙ sym c.place_of.ensures.place ∙ c.in_ok-place.was)
-    c.load_words.ensures.loads
+    words_got c.requires.inside c.args.offset c.load_words.new.words
+    (ap (λ n. place_of_words c.args.offset n c.args.s.now) c.load_words.auto.words ∙ sym c.place_of.ensures.place ∙ c.in_ok-place.was)
+    c.load_words.ensures

@@ -5,4 +5,4 @@ returns-clause-walks c = c.a_close_lasts.ensures.stands _ _ _ _ c.is_alive.ensur
 
 pub returns-clause-sweep : goal.returns-clause-sweep
 returns-clause-sweep c =
-    c.a_close_lasts.ensures.ended _ _ _ _ c.is_alive.ensures.did.goes c.is_alive.ensures.did.rest c.requires.outside.no_slot c.is_alive.ensures.outside.no_slot
+    c.a_close_lasts.ensures.ended _ _ _ _ c.is_alive.ensures.did.goes c.is_alive.ensures.did.rest

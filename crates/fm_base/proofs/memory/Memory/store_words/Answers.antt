@@ -1,9 +1,9 @@
 use Rattle.std.proofs.{Common.{arith, sym, subst, length}, lemmas.List.{length-take-le, take_all, take_more}}
-use Rattle.fm_base.{specs.Learnt.{AfterStores}, proofs.Storing.{stores_none, stores_one, store_reaches, stores_more}}
+use Rattle.fm_base.{specs.Learnt.{AfterStores}, proofs.Rows.{writes_in_a_row, acts_none, stores_one, act_reaches, acts_more}}
 use Rattle.fm_base.proofs.memory.Memory.store_words.Goals as goal
 
 pub loop-k-init : goal.loop-k-init
-loop-k-init g c = stores_none c.args.first (length c.args.words.now) c.caller.ensures.sound c.requires
+loop-k-init g c = acts_none writes_in_a_row c.args.first (length c.args.words.now) c.caller.ensures.sound c.requires
 
 pub overflow_add-first : goal.overflow_add-first
 overflow_add-first g c = let below = c.loop-k-test.true in let small = c.requires.small in omega arith
@@ -12,7 +12,7 @@ pub store-requires : goal.store-requires
 store-requires g c =
     let words = c.args.words.now in
     let below = c.loop-k-test.true in
-    store_reaches c.loop-k.invariant c.loop-k.k (length-take-le c.loop-k.k words (omega arith)) (length words) c.requires below
+    act_reaches c.loop-k.invariant c.loop-k.k (length-take-le c.loop-k.k words (omega arith)) (length words) c.requires below
 
 pub loop-k-preserved : goal.loop-k-preserved
 loop-k-preserved g c =
@@ -20,7 +20,7 @@ loop-k-preserved g c =
     let words = c.args.words.now in
     let below = c.loop-k-test.true in
     subst (λ ws. AfterStores (v c.args.self.now) (v c.store.new.self) c.args.first ws) (sym (take_more words c.loop-k.k 0 below))
-    (stores_more c.loop-k.invariant c.loop-k.k (length-take-le c.loop-k.k words (omega arith)) _ (stores_one _ _ c.store.ensures))
+    (acts_more c.loop-k.invariant c.loop-k.k (length-take-le c.loop-k.k words (omega arith)) writes_in_a_row _ (stores_one _ _ c.store.ensures))
 
 pub returns : goal.returns
 returns g c =

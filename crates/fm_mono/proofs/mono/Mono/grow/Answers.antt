@@ -13,7 +13,7 @@ here c =
 -- the arenas once the words are resized
 allotted : (c : In_ok-resize)
     → let f = c.self.inside in
-    let end : ℕ = c.rounded-place.result + c.from.result in
+    let end : ℕ = c.round_up-place.result + c.from.result in
     let arenas = set f.arenas.items c.args.id.slot (record c.index_mut-arena.result.now { words = c.resize.new.self; given = end }) in
     (shown_all f.limit (entered_of f) arenas ≡ changed (shown_all f.limit (entered_of f) f.arenas.items) c.args.id (given_up_to end))
     × IsSoundMono f.limit (entered_of f) arenas
@@ -22,11 +22,11 @@ allotted c =
     let h =
     read_for c.self.inside c.self.invariant c.self.view_is c.requires.known c.index_mut-arena.result.now c.index_mut-arena.ensures.value c.requires.alive in
     let o = c.index_mut-arena.result.now in
-    let end = c.rounded-place.result + c.from.result in
+    let end = c.round_up-place.result + c.from.result in
     let fits : end ≤ f.limit = omega (arith, c.if-end-from.false, c.from-2.ensures) in
     let r = rw (← c.self.view_is) at c.requires in
     let more : length o.words.items ≤ words_within end =
-    rw (c.rounded-place.ensures, c.from.ensures)
+    rw (c.round_up-place.ensures, c.from.ensures)
     (grows f.limit (entered_of f) f.arenas.items c.args.id o c.self.invariant.arenas h c.args.size c.args.align (power_pos c.args.align r.power)) in
     let len : vec_len o.words ≡ length o.words.items = omega (arith, o.words.ok.0) in
     let grown = is_grown o.words.items c.resize.new.self.items (words_within end) more (c.in_ok-resize.ensures.items
@@ -46,7 +46,7 @@ returns-then-end-from-clause-got c =
     let h = here (goal.at.returns-then-end-from-clause-got c).After-index_mut-arena in
     let o = c.index_mut-arena.result.now in
     let past : f.limit < rounded_up o.given c.args.align + c.args.size =
-    omega (arith, c.if-end-from.true, c.from-2.ensures, c.from.ensures, c.rounded-place.ensures) in
+    omega (arith, c.if-end-from.true, c.from-2.ensures, c.from.ensures, c.round_up-place.ensures) in
     let u = unchanged f.limit (entered_of f) f.arenas.items c.args.id o c.self.invariant.arenas h in
     rw (← c.self.view_is, inside_of-set f.is_inside f.current c.args.id.slot f.arenas.items o o h.place refl) (
       no_room f.limit (entered_of f) f.arenas.items c.args.id o c.self.invariant.arenas h c.args.size c.args.align past,
@@ -86,7 +86,7 @@ invariant_of-self-2 c =
     let h = here (goal.at.invariant_of-self-2 c).After-index_mut-arena in
     let o = c.index_mut-arena.result.now in
     rw (inside_of-set f.is_inside f.current c.args.id.slot f.arenas.items o
-    (record o { words = c.resize.new.self; given = c.rounded-place.result + c.from.result }) h.place refl) (record {
+    (record o { words = c.resize.new.self; given = c.round_up-place.result + c.from.result }) h.place refl) (record {
       arenas = (allotted (goal.at.invariant_of-self-2 c).In_ok-resize).1;
       place = c.self.invariant.place;
     })
@@ -96,17 +96,17 @@ returns-clause-got c =
     let f = c.self.inside in
     let h = here (goal.at.returns-clause-got c).After-index_mut-arena in
     let o = c.index_mut-arena.result.now in
-    let end = c.rounded-place.result + c.from.result in
+    let end = c.round_up-place.result + c.from.result in
     let e = allotted (goal.at.returns-clause-got c).In_ok-resize in
     let room : rounded_up o.given c.args.align + c.args.size ≤ f.limit =
-    omega (arith, c.if-end-from.false, c.from-2.ensures, c.from.ensures, c.rounded-place.ensures) in
-    let same : end ≡ c.rounded-place.result + c.args.size = omega (arith, c.from.ensures) in
+    omega (arith, c.if-end-from.false, c.from-2.ensures, c.from.ensures, c.round_up-place.ensures) in
+    let same : end ≡ c.round_up-place.result + c.args.size = omega (arith, c.from.ensures) in
     rw (
       ← c.self.view_is,
       inside_of-set f.is_inside f.current c.args.id.slot f.arenas.items o (record o { words = c.resize.new.self; given = end })
           h.place refl,
     ) (
-      ap Given c.rounded-place.ensures ∙ gives_place f.limit (entered_of f) f.arenas.items c.args.id o c.self.invariant.arenas h c.args.size c.args.align room,
+      ap Given c.round_up-place.ensures ∙ gives_place f.limit (entered_of f) f.arenas.items c.args.id o c.self.invariant.arenas h c.args.size c.args.align room,
       ap (λ (s : State). record { limit = f.limit; state = s; inside = entered_of f }) (e.0
           ∙ ap (λ k. changed (shown_all f.limit (entered_of f) f.arenas.items) c.args.id (given_up_to k)) same),
     )
@@ -118,8 +118,8 @@ returns-in_err-resize-clause-wants c = λ memory.
     let o = c.index_mut-arena.result.now in
     let most : length o.words.items ≤ vec_capacity o.words = omega (arith, o.words.ok.0, o.words.ok.1) in
     let more : vec_capacity o.words < words_within (rounded_up o.given c.args.align + c.args.size) =
-    omega (arith, c.in_err-resize.ensures.full, c.from.ensures, c.rounded-place.ensures) in
+    omega (arith, c.in_err-resize.ensures.full, c.from.ensures, c.round_up-place.ensures) in
     let room : rounded_up o.given c.args.align + c.args.size ≤ f.limit =
-    omega (arith, c.if-end-from.false, c.from-2.ensures, c.from.ensures, c.rounded-place.ensures) in
+    omega (arith, c.if-end-from.false, c.from-2.ensures, c.from.ensures, c.round_up-place.ensures) in
     rw (← c.self.view_is) (wants_words f.limit (entered_of f) f.arenas.items c.args.id o c.self.invariant.arenas h c.args.size c.args.align
     (vec_capacity o.words) most more room)

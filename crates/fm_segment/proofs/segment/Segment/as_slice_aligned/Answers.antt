@@ -1,5 +1,5 @@
 use Rattle.std.proofs.Common.{sym, ◌∙◌}
-use Rattle.fm_layout.proofs.Powers.{IsPowerOfTwo-from_test}
+use Rattle.fm_base_bytes.proofs.Powers.{IsPowerOfTwo-from_test}
 use Rattle.fm_segment.proofs.segment.Segment.as_slice_aligned.Goals as goal
 
 pub is_aligned-requires : goal.is_aligned-requires

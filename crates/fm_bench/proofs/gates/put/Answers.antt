@@ -1,0 +1,10 @@
+use Rattle.std.proofs.Common.{◌∙◌}
+use Rattle.fm_bench.proofs.Lasting.{lasts_then, pages_kept}
+use Rattle.fm_bench.proofs.gates.put.Goals as goal
+
+pub returns : goal.returns
+returns c = record {
+  outside = c.leave.ensures.outside;
+  pages = pages_kept c.leave.ensures.did ∙ (pages_kept c.store.ensures.did ∙ pages_kept c.enter.ensures.did);
+  lasts = lasts_then (lasts_then c.enter.ensures.lasts c.store.ensures.lasts) c.leave.ensures.lasts;
+}
