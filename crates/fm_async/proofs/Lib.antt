@@ -1,0 +1,3 @@
+mod Visits
+mod Closers
+mod Ends

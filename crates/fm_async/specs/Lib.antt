@@ -1,0 +1,5 @@
+pub mod Visits
+pub mod Closers
+pub mod Starts
+pub mod Borrows
+pub mod Ends
