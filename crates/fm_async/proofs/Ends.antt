@@ -1,14 +1,16 @@
 -- A close that is polled while its pass is borrowed, and its end.
 use Rattle.std.proofs.Common.{◌≡◌, Bool, true, false, refl, sym, ◌∙◌, subst, Option, Some, None}
 use Rattle.std.specs.Prelude.{IfSome, Ok}
-use Rattle.fm_base.specs.{declared.{arena_id.ArenaId.{ArenaId}}}
+use Rattle.fm_base.specs.declared.arena_id.ArenaId.{ArenaId}
 use Rattle.fm_rule_facts.specs.{Views.{View, IsSound}, Closes.{dropped}}
 use Rattle.fm_rule.specs.declared.pool.Pool.{Pool}
 use Rattle.fm_rule_calls.{specs.Kept.{Goes, rest_of}, proofs.Going.{goes_none}}
-use Rattle.fm_close.specs.{declared.{shutting.Shutting.{Shutting}, outcome.Visit.{Visit}}, Learnt.{AfterShut, AfterVisit, AfterSweep, AfterClose, CanWalk, Walked}}
+use Rattle.fm_close.specs.declared.{shutting.Shutting.{Shutting}, outcome.Visit.{Visit}}
+use Rattle.fm_close.specs.Learnt.{AfterShut, AfterVisit, AfterSweep, AfterClose, CanWalk, Walked}
 use Rattle.fm_close.proofs.Walks.{finished, after_walk}
 use Rattle.fm_close.specs.CloseLaws.{StandsBy}
-use Rattle.fm_async.specs.{Closers.{IsClosing}, Ends.{Ends, VisitedAll}, Borrows.{BorrowView, Comes, HasCome}, Visits.{entries_by, ClosesBy, sweeps_by, Visited}}
+use Rattle.fm_async.specs.{Closers.{IsClosing}, Ends.{Ends, VisitedAll}, Borrows.{BorrowView, Comes, HasCome}}
+use Rattle.fm_async.specs.Visits.{entries_by, ClosesBy, sweeps_by, Visited}
 use Rattle.fm_async.proofs.{Closers.{can_walk, stepped_closing, visited_closing}, Visits.{visited_once, visited_then}}
 
 -- No visit.

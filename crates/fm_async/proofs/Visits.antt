@@ -1,5 +1,6 @@
 -- Visits put together.
-use Rattle.std.proofs.Common.{◌≡◌, ℕ, ◌+◌, ◌<◌, ◌≤◌, Bool, true, false, List, [], ◌∷◌, ◌++◌, length, refl, ap, sym, ◌∙◌, subst, Option, Some, None, arith, append_assoc, le_trans}
+use Rattle.std.proofs.Common.{◌≡◌, ℕ, ◌+◌, ◌<◌, ◌≤◌, Bool, true, false, List, [], ◌∷◌, ◌++◌, length, Option, Some, None}
+use Rattle.std.proofs.Common.{refl, ap, sym, ◌∙◌, subst, arith, append_assoc, le_trans}
 use Rattle.std.proofs.lemmas.{Bool.{eqb-true}, List.{length-append, append-nil}}
 use Rattle.fm_base.specs.{declared.{caller.Caller.{Caller}, arena_id.ArenaId.{ArenaId}}, Finds.{Close, Sweep, Rest, Visits}}
 use Rattle.fm_rule_facts.specs.{Views.{View}, Closes.{advanced, dropped}, Words.{mark_of}}
@@ -11,7 +12,7 @@ use Rattle.fm_close.specs.Learnt.{CanWalk, AfterVisit}
 use Rattle.fm_close.{specs.CloseLaws.{StandsBy}, proofs.Closes.{dropped-advanced}}
 use Rattle.fm_async.specs.Visits.{entries_by, ClosesBy, sweeps_by, Visited, StopsBy, Advanced}
 
--- ---- visits of a close that stood so
+-- ---- one visit
 
 -- Visits are of a close that stands so, whether its arena has ended or not.
 visited_as : {pool : Pool} {p q : View} {s t : Shutting} (b : Bool) → t.ended ≡ b → Goes p q (entries_by b p.caller s.arena)
@@ -52,7 +53,8 @@ visited_once {p = p} {q = q} {s = s} Ended can a =
 -- ---- visits behind visits
 
 -- What is dropped at the end of some visits and more is what is dropped at the end of the last.
-closes_then : (p q r : View) (b : Bool) (a : ArenaId) → dropped a q.closes ≡ dropped a p.closes → ClosesBy b a q.closes r.closes → ClosesBy b a p.closes r.closes
+closes_then : (p q r : View) (b : Bool) (a : ArenaId) → dropped a q.closes ≡ dropped a p.closes → ClosesBy b a q.closes r.closes
+    → ClosesBy b a p.closes r.closes
 closes_then p q r true a e c = c ∙ e
 closes_then p q r false a e c = c ∙ e
 
@@ -131,7 +133,8 @@ more_finds : {A : Type 0} (xs ys zs more : List A) (x y : A) → ys ≡ xs ++ x 
 more_finds xs ys zs more x y e f = f ∙ ap (λ ws. ws ++ y ∷ []) (ap (λ ws. ws ++ more) e ∙ append_assoc xs (x ∷ []) more)
 
 -- What stops the visits behind one stops them from the one.
-stops_then : {pool : Pool} {p q : View} {s t : Shutting} (r : View) (u : Shutting) (b : Option ℕ) → AfterVisit pool p q s t Next → StopsBy q r u b → StopsBy p r u b
+stops_then : {pool : Pool} {p q : View} {s t : Shutting} (r : View) (u : Shutting) (b : Option ℕ) → AfterVisit pool p q s t Next → StopsBy q r u b
+    → StopsBy p r u b
 stops_then r u None a w = w
 stops_then {p = p} {q = q} r u (Some k) a w = (
   w.0,

@@ -80,6 +80,13 @@ impl<'p> Closer<'p> {
         self.close.arena()
     }
 
+    /// The pool, to go on with the pass in it.
+    pub fn pool(&self) -> &'p Pool
+        ensures { result.now ≡ self.now.pool }
+    {
+        self.pool
+    }
+
     /// Gives back the pages and the slot of the arena, which has ended, and answers the pass.
     pub fn sweep(self) -> Pass
         requires { self.shutting.ended ≡ true }
