@@ -1,5 +1,6 @@
 pub mod Outside
 pub mod Acts
+pub mod Placed
 pub mod Enters
 pub mod Bids
 pub mod Opens

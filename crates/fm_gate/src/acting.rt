@@ -1,4 +1,6 @@
+ghost use Rattle.std.specs.Prelude.{◌^◌, ◌<◌, ℕ};
 ghost use Rattle.fm_base.specs.Calls as machine;
+ghost use Rattle.fm_rule_facts.specs.Steps.{HasPlace};
 ghost use Rattle.fm_gate.specs.Needs.{CanReach};
 ghost use Rattle.fm_gate.specs.Learnt.{AfterAct};
 
@@ -12,6 +14,29 @@ pub fn load(pool: &Pool, pass: &mut Pass, word: u64) -> u64
     ensures { AfterAct pool.now pass.old pass.new (λ id. machine.Read id word) (machine.Found result) }
 {
     let place = reach(pool, pass, word);
+    step_load(pool, pass, word, place)
+}
+
+/// The word of this index of the arena that the pass is inside, and its place, where it stands while the pass is inside.
+#[inline(always)]
+pub fn load_placed(pool: &Pool, pass: &mut Pass, word: u64) -> (u64, u64)
+    requires { CanReach pool.now pass.old word }
+    ensures acted { AfterAct pool.now pass.old pass.new (λ id. machine.Read id word) (machine.Found result.0) }
+    ensures place { HasPlace pass.new word result.1 }
+    ensures small { result.1 < 2 ^ 32 }
+{
+    let place = reach(pool, pass, word);
+    (step_load(pool, pass, word, place), place)
+}
+
+/// The word of this index of the arena that the pass is inside, at a place that is known to be its own.
+#[inline(always)]
+pub fn load_at(pool: &Pool, pass: &mut Pass, word: u64, place: u64) -> u64
+    requires reach { CanReach pool.now pass.old word }
+    requires place { HasPlace pass.old word place }
+    ensures acted { AfterAct pool.now pass.old pass.new (λ id. machine.Read id word) (machine.Found result) }
+    ensures stand { (w : ℕ) → (at : ℕ) → HasPlace pass.old w at → HasPlace pass.new w at }
+{
     step_load(pool, pass, word, place)
 }
 

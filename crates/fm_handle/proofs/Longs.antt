@@ -17,7 +17,7 @@ use Rattle.fm_handle.proofs.{Places.{LongAt, kind_fits}, Updating.{VisitOf, visi
 -- ---- longs and their words
 
 -- The two's complement of the long that a word means.
-long_code : (o : Order) (x : ℤ) (word : ℕ) → Long x ≡ value_in kind.Long o 0 word → unsigned_of 8 x ≡ turned 8 (lane word 0 8) o
+pub long_code : (o : Order) (x : ℤ) (word : ℕ) → Long x ≡ value_in kind.Long o 0 word → unsigned_of 8 x ≡ turned 8 (lane word 0 8) o
 long_code o x word means =
     let n = turned 8 (lane word 0 8) o in
     let below : turned 8 (lane word 0 8) o < 2 ^ 64 = turned-lt_width 8 (lane word 0 8) o (lane-lt word 0 8) in
@@ -26,7 +26,7 @@ long_code o x word means =
     ap encoded (means ∙ sym (value_of-lane kind.Long o word 0 (omega arith))) ∙ unsigned_of-signed_of 8 (n % 2 ^ 64) small ∙ keeps
 
 -- A word means a long whose word it is.
-word_again : (o : Order) (x : ℤ) (word : ℕ) → word < 2 ^ 64 → Long x ≡ value_in kind.Long o 0 word → word_of o x ≡ word
+pub word_again : (o : Order) (x : ℤ) (word : ℕ) → word < 2 ^ 64 → Long x ≡ value_in kind.Long o 0 word → word_of o x ≡ word
 word_again o x word small means =
     let code = long_code o x word means in
     let fits : encoded (Long x) < 2 ^ 64 = rw code (turned-lt_width 8 (lane word 0 8) o (lane-lt word 0 8)) in
@@ -36,7 +36,7 @@ word_again o x word small means =
     ∙ lane-whole word 8 small
 
 -- A sum of words is the word of the sum.
-sum_number : (x delta : ℤ) (word : ℕ) → Long x ≡ value_in kind.Long Little 0 word
+pub sum_number : (x delta : ℤ) (word : ℕ) → Long x ≡ value_in kind.Long Little 0 word
     → (word + word_of Little delta) % 2 ^ 64 ≡ number_of (bytes_of_value Little (sum_of (Long x) (Long delta)))
 sum_number x delta word means =
     let m = (cast_unsigned w64 x + cast_unsigned w64 delta) % 2 ^ 64 in
@@ -52,7 +52,7 @@ sum_number x delta word means =
 -- ---- one act on a whole word
 
 -- A word that was put puts its bytes.
-put_by : {s t : State} {c : Caller} {id : ArenaId} (place word : ℕ) → IsUnderWay s c id → place / 8 < length (arena_of s id).words → place % 8 + 8 ≤ 8
+pub put_by : {s t : State} {c : Caller} {id : ArenaId} (place word : ℕ) → IsUnderWay s c id → place / 8 < length (arena_of s id).words → place % 8 + 8 ≤ 8
     → t ≡ changed s id (written (place / 8) word) → ActsPut s t c id place 8 word
 put_by {s} {t} {c} {id} place word way within fits after = record {
   word = word;

@@ -128,12 +128,12 @@ tried {old} {now} {spec} {id} {place} {word} {v} {acts} kind fits t left =
     }
 
 -- what tries leave that were given up
-record CutLeaves (s t : State) (id : ArenaId) (word found : ℕ) : Type 0 where
+pub record CutLeaves (s t : State) (id : ArenaId) (word found : ℕ) : Type 0 where
   pub within : word < length (arena_of s id).words
   pub is : found ≡ word_in s id word
   pub same : t ≡ s
 
-cut_leaves : (limit : ℕ) (c : Caller) (s : State) (id : ArenaId) (word : ℕ) (GivesUp : ℕ → Type 0) (found : ℕ) (acts : Acts) → CutOff id word GivesUp found acts
+pub cut_leaves : (limit : ℕ) (c : Caller) (s : State) (id : ArenaId) (word : ℕ) (GivesUp : ℕ → Type 0) (found : ℕ) (acts : Acts) → CutOff id word GivesUp found acts
     → IsLegal limit s (entries_of c acts) → CutLeaves s (state_after limit s (entries_of c acts)) id word found
 cut_leaves limit c s id word GivesUp found acts (looked now rest t) legal = cut_leaves limit c s id word GivesUp found rest t legal.2
 cut_leaves limit c s id word GivesUp found acts (missed now old new rest n t) legal =

@@ -6,6 +6,7 @@ mod whole;
 ghost use Rattle.std.specs.Prelude.{◌≡◌};
 
 use fm_path::Resolved;
+pub use place::Support;
 use std::marker::Model;
 
 /// Access to the value that a path into a layout leads to. Contracts see it as the resolved path.

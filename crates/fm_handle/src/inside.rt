@@ -13,7 +13,7 @@ use std::sync::Wait;
 /// Puts `v` at `place` where the value there is `expected`, inside the arena, and answers the value found.
 ///
 /// The value counts and not its word: where only other bytes of the word changed meanwhile, it tries again.
-pub(crate) fn exchange_inside<R: Wait, M: Memory>(
+pub fn exchange_inside<R: Wait, M: Memory>(
     rt: &R,
     m: &mut M,
     arena: ArenaId,
@@ -49,7 +49,7 @@ pub(crate) fn exchange_inside<R: Wait, M: Memory>(
 
 /// Adds `delta` to the value at `place`, inside the arena, and answers the value found. The sum wraps in the value's
 /// width, so that nothing is carried into other bytes of the word.
-pub(crate) fn add_inside<R: Wait, M: Memory>(
+pub fn add_inside<R: Wait, M: Memory>(
     rt: &R,
     m: &mut M,
     arena: ArenaId,

@@ -41,5 +41,7 @@ mod laws;
 mod visits;
 mod word;
 
-pub use handle::VarHandle;
+pub use handle::{Support, VarHandle};
+pub use inside::{add_inside, exchange_inside};
 pub use laws::{sets_then_gets, stands_at_its_path};
+pub use word::{is_same, long_in, word_of};

@@ -27,14 +27,14 @@ pub(crate) fn with_value(word: u64, at: u32, order: Order, v: Value) -> u64
 }
 
 /// The word whose bytes are a long's.
-pub(crate) fn word_of(order: Order, v: i64) -> u64
+pub fn word_of(order: Order, v: i64) -> u64
     ensures { result ≡ word_of order v }
 {
     turned(8, encode(Value::Long(v)), order)
 }
 
 /// The long that a word's bytes mean.
-pub(crate) fn long_in(word: u64, order: Order) -> i64
+pub fn long_in(word: u64, order: Order) -> i64
     ensures { Value.Long result ≡ value_in ValueKind.Long order 0 word }
 {
     match value_in(word, 0, ValueKind::Long, order) {
@@ -45,7 +45,7 @@ pub(crate) fn long_in(word: u64, order: Order) -> i64
 
 /// Whether two values of one kind are the same.
 #[tactic(auto, using(crate::proofs::Words::tested_value))]
-pub(crate) fn is_same(a: Value, b: Value) -> bool
+pub fn is_same(a: Value, b: Value) -> bool
     requires { kind_of a ≡ kind_of b }
     ensures { MatchBool result (a ≡ b) (a ≢ b) }
 {

@@ -34,4 +34,4 @@ mod segment;
 pub use alignment::is_aligned;
 pub use elements::Elements;
 pub use laws::sets_then_gets;
-pub use segment::Segment;
+pub use segment::{Segment, answer_of, check_copy, coding_of};

@@ -9,7 +9,10 @@ mod slices;
 ghost use Rattle.std.specs.Prelude.{◌≡◌, ◌+◌, ◌≤◌, ◌^◌};
 ghost use Rattle.fm_segment.specs.Region.{EndsByLimit, part_of, read_only_of, region_of};
 
+pub use access::coding_of;
+pub use copy::check_copy;
 use fm_base::ArenaId;
+pub use mismatch::answer_of;
 use std::marker::Model;
 
 /// A run of bytes of one arena, all below place 2^40. Contracts see it as a region.

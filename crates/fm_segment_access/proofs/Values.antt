@@ -46,11 +46,11 @@ got_fits c id place width n own d =
     subst (λ (m : ℕ). n < 2 ^ (8 * m)) are.1 (subst (λ (m : ℕ). m < 2 ^ (8 * length r.bytes)) (sym r.value) (number_of-lt r.bytes are.0))
 
 -- The bytes of the number that bytes make.
-bytes_of-number : (bytes : List ℕ) (width n : ℕ) → AreBytes bytes → length bytes ≡ width → n ≡ number_of bytes → bytes_of width n ≡ bytes
+pub bytes_of-number : (bytes : List ℕ) (width n : ℕ) → AreBytes bytes → length bytes ≡ width → n ≡ number_of bytes → bytes_of width n ≡ bytes
 bytes_of-number bytes width n are len e = ap (λ k. bytes_of k n) (sym len) ∙ ap (bytes_of (length bytes)) e ∙ bytes_of-number_of bytes are
 
 -- A number that is turned and decoded is the value of its bytes.
-value_of-number : (k : ValueKind) (o : Order) (bytes : List ℕ) (n : ℕ) → AreBytes bytes → length bytes ≡ width_of k → n ≡ number_of bytes
+pub value_of-number : (k : ValueKind) (o : Order) (bytes : List ℕ) (n : ℕ) → AreBytes bytes → length bytes ≡ width_of k → n ≡ number_of bytes
     → decoded k (turned (width_of k) n o) ≡ value_of k o bytes
 value_of-number k o bytes n are len e =
     let Small : ℕ → Type 0 = λ m. n < 2 ^ (8 * m) in

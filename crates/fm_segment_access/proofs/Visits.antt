@@ -88,7 +88,7 @@ visit_stays limit c s id acts stay legal =
     v.leaves words (stay v.legal ∙ sym rests) ∙ changed_same s id (with_words words) refl
 
 -- A place, by its word.
-place_is : (place : ℕ) → 8 * (place / 8) + place % 8 ≡ place
+pub place_is : (place : ℕ) → 8 * (place / 8) + place % 8 ≡ place
 place_is place = omega arith
 
 -- ---- reading
@@ -186,7 +186,7 @@ tries_put limit c s id place width v found acts t fits small legal =
     }
 
 -- What the acts of one visit do.
-acts_put : (limit : ℕ) (c : Caller) (s : State) (id : ArenaId) (place width v : ℕ) (acts : Acts) → PutsBytes id place width v acts → place % 8 + width ≤ 8
+pub acts_put : (limit : ℕ) (c : Caller) (s : State) (id : ArenaId) (place width v : ℕ) (acts : Acts) → PutsBytes id place width v acts → place % 8 + width ≤ 8
     → v < 2 ^ (8 * width)
     → IsLegal limit s (entries_of c acts) → ActsPut s (state_after limit s (entries_of c acts)) c id place width v
 acts_put limit c s id place width v acts (whole e) fits small legal = record {

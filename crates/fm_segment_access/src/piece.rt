@@ -35,9 +35,16 @@ pub fn get_piece<M: Memory>(m: &mut M, arena: ArenaId, place: u64, width: u32) -
     Ok(read(word, (place % 8) as u32, width))
 }
 
-/// Puts the `width` bytes of `v` into the word of `place`, inside the arena.
+/// Puts the `width` bytes of `v` into the word of `place`, inside the arena: a whole word at once, else by tries.
 #[tactic(auto, using(crate::proofs::Patching::under))]
-fn put_inside<R: Wait, M: Memory>(rt: &R, m: &mut M, arena: ArenaId, place: u64, width: u32, v: u64)
+pub fn put_inside<R: Wait, M: Memory>(
+    rt: &R,
+    m: &mut M,
+    arena: ArenaId,
+    place: u64,
+    width: u32,
+    v: u64,
+)
     requires inside { (M.view m.old).inside ≡ Some arena }
     requires reach { CanReach (M.view m.old) (place / 8) }
     requires some { 1 ≤ width }

@@ -9,7 +9,7 @@ use std::sync::Wait;
 
 /// The word whose eight bytes are all this one.
 #[tactic(auto, using(crate::proofs::Filling::eight_copies))]
-fn word_of(byte: u8) -> u64
+pub fn word_of(byte: u8) -> u64
     ensures { bytes_of 8 result ≡ replicate 8 byte }
 {
     u64::from(byte) * 0x0101_0101_0101_0101

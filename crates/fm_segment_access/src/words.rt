@@ -35,7 +35,7 @@ pub fn put_words<M: Memory>(
 }
 
 /// Stores the first `count` words of `bytes`, the first of them at the index `first`, inside the arena.
-fn store_words<M: Memory>(m: &mut M, first: u64, count: usize, bytes: &[u8])
+pub fn store_words<M: Memory>(m: &mut M, first: u64, count: usize, bytes: &[u8])
     requires sound { IsSound (M.view m.old) }
     requires reach { CanReachAll (M.view m.old) first count }
     requires whole { 8 * count ≤ length bytes.now }

@@ -12,13 +12,13 @@ use Rattle.fm_segment_copies.proofs.{Differences.{later, later-none, later-later
 use Rattle.fm_segment_copies.proofs.Refusing.{AreAlive, AreShut, both_legal, piece_refused}
 
 -- the bytes of the side from this offset on
-abbrev bytes_from : State → Side → ℕ → List ℕ
+abbrev pub bytes_from : State → Side → ℕ → List ℕ
 bytes_from s a offset = drop (a.at + offset) (bytes_of_arena s a.arena)
 
 -- ---- one piece
 
 -- a piece that was compared: both numbers are of the bytes that stand there, and the state stays
-record IsCompared (s t : State) (a b : Side) (p : Piece) (found : Option ℕ) : Type 0 where
+pub record IsCompared (s t : State) (a b : Side) (p : Piece) (found : Option ℕ) : Type 0 where
   pub v : ℕ
   pub w : ℕ
   pub first : bytes_of p.width v ≡ take p.width (bytes_from s a p.offset)
@@ -41,7 +41,7 @@ piece_compared limit c s a b p found own q fits legal =
 -- ---- all pieces
 
 -- the first difference of the last `left` of `count` bytes, as an offset among all
-abbrev difference_from : State → Side → Side → ℕ → ℕ → Option ℕ
+abbrev pub difference_from : State → Side → Side → ℕ → ℕ → Option ℕ
 difference_from s a b offset left = later offset (first_difference (take left (bytes_from s a offset)) (take left (bytes_from s b offset)))
 
 -- a comparison answers the first difference, or stops as one of the arenas isn't alive
@@ -61,7 +61,7 @@ take_two xs bytes width left h e =
     sym (ap (λ n. take n xs) sum) ∙ take-add width (left - width) xs ∙ ap (λ bs. bs ++ take (left - width) (drop width xs)) (sym e)
 
 -- A piece that differs holds the first difference.
-differs_next : (s : State) (a b : Side) (offset left width v w at : ℕ) → width ≤ left
+pub differs_next : (s : State) (a b : Side) (offset left width v w at : ℕ) → width ≤ left
     → bytes_of width v ≡ take width (bytes_from s a offset) → bytes_of width w ≡ take width (bytes_from s b offset) → IsDifference width v w (Some at)
     → difference_from s a b offset left ≡ Some (offset + at)
 differs_next s a b offset left width v w at h first second d =
@@ -73,7 +73,7 @@ differs_next s a b offset left width v w at h first second d =
     (ap (later offset) (differs_at width v w at p q d))
 
 -- A piece that agrees leaves the first difference to the bytes behind it.
-agrees_next : (s : State) (a b : Side) (offset left width v next : ℕ) → width ≤ left → offset + width ≡ next
+pub agrees_next : (s : State) (a b : Side) (offset left width v next : ℕ) → width ≤ left → offset + width ≡ next
     → bytes_of width v ≡ take width (bytes_from s a offset) → bytes_of width v ≡ take width (bytes_from s b offset)
     → difference_from s a b offset left ≡ difference_from s a b next (left - width)
 agrees_next s a b offset left width v next h e first second =

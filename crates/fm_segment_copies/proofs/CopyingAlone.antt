@@ -1,68 +1,78 @@
 -- What the only caller leaves by a copy.
-use Rattle.std.proofs.Common.{◌≡◌, ◌≢◌, ◌⊎◌, inl, inr, ℕ, ◌+◌, ◌-◌, ◌*◌, ◌%◌, ◌^◌, ◌<◌, ◌≤◌, Bool, true, false, List, [], ◌++◌, length, take, drop, refl, sym, ap, subst, ◌∙◌, arith, Ok}
+use Rattle.std.proofs.Common.{◌≡◌, ◌≢◌, ◌⊎◌, inl, inr, ℕ, ◌+◌, ◌-◌, ◌*◌, ◌/◌, ◌%◌, ◌^◌, ◌<◌, ◌≤◌, Bool, true, false, List, [], ◌++◌, length, take, drop, refl, sym, ap, subst, ◌∙◌, arith, Ok}
 use Rattle.std.proofs.lemmas.{Bool.{cases_lt}, List.{length-drop, length-take-le}}
-use Rattle.fm_base.specs.{declared.{caller.Caller.{Caller}, arena_id.ArenaId.{ArenaId}}, Arenas.{Arena, State, arena_of, has_arena, same_id}, Calls.{Entry}}
+use Rattle.fm_base.specs.{declared.{caller.Caller.{Caller}, arena_id.ArenaId.{ArenaId}}, Arenas.{Arena, State, arena_of, changed, has_arena, same_id}, Calls.{Entry}}
 use Rattle.fm_base.specs.{Histories.{IsLegal, state_after}, View.{View, Did, IsByItself}, Visits.{Run, ends, goes_on, first_width, last_width}}
 use Rattle.fm_base.proofs.{Faith.{Makes-alone}, Lookup.{changed_lookup}, Making.{IsLegal-split, state_after-append}, Names.{same_id-self, same_id-true}}
-use Rattle.fm_base_bytes.proofs.{Bytes.{length-bytes_of, lane-lt}, Words.{length-bytes_in}}
+use Rattle.fm_base_bytes.{specs.{Bytes.{bytes_of}, Words.{bytes_in}}, proofs.{Bytes.{length-bytes_of, lane-lt}, Words.{length-bytes_in}}}
 use Rattle.fm_segment_access.specs.Alone.{bytes_of_arena, with_bytes, with_words}
 use Rattle.fm_segment_access.proofs.{Alone.{Puts, puts_none, puts_both, bytes_there, other_bytes, changes}, Splicing.{keeps_elsewhere}}
-use Rattle.fm_segment_access.proofs.Visits.{visit_reads, visit_puts}
+use Rattle.fm_segment_access.proofs.Visits.{visit_reads, visit_puts, with_number}
 use Rattle.fm_segment_copies.specs.{declared.side.{Side.{Side}, Piece.{Piece}, Way.{Way, TheVariants.{Up, Down}}}, Alone.{bytes_at, TakesBytes}}
 use Rattle.fm_segment_copies.specs.{Sides.{IsWay, IsPieceAt, next_piece}, Copies.{CopiesPiece, CopiesOn, EndsCopy, Copies, DoesCopy}}
 use Rattle.fm_segment_copies.proofs.{Fitting.{next_piece_fits}, Overlaps.{all_found, copied_up, copied_down, found_within}}
 use Rattle.fm_segment_copies.proofs.Refusing.{AreAlive, AreShut, both_legal, piece_refused}
 
 -- so many bytes of an arena, from the place on
-abbrev bytes_from : State → ArenaId → ℕ → ℕ → List ℕ
+abbrev pub bytes_from : State → ArenaId → ℕ → ℕ → List ℕ
 bytes_from s id from count = take count (drop from (bytes_of_arena s id))
 
 -- ---- one piece
 
 -- a piece that was copied
-record IsCopied (s t : State) (a b : Side) (p : Piece) : Type 0 where
+pub record IsCopied (s t : State) (a b : Side) (p : Piece) : Type 0 where
   pub known : has_arena s b.arena ≡ true
   pub puts : Puts s t b.arena (b.at + p.offset) (bytes_from s a.arena (a.at + p.offset) p.width)
   pub room : a.at + p.offset + p.width ≤ length (bytes_of_arena s a.arena)
   pub within : b.at + p.offset + p.width ≤ length (bytes_of_arena s b.arena)
   pub count : length (bytes_from s a.arena (a.at + p.offset) p.width) ≡ p.width
-  pub alive : AreAlive s a b
+
+-- A number that was read of one arena is put into another.
+pub number_copied : (s t : State) (a b : Side) (p : Piece) (v : ℕ) (words : List ℕ) → IsPieceAt a b p → has_arena s b.arena ≡ true
+    → bytes_of p.width v ≡ bytes_from s a.arena (a.at + p.offset) p.width → t ≡ changed s b.arena (with_words words)
+    → bytes_in words ≡ with_number (bytes_of_arena s b.arena) (b.at + p.offset) p.width v → (b.at + p.offset) / 8 < length (arena_of s b.arena).words
+    → IsCopied s t a b p
+number_copied s t a b p v words fits known read state put word =
+    let from = a.at + p.offset in
+    let to = b.at + p.offset in
+    let target = bytes_of_arena s b.arena in
+    let count : length (bytes_from s a.arena (a.at + p.offset) p.width) ≡ p.width = ap length (sym read) ∙ length-bytes_of p.width v in
+    record {
+      known = known;
+      puts = record {
+        words = words;
+        state = state;
+        bytes = put
+            ∙ ap (λ bs. take to target ++ (bs ++ drop (to + p.width) target)) read
+            ∙ ap (λ n. take to target ++ (bytes_from s a.arena from p.width ++ drop (to + n) target)) (sym count);
+      };
+      room = found_within (bytes_of_arena s a.arena) from p.width fits.some count;
+      within = (let w = word in let f = fits.within_target in let l = length-bytes_in (arena_of s b.arena).words in omega arith);
+      count = count;
+    }
 
 -- A piece that the only caller copies: what was read is put.
 piece_copied : (limit : ℕ) (c : Caller) (s : State) (a b : Side) (p : Piece) (own : List Entry) → CopiesPiece c a b p own → IsPieceAt a b p
     → IsLegal limit s own
-    → IsCopied s (state_after limit s own) a b p
+    → IsCopied s (state_after limit s own) a b p × AreAlive s a b
 piece_copied limit c s a b p own q fits legal =
     let from = a.at + p.offset in
     let to = b.at + p.offset in
-    let target = bytes_of_arena s b.arena in
     let parts = both_legal limit s own q.reading q.putting q.visits legal in
     let read = visit_reads limit c s a.arena from p.width q.v q.reading q.reads fits.within_source parts.first in
     let small : q.v < 2 ^ (8 * p.width) = rw q.reads.value (lane-lt q.reads.word (from % 8) p.width) in
-    let put = visit_puts limit c s b.arena to p.width q.v q.putting q.puts fits.within_target small (parts.rest read.same) in
-    let count : length (bytes_from s a.arena (a.at + p.offset) p.width) ≡ p.width = ap length (sym read.value) ∙ length-bytes_of p.width q.v in
-    record {
-      known = put.known;
-      puts = record {
-        words = put.words;
-        state = parts.after read.same ∙ put.state;
-        bytes = put.bytes
-            ∙ ap (λ bs. take to target ++ (bs ++ drop (to + p.width) target)) read.value
-            ∙ ap (λ n. take to target ++ (bytes_from s a.arena from p.width ++ drop (to + n) target)) (sym count);
-      };
-      room = found_within (bytes_of_arena s a.arena) from p.width fits.some count;
-      within = (let w = put.within in let f = fits.within_target in let l = length-bytes_in (arena_of s b.arena).words in omega arith);
-      count = count;
-      alive = (read.alive, put.alive);
-    }
+    let put = visit_puts limit c s b.arena to p.width q.v q.putting q.puts fits.within_target small (parts.rest read.same) in (
+      number_copied s (state_after limit s own) a b p q.v put.words fits put.known read.value (parts.after read.same ∙ put.state) put.bytes put.within,
+      (read.alive, put.alive),
+    )
 
 -- Arenas between which a piece was copied are alive after it.
-still_alive : (s t : State) (a b : Side) (p : Piece) → IsCopied s t a b p → AreAlive t a b
-still_alive s t a b p q =
+still_alive : (s t : State) (a b : Side) (p : Piece) → IsCopied s t a b p → AreAlive s a b → AreAlive t a b
+still_alive s t a b p q alive =
     let SameLife : Arena → Arena → Type 0 = λ x y. y.life ≡ x.life in
     let stays : (id : ArenaId) → (arena_of t id).life ≡ (arena_of s id).life = λ id. ap (λ (u : State). (arena_of u id).life) q.puts.state
     ∙ changed_lookup SameLife (with_words q.puts.words) (λ x. refl) (λ x. refl) s b.arena refl id in
-    (stays a.arena ∙ q.alive.0, stays b.arena ∙ q.alive.1)
+    (stays a.arena ∙ alive.0, stays b.arena ∙ alive.1)
 
 -- ---- the bytes that are still to be read
 
@@ -113,12 +123,12 @@ stays_below s t a b p size down h q =
 -- ---- all pieces
 
 -- all bytes of the source from one place on, so many, were put at another
-record AllPut (s t : State) (a b : ArenaId) (from to count : ℕ) : Type 0 where
+pub record AllPut (s t : State) (a b : ArenaId) (from to count : ℕ) : Type 0 where
   pub all : length (bytes_from s a from count) ≡ count
   pub puts : Puts s t b to (bytes_from s a from count)
 
 -- what a copy of the last or the first `left` bytes leaves
-abbrev Leaves : Way → State → State → Side → Side → ℕ → ℕ → Type 0
+abbrev pub Leaves : Way → State → State → Side → Side → ℕ → ℕ → Type 0
 Leaves Up s t a b count left = AllPut s t a.arena b.arena (a.at + (count - left)) (b.at + (count - left)) left
 Leaves Down s t a b count left = AllPut s t a.arena b.arena a.at b.at left
 
@@ -129,12 +139,12 @@ none_put s a b from to left e =
     record { all = ap length none ∙ sym e; puts = puts_none s b to (bytes_from s a from left) none }
 
 -- Where no byte is left, all are put.
-leaves_end : (way : Way) (s : State) (a b : Side) (count left : ℕ) → left ≡ 0 → Leaves way s s a b count left
+pub leaves_end : (way : Way) (s : State) (a b : Side) (count left : ℕ) → left ≡ 0 → Leaves way s s a b count left
 leaves_end Up s a b count left e = none_put s a.arena b.arena (a.at + (count - left)) (b.at + (count - left)) left e
 leaves_end Down s a b count left e = none_put s a.arena b.arena a.at b.at left e
 
 -- One piece more, and the rest.
-leaves_on : (way : Way) (s t u : State) (a b : Side) (count left next : ℕ) → IsWay a b way → 0 < left → left ≤ count
+pub leaves_on : (way : Way) (s t u : State) (a b : Side) (count left next : ℕ) → IsWay a b way → 0 < left → left ≤ count
     → next ≡ left - (next_piece way a b count left).width
     → IsCopied s t a b (next_piece way a b count left) → Leaves way t u a b count next → Leaves way s u a b count left
 leaves_on Up s t u a b count left next way some h e q more =
@@ -189,9 +199,9 @@ copy_ends limit c a b count way s left own true h e legal = rw e.1 (leaves_end w
 -- One piece more, and the end.
 ends_on : (whole : Bool) (way : Way) (s t u : State) (a b : Side) (count left next : ℕ) → IsWay a b way → 0 < left → left ≤ count
     → next ≡ left - (next_piece way a b count left).width
-    → IsCopied s t a b (next_piece way a b count left) → Ends whole way t u a b count next → Ends whole way s u a b count left
-ends_on true way s t u a b count left next is some h e q more = leaves_on way s t u a b count left next is some h e q more
-ends_on false way s t u a b count left next is some h e q more = absurd (more.over (still_alive s t a b (next_piece way a b count left) q))
+    → IsCopied s t a b (next_piece way a b count left) → AreAlive s a b → Ends whole way t u a b count next → Ends whole way s u a b count left
+ends_on true way s t u a b count left next is some h e q alive more = leaves_on way s t u a b count left next is some h e q more
+ends_on false way s t u a b count left next is some h e q alive more = absurd (more.over (still_alive s t a b (next_piece way a b count left) q alive))
 
 -- A copy leaves in the target what stood in the source before.
 copy_run : (limit : ℕ) (c : Caller) (a b : Side) (count : ℕ) (way : Way) → IsWay a b way → (s : State) (left : ℕ) (own : List Entry) (whole : Bool)
@@ -204,12 +214,12 @@ copy_run limit c a b count way is s left own whole h (goes_on next one rest step
     let t = state_after limit s one in
     let q = piece_copied limit c s a b (next_piece way a b count left) one step.piece (next_piece_fits way a b count left step.more h).at parts.0 in
     let more = copy_run limit c a b count way is t next rest whole (let e = step.then in omega arith) run parts.1 in
-    rw (state_after-append limit s one rest) (ends_on whole way s t (state_after limit t rest) a b count left next is step.more h step.then q more)
+    rw (state_after-append limit s one rest) (ends_on whole way s t (state_after limit t rest) a b count left next is step.more h step.then q.0 q.1 more)
 
 -- ---- the call
 
 -- What a copy of all bytes leaves.
-all_put : (way : Way) (s t : State) (a b : Side) (count : ℕ) → Leaves way s t a b count count → AllPut s t a.arena b.arena a.at b.at count
+pub all_put : (way : Way) (s t : State) (a b : Side) (count : ℕ) → Leaves way s t a b count count → AllPut s t a.arena b.arena a.at b.at count
 all_put Down s t a b count l = l
 all_put Up s t a b count l =
     let none : count - count ≡ 0 = omega arith in

@@ -7,4 +7,5 @@ mod mismatch;
 mod side;
 
 pub use copy::copy_range;
-pub use mismatch::mismatch_range;
+pub use mismatch::{first_difference, mismatch_range};
+pub use side::{Piece, Side, Way, next_piece, way_of};

@@ -11,7 +11,7 @@ use fm_segment_access::get_piece;
 
 /// The lowest byte in which two numbers of `width` bytes differ.
 #[tactic(auto, using(crate::proofs::Differences::none_differs, crate::proofs::Differences::one_more_agrees))]
-fn first_difference(v: u64, w: u64, width: u32) -> Option<u32>
+pub fn first_difference(v: u64, w: u64, width: u32) -> Option<u32>
     requires width { width ≤ 8 }
     requires first { v < 2 ^ (8 * width) }
     requires second { w < 2 ^ (8 * width) }

@@ -8,7 +8,7 @@ use fm_segment::{Segment, is_aligned};
 
 /// Which values a call works on.
 #[derive(Clone, Copy)]
-pub(super) enum Support {
+pub enum Support {
     /// A number that lies in one word.
     Number,
     /// A long that fills a word.
@@ -32,7 +32,7 @@ impl VarHandle {
     }
 
     /// The place in the arena of the value. Refused, in this order: `IndexOut`, `Bounds`, `Misaligned`.
-    pub(super) fn place_of(&self, s: &Segment, base: u64, indices: &[u64]) -> Result<u64, Refusal>
+    pub fn place_of(&self, s: &Segment, base: u64, indices: &[u64]) -> Result<u64, Refusal>
         requires { length indices.now ≡ length self.now.dims }
         ensures place { result ≡ place_of base indices.now self.now s.now }
         ensures stands { IfOk result (ValueStands self.now s.now) }
@@ -43,12 +43,7 @@ impl VarHandle {
     }
 
     /// The same for a write. Refused, in this order: `IndexOut`, `ReadOnly`, `Bounds`, `Misaligned`.
-    pub(super) fn writable_place_of(
-        &self,
-        s: &Segment,
-        base: u64,
-        indices: &[u64],
-    ) -> Result<u64, Refusal>
+    pub fn writable_place_of(&self, s: &Segment, base: u64, indices: &[u64]) -> Result<u64, Refusal>
         requires { length indices.now ≡ length self.now.dims }
         ensures place { result ≡ writable_place_of base indices.now self.now s.now }
         ensures stands { IfOk result (ValueStands self.now s.now) }
@@ -63,7 +58,7 @@ impl VarHandle {
     /// The same for a call that doesn't work on every value. Refused first: `Unsupported`, where it doesn't on this one.
     /// Inlined, so that which values are asked for is a constant in each call.
     #[inline(always)]
-    pub(super) fn update_place_of(
+    pub fn update_place_of(
         &self,
         support: Support,
         s: &Segment,

@@ -1,5 +1,6 @@
-ghost use Rattle.std.specs.Prelude.{◌≡◌};
+ghost use Rattle.std.specs.Prelude.{◌≡◌, ◌+◌, ◌≤◌, ◌^◌, IfOk};
 ghost use Rattle.fm_layout.specs.Parts.{IsValue, form_of};
+ghost use Rattle.fm_layout.specs.Size.{size_of};
 ghost use Rattle.fm_segment.specs.Access.{StandsAtIndex, offset_of_index, place_of, writable_place_of};
 ghost use Rattle.fm_segment.specs.Learnt.{CanGet, CanSet, AfterGet, AfterSet, AfterGetIndex, AfterSetIndex};
 
@@ -100,8 +101,9 @@ impl Segment {
 
     /// The place in the arena of a layout at an offset. Refused, in this order: `Bounds`, `Misaligned`.
     #[inline(always)]
-    fn place_of(&self, layout: &Layout, offset: u64) -> Result<u64, Refusal>
-        ensures { result ≡ place_of offset layout.now self.now }
+    pub fn place_of(&self, layout: &Layout, offset: u64) -> Result<u64, Refusal>
+        ensures place { result ≡ place_of offset layout.now self.now }
+        ensures small { IfOk result (λ p. p + size_of layout.now ≤ 2 ^ 40) }
     {
         let slice = self.as_slice(offset, layout.size())?;
         if !is_aligned(slice.first, layout.alignment()) {
@@ -111,8 +113,9 @@ impl Segment {
     }
 
     /// The same for a write. Refused, in this order: `ReadOnly`, `Bounds`, `Misaligned`.
-    fn writable_place_of(&self, layout: &Layout, offset: u64) -> Result<u64, Refusal>
-        ensures { result ≡ writable_place_of offset layout.now self.now }
+    pub fn writable_place_of(&self, layout: &Layout, offset: u64) -> Result<u64, Refusal>
+        ensures place { result ≡ writable_place_of offset layout.now self.now }
+        ensures small { IfOk result (λ p. p + size_of layout.now ≤ 2 ^ 40) }
     {
         if self.read_only {
             return Err(Refusal::ReadOnly);
@@ -123,7 +126,7 @@ impl Segment {
 
 /// What a value layout's bytes mean.
 #[inline(always)]
-fn coding_of(layout: &Layout) -> (ValueKind, Order)
+pub fn coding_of(layout: &Layout) -> (ValueKind, Order)
     requires { IsValue layout.now }
     ensures { form_of layout.now ≡ Form.Value result.0 result.1 }
 {

@@ -30,7 +30,7 @@ impl Segment {
     }
 
     /// What refuses a put before the arena is entered, in this order: `ReadOnly`, `Bounds`.
-    fn check_put(&self, offset: u64, n: u64) -> Result<(), Refusal>
+    pub fn check_put(&self, offset: u64, n: u64) -> Result<(), Refusal>
         ensures { result ≡ checked_put self.now offset n }
     {
         self.check_write(n)?;

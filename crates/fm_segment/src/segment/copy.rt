@@ -50,7 +50,13 @@ impl Segment {
 }
 
 /// What refuses a copy before an arena is entered, in this order: `ReadOnly`, `Bounds`.
-fn check_copy(src: &Segment, src_at: u64, dst: &Segment, dst_at: u64, n: u64) -> Result<(), Refusal>
+pub fn check_copy(
+    src: &Segment,
+    src_at: u64,
+    dst: &Segment,
+    dst_at: u64,
+    n: u64,
+) -> Result<(), Refusal>
     ensures { result ≡ checked_copy src.now src_at dst.now dst_at n }
 {
     dst.check_write(n)?;

@@ -22,7 +22,7 @@ impl Segment {
     }
 
     /// Refused: `ReadOnly` where so many bytes can't be written, of which there is one.
-    pub(super) fn check_write(&self, n: u64) -> Result<(), Refusal>
+    pub fn check_write(&self, n: u64) -> Result<(), Refusal>
         ensures { result ≡ checked_write n self.now }
     {
         if n > 0 && self.read_only {

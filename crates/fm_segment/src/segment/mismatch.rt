@@ -32,7 +32,7 @@ impl Segment {
 }
 
 /// The answer for segments of these sizes, where `found` is the first byte that differs.
-fn answer_of(size: u64, other: u64, found: Option<u64>) -> i64
+pub fn answer_of(size: u64, other: u64, found: Option<u64>) -> i64
     requires size { size ≤ 2 ^ 40 }
     requires found { ForSome found (λ offset. offset < 2 ^ 40) }
     ensures { result ≡ mismatch_of size other found }

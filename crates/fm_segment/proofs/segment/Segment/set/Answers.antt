@@ -7,11 +7,11 @@ pub coding_of-order-requires : goal.coding_of-order-requires
 coding_of-order-requires g c = is_value c.args.layout.now (kind_of c.args.v) c.requires.value
 
 pub returns-in_err-place : goal.returns-in_err-place
-returns-in_err-place g c = after_set c.args.offset c.requires (not_placed _ _ (sym c.writable_place_of.ensures ∙ c.in_err-place.was) c.from_residual.ensures.1)
+returns-in_err-place g c = after_set c.args.offset c.requires (not_placed _ _ (sym c.writable_place_of.ensures.place ∙ c.in_err-place.was) c.from_residual.ensures.1)
 
 pub returns : goal.returns
 returns g c =
     after_set c.args.offset c.requires
     (at_value (λ id t. DoesSetHere (g.M.Memory.view c.args.m.now).caller id t c.args.v) c.args.layout.now (ap (λ (r : Region). r.arena) c.self.view_is)
     (is_value c.args.layout.now (kind_of c.args.v) c.requires.value) c.coding_of-order.ensures
-    (sym c.writable_place_of.ensures ∙ c.in_ok-place.was) (λ l. c.put_value.ensures.did))
+    (sym c.writable_place_of.ensures.place ∙ c.in_ok-place.was) (λ l. c.put_value.ensures.did))
