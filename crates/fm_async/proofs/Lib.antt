@@ -1,3 +1,9 @@
 mod Visits
 mod Closers
 mod Ends
+mod Counts
+mod Entries
+mod Sets
+mod Polls
+mod Rounds
+mod Closings

@@ -3,3 +3,5 @@ pub mod Closers
 pub mod Starts
 pub mod Borrows
 pub mod Ends
+pub mod Sets
+pub mod Polls

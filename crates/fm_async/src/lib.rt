@@ -16,10 +16,14 @@
 //!
 //! A future borrows its [`Closer`], so it can be dropped at any time: the close stands where the last poll left it.
 //!
+//! **Several arenas.** A [`SetCloser`] owns a pass and the closes of up to 64 arenas. They stand side by side: a poll of
+//! one arena's marks moves no other close. Each poll goes through all that haven't ended, in the order of adding, and
+//! none of them waits for another.
+//!
 //! **What is not promised.** That anybody wakes a pending future: it asks to be polled again at once, and who polls it
 //! decides when. That it is ever ready: a pass that stays inside blocks it. That the blocker is still inside when it is
-//! read: its mark was loaded in that poll. Only [`close_by_poll`] takes memory, for the task that polls; where it can't
-//! have any, it goes on without.
+//! read: its mark was loaded in that poll. Only [`close_by_poll`] takes memory, for the task that polls, and where it
+//! can't have any, it goes on without; and [`SetCloser::empty`], for all closes that the set will have.
 #![tactic(auto)]
 
 mod advancing;
@@ -28,9 +32,14 @@ mod by_poll;
 mod closer;
 mod future;
 mod outcome;
+mod set;
+mod set_future;
+mod waiting;
 
 pub use advancing::advance;
 pub use by_poll::close_by_poll;
 pub use closer::Closer;
 pub use future::CloseFuture;
-pub use outcome::Start;
+pub use outcome::{NoMemory, Start};
+pub use set::SetCloser;
+pub use set_future::SetFuture;

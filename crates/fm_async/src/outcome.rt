@@ -9,3 +9,9 @@ pub enum Start<'p> {
     /// It wasn't, and the pass comes back.
     Refused(Pass, Refusal),
 }
+
+/// There was no memory for a set of closes, and the pass comes back.
+#[derive(Drop)]
+pub struct NoMemory {
+    pub pass: Pass,
+}

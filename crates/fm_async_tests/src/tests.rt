@@ -1,9 +1,12 @@
 ghost use Rattle.std.specs.Prelude.{◌≡◌, true};
 
+mod adds;
 mod borrows;
 mod polls;
 mod pools;
+mod sets;
 mod story;
+mod threads;
 mod unlucky;
 
 use std::fmt::Debug;
