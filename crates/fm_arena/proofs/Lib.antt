@@ -7,3 +7,4 @@ pub mod Meeting
 pub mod Open
 pub mod Opening
 pub mod Own
+mod Pages

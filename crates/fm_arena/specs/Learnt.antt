@@ -6,7 +6,7 @@ use Rattle.fm_base.specs.{Histories.{state_after}, Does.{DoesIsAlive, DoesUnhold
 use Rattle.fm_rule_facts.specs.{Views.{View, In, IsKnown, IsSound, given_of, grips, limit_of}, Holds.{released}}
 use Rattle.fm_rule.specs.{declared.pool.Pool.{Pool}, Passes.{IsOf, GoesOnFrom}}
 use Rattle.fm_rule_calls.specs.Kept.{Kept, KeptHolding, Lasts}
-use Rattle.fm_gate.specs.{declared.held.Hold.{Hold}, Makers.{made_by_pass}, Needs.{IsOutside}, Learnt.{DoesTake, holds_taken}}
+use Rattle.fm_gate.specs.{declared.held.Hold.{Hold}, Crews.{HasNothing}, Makers.{made_by_pass}, Needs.{IsOutside}, Learnt.{DoesTake, holds_taken}}
 
 -- of `into_pass`: the pass is the one that the memory told of, outside in the pool that it is of without a page, and sound
 pub record AfterIntoPass (shared pass : View) : Type 0 where
@@ -23,6 +23,13 @@ pub record AfterMeet (old new : View) (seen : List Entry) : Type 0 where
   pub given : (id : ArenaId) → (arena_of (state_after (limit_of new.shape) [] seen) id).given ≤ given_of new id
   pub inside : new.inside ≡ old.inside
   pub lasts : Lasts old new
+
+-- the other is of the same pool and outside, and has nothing
+pub record CanBeGathered (p other : View) : Type 0 where
+  pub home : other.home ≡ p.home
+  pub shape : other.shape ≡ p.shape
+  pub outside : other.inside ≡ None
+  pub nothing : HasNothing other
 
 -- of `is_alive`
 pub record AfterIsAlive (old new : View) (id : ArenaId) (result : Result Bool Refusal) : Type 0 where

@@ -16,15 +16,16 @@
 //! ```
 //!
 //! **Both sides.** Who accesses enters and leaves at each word (`fm_gate`); who closes shuts, looks at every mark and
-//! ends the arena (`fm_close`). Neither knows of the other but by the pool's words.
+//! ends the arena (`fm_close`, or by polls `fm_async`). Neither knows of the other but by the pool's words.
 //!
 //! **Why it is safe.** Each call's entries are legal in the one history of the pool, whatever other passes do between,
 //! so all that is proved over a `Memory` holds here. What is held is open (`what_is_held_is_open`).
 //!
 //! **What is not promised.** That [`Arena::close`] or a last [`AutoHandle::give_back`] returns while a pass stays
 //! inside; that another pass knows of an arena before it has seen what its opener had seen; that a slot, a page or a
-//! number is left: `NoSlot` and `PoolFull` say what was found. No call of a `Shared` takes memory. A call that takes a
-//! runtime may wait for other passes.
+//! number is left: `NoSlot` and `PoolFull` say what was found. Of the calls of a `Shared` only `close_by_poll` takes
+//! memory, for the task that polls; where it can't have any, it goes on without. A call that takes a runtime may wait
+//! for other passes.
 #![tactic(auto)]
 
 mod arena;

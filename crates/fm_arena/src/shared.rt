@@ -1,15 +1,18 @@
-ghost use Rattle.std.specs.Prelude.{◌≡◌, None};
+ghost use Rattle.std.specs.Prelude.{◌≡◌, ◌<◌, ◌≤◌, length, take, None};
 
 use crate::arena::Arena;
+use fm_async::close_by_poll;
 use fm_base::{ArenaId, Caller, Kind, Memory, OrRefused, Refusal};
 use fm_close::close;
 use fm_gate::{
-    Hold, add, allocate, enter, hold, is_alive, leave, load, open_arena, patch, store, swap_if,
-    unhold,
+    Hold, add, allocate, enter, hold, is_alive, leave, load, load_at, load_placed, open_arena,
+    patch, store, swap_if, unhold,
 };
 use fm_rule::{Note, Pass, Pool};
 use fm_segment::Segment;
+use std::alloc::AllocGlobal;
 use std::marker::Model;
+use std::random::RandomSource;
 use std::sync::Wait;
 
 /// The arenas of a pool, as one pass of it uses them.
@@ -35,13 +38,18 @@ impl<'a> Model for Shared<'a> {
 }
 
 impl<'a> Shared<'a> {
-    ghost use Rattle.fm_base.specs.Learnt.{CanOpen, CanVisit};
+    ghost use Rattle.std.specs.Prelude.{IfErr, IfOk};
+    ghost use Rattle.fm_base.specs.declared.refusal.Refusal.TheVariants.{NoPass};
+    ghost use Rattle.fm_base.specs.Does.{CanReachAll};
+    ghost use Rattle.fm_base.specs.Learnt.{AfterClose, AfterLoads, CanOpen, CanVisit};
+    ghost use Rattle.fm_rule.specs.Draws.{Drawn, Gathers, Looked, NoneDrawn};
     ghost use Rattle.fm_rule_calls.specs.Told.{view_of_pass};
+    ghost use Rattle.fm_rule_facts.specs.Hands.{no_number};
     ghost use Rattle.fm_arena.specs.Allocating.{AllocatesExactly, AllocatesSegment};
     ghost use Rattle.fm_arena.specs.Arenas.{placed, started};
-    ghost use Rattle.fm_arena.specs.Learnt.{AfterHold, AfterIntoPass, AfterIsAlive, AfterMeet, AfterUnhold, CanUnhold};
+    ghost use Rattle.fm_arena.specs.Learnt.{AfterHold, AfterIntoPass, AfterIsAlive, AfterMeet, AfterUnhold, CanBeGathered, CanUnhold};
     ghost use Rattle.fm_arena.specs.Opening.{Opens, OpensExactly};
-    ghost use Rattle.fm_arena.specs.Shares.{CanShare};
+    ghost use Rattle.fm_arena.specs.Shares.{CanShare, IsGone};
 
     /// The memory of a pass that is in no arena, and has no page in its hand.
     pub fn new(pool: &'a Pool, pass: Pass) -> Shared<'a>
@@ -76,6 +84,36 @@ impl<'a> Shared<'a> {
         ensures { AfterMeet self.old self.new note.seen }
     {
         self.pool.meet(&mut self.pass, note);
+    }
+
+    /// A memory over another pass, which has a free number and that number's term, and has seen what this one has.
+    ///
+    /// Refused: `NoPass`, where every number was found taken, or no draw can be counted any more.
+    pub fn draw<R: Wait>(&mut self, rt: &R) -> Result<Shared<'a>, Refusal>
+        ensures drawn { IfOk result (λ other. Drawn self.old self.new other) }
+        ensures no_pass { IfErr result (λ e. (e ≡ NoPass) × NoneDrawn self.old self.new) }
+    {
+        let pass = self.pool.draw(rt, &mut self.pass)?;
+        Ok(Shared {
+            pool: self.pool,
+            pass,
+        })
+    }
+
+    /// After it the pass has seen what both had seen, and has the other's caller and all that were gathered into it. The
+    /// other's number is free again, with its next term, unless it had its last one.
+    pub fn gather(&mut self, other: Shared)
+        requires { CanBeGathered self.old other }
+        ensures { Gathers self.old other.entry no_number self.new }
+    {
+        self.pool.gather(&mut self.pass, other.into_pass());
+    }
+
+    /// Whether every drawn caller but its own is gathered into the pass. Then what it has seen is the whole history.
+    pub fn whole(&mut self) -> bool
+        ensures { Looked self.old self.new result }
+    {
+        self.pool.whole(&mut self.pass)
     }
 
     /// Opens an arena of this kind, as `Arena::start`.
@@ -121,6 +159,23 @@ impl<'a> Shared<'a> {
         is_alive(self.pool, &mut self.pass, id)
     }
 
+    /// Ends the arena as `close` does, by a future that `block_on` polls.
+    ///
+    /// Where there is no memory or no random number to poll with, it goes on by visits.
+    ///
+    /// Refused, in this order: `CannotClose`, `WrongThread`, `Closed`, `Held`. A refused call changes nothing.
+    pub fn close_by_poll<R: Wait + RandomSource + AllocGlobal>(
+        &mut self,
+        rt: &R,
+        id: ArenaId,
+    ) -> OrRefused<()>
+        requires { CanVisit (view_of_pass self.old) id }
+        ensures closes { AfterClose (view_of_pass self.old) (view_of_pass self.new) id result }
+        ensures gone { IfOk result (λ _. IsGone self.new id) }
+    {
+        close_by_poll(rt, self.pool, &mut self.pass, id)
+    }
+
     /// Holds the arena: until the hold is spent nobody can shut it.
     ///
     /// Refused, in this order: `Unsupported`, `WrongThread`, `Closed`, `TooManyHolds`. A refused call changes nothing.
@@ -129,6 +184,31 @@ impl<'a> Shared<'a> {
         ensures { AfterHold self.old self.new id result }
     {
         hold(rt, self.pool, &mut self.pass, id)
+    }
+
+    /// Reads words from the index `first` on, up to the end of the first one's page, and answers how many. Where the page
+    /// stands is looked up once.
+    fn load_page(&mut self, first: u64, words: &mut [u64]) -> usize
+        requires some { 0 < length words.old }
+        requires reach { CanReachAll (view_of_pass self.old) first (length words.old) }
+        ensures loads { AfterLoads (view_of_pass self.old) (view_of_pass self.new) first (take result words.new) }
+        ensures some { 0 < result }
+        ensures within { result ≤ length words.old }
+        ensures size { length words.new ≡ length words.old }
+    {
+        let (word, place) = load_placed(self.pool, &mut self.pass, first);
+        words[0] = word;
+        let size = u64::from(self.pool.shape().page_words);
+        let count = (size - first % size).min(words.len() as u64) as usize;
+        for k in 1..count {
+            words[k] = load_at(
+                self.pool,
+                &mut self.pass,
+                first + k as u64,
+                place + k as u64,
+            );
+        }
+        count
     }
 
     /// Spends a hold.
@@ -178,6 +258,16 @@ impl<'a> Memory for Shared<'a> {
     #[inline(always)]
     fn load(&mut self, word: u64) -> u64 {
         load(self.pool, &mut self.pass, word)
+    }
+
+    /// As the trait says, page by page.
+    fn load_words(&mut self, first: u64, words: &mut [u64]) {
+        // Where there is no word, no load says that the memory is sound.
+        self.caller();
+        let mut k = 0;
+        while k < words.len() {
+            k += self.load_page(first + k as u64, &mut words[k..]);
+        }
     }
 
     #[inline(always)]

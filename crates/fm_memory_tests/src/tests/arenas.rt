@@ -1,5 +1,5 @@
 ghost use Rattle.std.specs.Prelude.{◌≡◌, ◌≢◌, None};
-ghost use Rattle.fm_base.specs.Learnt.{CanVisit};
+ghost use Rattle.fm_base.specs.Learnt.{AfterClose, CanVisit};
 ghost use Rattle.fm_rule_calls.specs.Kept.{Lasts};
 ghost use Rattle.fm_rule_calls.specs.Told.{view_of_pass};
 ghost use Rattle.fm_segment.specs.Access.{IsKnown};
@@ -15,7 +15,9 @@ use fm_lanes::{Value, ValueKind};
 use fm_layout::Layout;
 use fm_segment::Segment;
 use fm_words::Shape;
+use std::alloc::AllocGlobal;
 use std::process::Abort;
+use std::random::RandomSource;
 use std::sync::Wait;
 use std::thread::{Threads, join_mut};
 
@@ -192,25 +194,64 @@ fn an_arena_is_closed_while_another_thread_reads(rt: HostRuntime) {
     same(&rt, long_of(&mut theirs, &s), Err(Refusal::Closed));
 }
 
+/// How an arena is closed.
+#[derive(Clone, Copy)]
+enum CloseBy {
+    Visits,
+    Polls,
+}
+
+/// Closes an arena so.
+fn close<R: Abort + Wait + RandomSource + AllocGlobal>(
+    rt: &R,
+    m: &mut Shared,
+    arena: &Arena,
+    by: CloseBy,
+) -> Result<(), Refusal>
+    requires { CanVisit (view_of_pass m.old) arena.now.id }
+    ensures { AfterClose (view_of_pass m.old) (view_of_pass m.new) arena.now.id result }
+{
+    match by {
+        CloseBy::Visits => arena.close(rt, m),
+        CloseBy::Polls => m.close_by_poll(rt, arena.id()),
+    }
+}
+
 /// A hold of an arena, which can't be closed meanwhile.
-fn close_held<R: Abort + Wait>(rt: &R, m: &mut Shared, arena: &Arena) -> Result<(), Refusal>
+fn close_held<R: Abort + Wait + RandomSource + AllocGlobal>(
+    rt: &R,
+    m: &mut Shared,
+    arena: &Arena,
+    by: CloseBy,
+) -> Result<(), Refusal>
     requires { CanVisit (view_of_pass m.old) arena.now.id }
     ensures { CanVisit (view_of_pass m.new) arena.now.id }
 {
     let hold = m.hold(rt, arena.id()).expect(rt, "a hold");
     a_hold_lasts();
-    let answer = arena.close(rt, m);
+    let answer = close(rt, m, arena, by);
     m.unhold(hold);
     answer
 }
 
+/// An arena is closed so: not while it is held, once it isn't, and only once.
+fn closed<R: Abort + Wait + RandomSource + AllocGlobal>(rt: &R, by: CloseBy) {
+    let (pool, pass) = pool_as(rt, TWO_SLOTS);
+    let mut m = Shared::new(&pool, pass);
+    let arena = Arena::start(rt, &mut m, Kind::Shared).expect(rt, "a slot");
+    same(rt, m.is_alive(arena.id()), Ok(true));
+    same(
+        rt,
+        close_held(rt, &mut m, &arena, by),
+        Err(Refusal::Held(1)),
+    );
+    same(rt, close(rt, &mut m, &arena, by), Ok(()));
+    same(rt, m.is_alive(arena.id()), Ok(false));
+    same(rt, close(rt, &mut m, &arena, by), Err(Refusal::Closed));
+}
+
 #[test]
 fn a_held_arena_is_closed_once_the_hold_is_spent(rt: HostRuntime) {
-    let (pool, pass) = pool_as(&rt, TWO_SLOTS);
-    let mut m = Shared::new(&pool, pass);
-    let arena = Arena::start(&rt, &mut m, Kind::Shared).expect(&rt, "a slot");
-    same(&rt, m.is_alive(arena.id()), Ok(true));
-    same(&rt, close_held(&rt, &mut m, &arena), Err(Refusal::Held(1)));
-    same(&rt, arena.close(&rt, &mut m), Ok(()));
-    same(&rt, m.is_alive(arena.id()), Ok(false));
+    closed(&rt, CloseBy::Visits);
+    closed(&rt, CloseBy::Polls);
 }

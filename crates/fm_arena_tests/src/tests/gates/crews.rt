@@ -7,6 +7,7 @@ ghost use Rattle.fm_arena.specs.Shares.{CanShare};
 use super::put;
 use crate::tests::compared::same;
 use crate::tests::pools::{drawn, given, is_whole, pool_of, takes_in, word_of};
+use fm_arena::Shared;
 use fm_base::{ArenaId, Kind, Refusal};
 use fm_gate::a_crew_stands;
 use fm_rule::{Pass, Pool};
@@ -58,6 +59,17 @@ fn passes_that_others_drew_are_gathered_with_them(rt: HostRuntime) {
     same(&rt, is_whole(&pool, &mut pass), false);
     takes_in(&pool, &mut pass, one);
     same(&rt, is_whole(&pool, &mut pass), true);
+}
+
+#[test]
+fn a_memory_draws_another_and_gathers_it(rt: HostRuntime) {
+    let (pool, pass) = made_for(&rt, 2);
+    let mut memory = Shared::new(&pool, pass);
+    let other = memory.draw(&rt).expect(&rt, "a pass");
+    same(&rt, memory.draw(&rt).err(), Some(Refusal::NoPass));
+    same(&rt, memory.whole(), false);
+    memory.gather(other);
+    same(&rt, memory.whole(), true);
 }
 
 /// The pass learns what the other has seen.
