@@ -1,3 +1,6 @@
 pub mod Opened
 pub mod Counts
 pub mod Own
+pub mod Left
+pub mod Claims
+pub mod Weights

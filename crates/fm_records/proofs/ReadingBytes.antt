@@ -78,7 +78,7 @@ module _ (c : Caller) (s : Region) (bytes : List ℕ) (size : length bytes ≡ s
 
   -- ---- numbers
 
-  number_of_bytes : (keeps : List Seen → Seen → List Seen) (k l : List Seen) (spec : ValueSpec) (place : ℕ) (own : List Seen) (n : ℤ)
+  pub number_of_bytes : (keeps : List Seen → Seen → List Seen) (k l : List Seen) (spec : ValueSpec) (place : ℕ) (own : List Seen) (n : ℤ)
       → ReadsNumber keeps k spec place own n l → LiesIn s place (width_of spec.kind) → Agree k → Agree own
       → n ≡ number_there spec.kind spec.order (place - s.first) bytes
   number_of_bytes keeps k l spec place own n r lies h w =

@@ -44,4 +44,5 @@ pub use laws::{
 };
 pub use numbers::Numbers;
 pub use query::query_segment;
+pub use values::number_of_value;
 pub use writing::write_answer;

@@ -6,11 +6,11 @@ ghost use Rattle.fm_path_meaning.specs.Walk.{reach};
 ghost use Rattle.fm_records.specs.Paths.{CanAddAll, AddsAll};
 ghost use Rattle.fm_records.specs.Reads.{CanRead, GetsNumber, LiesIn, Sees, or_closed};
 ghost use Rattle.fm_records.specs.Rows.{words_of};
-ghost use Rattle.fm_records.specs.Words.{Seen, across, kept_last, number_of};
+ghost use Rattle.fm_records.specs.Words.{Seen, across, kept_last, kept_none, number_of};
 
 use crate::adder::{Adder, Greatest, Least, Total};
 use crate::found::Found;
-use crate::words::{Keep, Last, fetch, learn};
+use crate::words::{Keep, Last, Nothing, fetch, learn};
 use fm_base::{Memory, Refusal};
 use fm_lanes::{ValueKind, decode, read, turned};
 use fm_path::{Dim, ValueSpec};
@@ -382,4 +382,24 @@ fn add_row_alone<M: Memory, A: Adder>(
 {
     let mut last = Last::None;
     add_row(m, s, place, at, dim, value, &mut last, adder)
+}
+
+/// The number of the value that stands at a place of the segment, by its words, each of which is read in a visit of its
+/// own. Refused: `Closed`.
+#[inline(always)]
+pub fn number_of_value<M: Memory>(
+    m: &mut M,
+    s: &Segment,
+    place: u64,
+    value: &ValueSpec,
+) -> Result<i64, Refusal>
+    requires can { CanRead (M.view m.old) s.now }
+    requires lies { LiesIn s.now place (width_of value.now.kind) }
+    ensures { Sees (M.view m.old) (M.view m.new) s.now
+        (λ r own. GetsNumber kept_none [] value.now place r own []) result }
+{
+    match number_at(m, s, place, value, &mut Nothing) {
+        Some(number) => Ok(number),
+        None => Err(Refusal::Closed),
+    }
 }

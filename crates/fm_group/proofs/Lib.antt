@@ -1,0 +1,12 @@
+pub mod Numbered
+pub mod Naming
+pub mod Ordinals
+pub mod Rows
+pub mod FirstPlaces
+pub mod Standing
+pub mod ReadingOne
+pub mod Acting
+pub mod Lasting
+pub mod OnePlace
+pub mod InTheirOrder
+pub mod Counted

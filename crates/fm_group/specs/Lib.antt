@@ -1,0 +1,6 @@
+pub mod Values
+pub mod Order
+pub mod Table
+pub mod Counting
+pub mod Asked
+pub mod Learnt

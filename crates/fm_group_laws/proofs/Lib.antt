@@ -1,0 +1,6 @@
+pub mod Crewing
+pub mod Either
+pub mod Settling
+pub mod Sharing
+pub mod Trying
+pub mod Weighing

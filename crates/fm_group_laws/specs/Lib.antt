@@ -1,0 +1,4 @@
+pub mod Shares
+pub mod Standing
+pub mod Touching
+pub mod Laws

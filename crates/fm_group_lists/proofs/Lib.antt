@@ -1,0 +1,4 @@
+pub mod Blocks
+pub mod Merging
+pub mod One
+pub mod Summing
