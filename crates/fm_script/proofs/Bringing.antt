@@ -99,7 +99,7 @@ module _ (a : ArenaId) where
         (λ id e. by_answer (λ u. outcome reply.Fine (handled_as e.0 id)) (λ x. refl) e.1.0 out e.1.2) d
     none_made (command.Back handle) o d =
         by_name (handle_of (stands handle)) (GivesBack c) out own (λ id e. ap (λ (x : LineOutcome). arena_of x.made) e.2) d
-    none_made (command.Close arena) o d = on_arena arena (Closes c) (λ id e. by_answer fine (λ x. refl) e.0 out e.2) d
+    none_made (command.Close arena by) o d = on_arena arena (Closes c) (λ id e. by_answer fine (λ x. refl) e.0 out e.2) d
 
     line_brings : (k : Command) → CallDoes c stands k out own → arena_of out.made ≡ Some a → 1 ≤ openings a own
     line_brings (command.Open name kind) d makes = open_brings c d.0 kind d.1.0 out own d.1.1.1 d.1.2 makes

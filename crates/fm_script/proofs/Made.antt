@@ -119,7 +119,7 @@ module _ (p : View) (sound : IsSound p) where
         (λ id a. by_answer (λ u. outcome reply.Fine (handled_as a.0 id)) (λ v. tt) out a.1.0 a.1.2) d
     line_known (command.Back handle) out own d seen =
         by_name (handle_of (stands handle)) (GivesBack c) out own (λ id a. subst (λ (o : LineOutcome). IsBacked p (lent o.made)) (sym a.2) tt) d
-    line_known (command.Close arena) out own d seen =
+    line_known (command.Close arena by) out own d seen =
         by_name (arena_at c stands arena) (Closes c) out own (λ id a. by_answer fine (λ v. tt) out a.0 a.2) d
 
 -- ---- all names
@@ -150,7 +150,7 @@ lent_behind number (command.Mismatch segment other) n s = refl
 lent_behind number (command.Alive arena) n s = refl
 lent_behind number (command.Hold arena name) n s = refl
 lent_behind number (command.Again handle name) n s = refl
-lent_behind number (command.Close arena) n s = refl
+lent_behind number (command.Close arena by) n s = refl
 
 module _ (p : View) (sound : IsSound p) (c : Caller) (number : List ℕ → Option ℕ) where
   -- Behind lines whose entries were seen all names are known.

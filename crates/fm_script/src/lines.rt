@@ -8,7 +8,8 @@ use fm_io::Gate;
 use fm_script_lines::{AtGate, Numbers, Standing, Table, Turns, count_lines, play};
 use fm_script_text::{Line, Who};
 use fm_workers_crew::Work;
-use std::alloc::{AllocError, Global};
+use std::alloc::{AllocError, AllocGlobal, Global};
+use std::random::RandomSource;
 use std::sync::Wait;
 
 /// What workers play: the script's lines, over the names of the first ones.
@@ -22,7 +23,7 @@ pub(crate) struct Lines<'a, R, G> {
 }
 
 /// Each worker plays its lines.
-impl<'a, R: Wait + Sync, G: Gate> Work<Player> for Lines<'a, R, G> {
+impl<'a, R: Wait + Sync + RandomSource + AllocGlobal, G: Gate> Work<Player> for Lines<'a, R, G> {
     ghost use Rattle.fm_script.specs.Players.{CanPlay, Plays, playing};
     ghost use Rattle.fm_script.specs.Staying.{can_play_later};
 
@@ -53,7 +54,7 @@ impl<'a, R: Wait + Sync, G: Gate> Work<Player> for Lines<'a, R, G> {
 }
 
 /// Plays a worker's lines.
-fn play_as<R: Wait, T: Turns>(
+fn play_as<R: Wait + RandomSource + AllocGlobal, T: Turns>(
     rt: &R,
     alloc: Global,
     memory: &mut Shared,

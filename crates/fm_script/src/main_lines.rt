@@ -10,7 +10,8 @@ use fm_io::FreeGate;
 use fm_rule::{Pass, Pool};
 use fm_script_lines::{AtGate, Bound, Reply, Table, count_lines, play};
 use fm_script_text::{Line, Who};
-use std::alloc::{AllocError, Global};
+use std::alloc::{AllocError, AllocGlobal, Global};
+use std::random::RandomSource;
 use std::sync::Wait;
 
 /// What the first lines and the last ones came to, which one pass runs.
@@ -42,7 +43,7 @@ impl MainLines {
 }
 
 /// Those of the lines that are these, as the lines of this pass.
-pub(crate) fn play_main<R: Wait>(
+pub(crate) fn play_main<R: Wait + RandomSource + AllocGlobal>(
     rt: &R,
     alloc: Global,
     pool: &Pool,

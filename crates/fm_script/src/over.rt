@@ -14,17 +14,18 @@ use crate::player::Player;
 use crate::players::all_played;
 use fm_arena::Shared;
 use fm_base::Refusal;
-use fm_io::{FreeGate, Gate};
+use fm_io::Gate;
 use fm_rule::{Pass, Pool};
 use fm_script_lines::{Numbers, Table};
 use fm_script_text::{Line, Who};
 use fm_workers_crew::work_crew;
-use std::alloc::{AllocError, Global};
+use std::alloc::{AllocError, AllocGlobal, Global};
+use std::random::RandomSource;
 use std::sync::Wait;
 use std::thread::Threads;
 
 /// Runs all lines over a pool, of which in the end this pass is the only one again. There are `all` lines.
-pub(crate) fn run_over<R: Threads + Wait + Sync, G: Gate>(
+pub(crate) fn run_over<R: Threads + Wait + Sync + RandomSource + AllocGlobal, G: Gate>(
     rt: &R,
     alloc: Global,
     pool: &Pool,
@@ -63,7 +64,7 @@ pub(crate) fn run_over<R: Threads + Wait + Sync, G: Gate>(
 }
 
 /// The first lines, the workers' side by side, and the last lines.
-fn run_all<R: Threads + Wait + Sync, G: Gate>(
+fn run_all<R: Threads + Wait + Sync + RandomSource + AllocGlobal, G: Gate>(
     rt: &R,
     alloc: Global,
     pool: &Pool,
@@ -103,7 +104,7 @@ fn run_all<R: Threads + Wait + Sync, G: Gate>(
 }
 
 /// The workers, each by a pass of its own. Memory may be wanting before one begins, or where it cut the lines of one off.
-fn work_players<R: Threads + Wait + Sync, G: Gate>(
+fn work_players<R: Threads + Wait + Sync + RandomSource + AllocGlobal, G: Gate>(
     rt: &R,
     alloc: Global,
     pool: &Pool,
@@ -123,7 +124,7 @@ fn work_players<R: Threads + Wait + Sync, G: Gate>(
     ensures outside { CanShare pool.now pass.new }
     ensures cut { OnErr result (IsCutOff players.old.items players.new.items) }
 {
-    if let Err(refusal) = work_crew(rt, alloc, pool, pass, work, players, &FreeGate) {
+    if let Err(refusal) = work_crew(rt, alloc, pool, pass, work, players) {
         prove!(refusal == Refusal::Memory);
         return Err(AllocError);
     }

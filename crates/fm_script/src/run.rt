@@ -11,7 +11,8 @@ use fm_rule::Pool;
 use fm_script_lines::{Numbers, in_order};
 use fm_script_report::Report;
 use fm_script_text::Script;
-use std::alloc::Global;
+use std::alloc::{AllocGlobal, Global};
+use std::random::RandomSource;
 use std::sync::Wait;
 use std::thread::Threads;
 
@@ -22,7 +23,7 @@ use std::thread::Threads;
 /// and runs the last lines. Memory for passes and replies is taken before a worker begins.
 ///
 /// Refused: `Memory`.
-pub fn run_script<R: Threads + Wait + Sync, G: Gate>(
+pub fn run_script<R: Threads + Wait + Sync + RandomSource + AllocGlobal, G: Gate>(
     rt: &R,
     alloc: Global,
     script: &Script,

@@ -60,4 +60,4 @@ module _ {c : Caller} {limit : ℕ} {s : State} {all own : List Entry} (o : Own 
   call_comes (command.Back handle) fills does =
       on_comes o (λ id. ⊤) (standing.handle_of (stands handle)) (GivesBack c) out (any (standing.handle_of (stands handle)))
       (λ id known d. gives_back_comes o id out d) does
-  call_comes (command.Close arena) fills does = arena_comes arena (Closes c) (λ id known d. closes_come o id out d) does
+  call_comes (command.Close arena by) fills does = arena_comes arena (Closes c) (λ id known d. closes_come o id out d) does

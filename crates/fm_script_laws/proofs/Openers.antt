@@ -116,7 +116,7 @@ module _ (c : Caller) (own : List Entry) where
         on_none (standing.handle_of (stands handle)) (TakesAgain c) out (λ id d. again_none id d.1.0 d.1.1) does
     call_none (command.Back handle) is does =
         on_none (standing.handle_of (stands handle)) (GivesBack c) out (λ id d. back_none id d.0 d.1) does
-    call_none (command.Close arena) is does = on_arena arena (Closes c) (λ id d. close_none id d.0 d.1) does
+    call_none (command.Close arena by) is does = on_arena arena (Closes c) (λ id d. close_none id d.0 d.1) does
 
 -- ---- lines that open one
 

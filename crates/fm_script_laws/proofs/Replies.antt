@@ -118,7 +118,7 @@ module _ (c : Caller) (stands : List ℕ → Standing) (out : LineOutcome) (own 
   line_may (command.Back handle) none d =
       on_may (standing.handle_of (stands handle)) (GivesBack c) out own
       (λ id e. subst (λ (o : LineOutcome). MayBe o.reply) (sym e.2) (back_may c e.0)) d
-  line_may (command.Close arena) none d =
+  line_may (command.Close arena by) none d =
       on_arena arena (Closes c) (λ id e. coming_may fine (λ v. tt) e.0 (close_may c own id e.0 e.1) out e.2) d
 
   -- No allocation takes memory.

@@ -129,7 +129,7 @@ line_makes c stands (Again handle name) out own d =
 line_makes c stands (Back handle) out own d =
     by_name IsSpent nothing_spent (handle_of (stands handle)) (GivesBack c) out own
     (λ id e. subst (λ (o : LineOutcome). IsSpent o.made) (sym e.2) nothing_spent) d
-line_makes c stands (Close arena) out own d =
+line_makes c stands (Close arena by) out own d =
     by_name IsSpent nothing_spent (arena_at c stands arena) (Closes c) out own
     (λ id e. by_answer IsSpent nothing_spent fine (λ v. nothing_spent) out e.0 e.2) d
 

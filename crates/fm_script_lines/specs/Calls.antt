@@ -165,7 +165,7 @@ module _ (c : Caller) where
     CallDoes (command.Unhold hold) = On (hold_of (stands hold)) Unholds
     CallDoes (command.Again handle name) = On (handle_of (stands handle)) TakesAgain
     CallDoes (command.Back handle) = On (handle_of (stands handle)) GivesBack
-    CallDoes (command.Close arena) = On (arena_at arena) Closes
+    CallDoes (command.Close arena by) = On (arena_at arena) Closes
 
 -- the line's call is one of a handle, which is resolved in memory of its own
 abbrev pub takes_memory : Command → Bool

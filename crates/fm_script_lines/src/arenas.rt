@@ -1,4 +1,6 @@
 ghost use Rattle.std.specs.Prelude.{◌≡◌, None, IfSome};
+ghost use Rattle.fm_base.specs.Learnt.{AfterClose, CanVisit};
+ghost use Rattle.fm_rule_calls.specs.Told.{view_of_pass};
 ghost use Rattle.fm_rule_facts.specs.Views.{IsKnown};
 ghost use Rattle.fm_script_lines.specs.Calls.{On, Opens, Asks, Closes};
 ghost use Rattle.fm_script_lines.specs.Runs.{RanLine};
@@ -10,7 +12,10 @@ use crate::outcome::LineOutcome;
 use crate::reply::Reply;
 use crate::standing::Standing;
 use fm_arena::{AutoHandle, Shared};
-use fm_base::{Kind, Memory};
+use fm_base::{ArenaId, Kind, Memory, OrRefused};
+use fm_script_text::CloseBy;
+use std::alloc::AllocGlobal;
+use std::random::RandomSource;
 use std::sync::Wait;
 
 /// `open NAME KIND`
@@ -71,8 +76,13 @@ pub(crate) fn ask(m: &mut Shared, bound: Bound) -> LineOutcome
     }
 }
 
-/// `close ARENA`
-pub(crate) fn close<R: Wait>(rt: &R, m: &mut Shared, bound: Bound) -> LineOutcome
+/// `close ARENA`, and `closepoll ARENA`
+pub(crate) fn close<R: Wait + RandomSource + AllocGlobal>(
+    rt: &R,
+    m: &mut Shared,
+    bound: Bound,
+    by: CloseBy,
+) -> LineOutcome
     requires outside { m.old.inside ≡ None }
     requires known { IfSome (arena_of (standing_as bound)) (IsKnown m.old) }
     ensures { RanLine m.old m.new (On (arena_of (standing_as bound)) (Closes m.old.caller)) result }
@@ -80,8 +90,24 @@ pub(crate) fn close<R: Wait>(rt: &R, m: &mut Shared, bound: Bound) -> LineOutcom
     let Some(arena) = bound.arena() else {
         return LineOutcome::plain(Reply::Skipped);
     };
-    match m.close(rt, arena) {
+    match close_by(rt, m, arena, by) {
         Ok(_) => LineOutcome::plain(Reply::Fine),
         Err(refusal) => LineOutcome::plain(Reply::Refused(refusal)),
+    }
+}
+
+/// Closes the arena so.
+fn close_by<R: Wait + RandomSource + AllocGlobal>(
+    rt: &R,
+    m: &mut Shared,
+    arena: ArenaId,
+    by: CloseBy,
+) -> OrRefused<()>
+    requires { CanVisit (view_of_pass m.old) arena }
+    ensures { AfterClose (view_of_pass m.old) (view_of_pass m.new) arena result }
+{
+    match by {
+        CloseBy::Visits => m.close(rt, arena),
+        CloseBy::Polls => m.close_by_poll(rt, arena),
     }
 }

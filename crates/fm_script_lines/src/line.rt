@@ -13,14 +13,15 @@ use crate::tokens::{again, hold};
 use crate::updates::{add, exchange};
 use fm_arena::Shared;
 use fm_script_text::Command;
-use std::alloc::{AllocError, Global};
+use std::alloc::{AllocError, AllocGlobal, Global};
+use std::random::RandomSource;
 use std::sync::Wait;
 
 /// Runs a pass's next line: the call that its command names, on what the names that it uses stand for. Where one stands
 /// for nothing, no call is made and the reply is `Skipped`. A refused call is a reply too.
 ///
 /// Memory may be wanting to `add` and `cas` alone, whose handle takes memory of its own. Then no call was made.
-pub fn run_line<R: Wait>(
+pub fn run_line<R: Wait + RandomSource + AllocGlobal>(
     rt: &R,
     alloc: Global,
     m: &mut Shared,
@@ -36,7 +37,7 @@ pub fn run_line<R: Wait>(
 
 /// The line's call, and what it came to. A hold or a handle that it gives back is taken out of the table.
 #[tactic(auto, using(crate::proofs::Returning::leaves_kept))]
-fn call<R: Wait>(
+fn call<R: Wait + RandomSource + AllocGlobal>(
     rt: &R,
     alloc: Global,
     m: &mut Shared,
@@ -77,6 +78,6 @@ fn call<R: Wait>(
         Command::Unhold { hold } => Ok(unhold(m, table, hold)),
         Command::Again { handle, .. } => Ok(again(rt, m, table.handle(handle))),
         Command::Back { handle } => Ok(give_back(rt, m, table, handle)),
-        Command::Close { arena } => Ok(close(rt, m, table.at(arena))),
+        Command::Close { arena, by } => Ok(close(rt, m, table.at(arena), *by)),
     }
 }

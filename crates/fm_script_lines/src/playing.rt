@@ -9,14 +9,15 @@ use crate::table::Table;
 use crate::turns::Turns;
 use fm_arena::Shared;
 use fm_script_text::{Line, Who};
-use std::alloc::{AllocError, Global};
+use std::alloc::{AllocError, AllocGlobal, Global};
+use std::random::RandomSource;
 use std::sync::Wait;
 
 /// Runs those of a script's lines that are a pass's next ones, in their order, each in its turn, and puts their
 /// replies behind each other.
 ///
 /// Memory may be wanting to an `add` or a `cas` alone. Then the lines before it ran, and those from it on did not.
-pub fn play<R: Wait, T: Turns>(
+pub fn play<R: Wait + RandomSource + AllocGlobal, T: Turns>(
     rt: &R,
     alloc: Global,
     m: &mut Shared,

@@ -37,7 +37,7 @@ module _ (number : List ℕ → Option ℕ) where
   arena_of-behind (Again handle name) n s = refl
   arena_of-behind (Back handle) n s =
       arena_of-if (is_number (number handle) n) (handed_back s) s (seen_alike (handed_back s) s (stays_lent s).once_handed).arena
-  arena_of-behind (Close arena) n s = refl
+  arena_of-behind (Close arena by) n s = refl
 
   -- Behind a line, a name that isn't the line's.
   arena_of-other : (k : ℕ) (d : Done) (names : Names) (m : ℕ) → m ≢ k → arena_of (names_behind number k d names m) ≡ arena_of (names m)

@@ -4,7 +4,7 @@ use Rattle.std.{specs.{List.{list_all}, Option.{option_zip, option_map, option_a
 use Rattle.std.proofs.lemmas.{Option.{none-some, same_Some, option_and_then_some}, Slice.Eq.{bytes_eq-Decides}}
 use Rattle.fm_script_text.proofs.Arguments.{free_tested, free_decimal, map_some, zip_parts, name_gives, opening_row, opening_gives, two_row, two_gives, filled_row, filled_gives, sized_row, sized_gives, got_row, got_gives, valued_row, valued_gives, swapped_row, swapped_gives}
 use Rattle.fm_script_text.proofs.{Cuts.{IsFree, cut3_row, cut3_gives, row3}, Spelling.{named_name, named_who, who_is, small_value}}
-use Rattle.fm_script_text.specs.declared.command.Command.{Command}
+use Rattle.fm_script_text.specs.declared.{close_by.CloseBy.TheVariants.{Visits, Polls}, command.Command.{Command}}
 use Rattle.fm_script_text.specs.declared.command.Command.TheVariants.{Open, Alloc, Slice, Readonly, Get, Set, Add, Cas, Fill, Copy, Mismatch, Alive, Hold, Unhold, Again, Back, Close}
 use Rattle.fm_script_text.specs.{declared.{who.Who.{Who, TheVariants.{First, Worker, Last}}, line.Line.{Line}}, Rules.{IsAdmitted}}
 use Rattle.fm_script_text.specs.{Reader.{who_named, cut3, command_named, line_named}, Syntax.{Says, who_text, words_of, spaced, IsWho, IsSpelled}}
@@ -61,7 +61,8 @@ reads (Hold arena name) h = read refl (ap (option_map (λ x. Hold x.0 x.1)) (two
 reads (Unhold hold) h = read refl (ap (option_map (λ x. Unhold x)) (named_name hold h)) (λ who. refl)
 reads (Again handle name) h = read refl (ap (option_map (λ x. Again x.0 x.1)) (two_row handle name h.0 h.1)) (λ who. refl)
 reads (Back handle) h = read refl (ap (option_map (λ x. Back x)) (named_name handle h)) (λ who. refl)
-reads (Close arena) h = read refl (ap (option_map (λ x. Close x)) (named_name arena h)) (λ who. refl)
+reads (Close arena Visits) h = read refl (ap (option_map (λ x. Close x Visits)) (named_name arena h)) (λ who. refl)
+reads (Close arena Polls) h = read refl (ap (option_map (λ x. Close x Polls)) (named_name arena h)) (λ who. refl)
 
 -- ---- and what is read spells the command
 
@@ -104,7 +105,8 @@ module _ (verb args : List ℕ) where
       named_by (codes "unhold") (λ x. Unhold x) _ _ (λ x who. refl) (name_gives args) (
       named_by (codes "again") (λ x. Again x.0 x.1) _ _ (λ x who. refl) (two_gives args) (
       named_by (codes "back") (λ x. Back x) _ _ (λ x who. refl) (name_gives args) (
-      named_by (codes "close") (λ x. Close x) _ _ (λ x who. refl) (name_gives args) (λ c e. absurd (cc))))))))))))))))))
+      named_by (codes "close") (λ x. Close x Visits) _ _ (λ x who. refl) (name_gives args) (
+      named_by (codes "closepoll") (λ x. Close x Polls) _ _ (λ x who. refl) (name_gives args) (λ c e. absurd (cc)))))))))))))))))))
 
 -- ---- lines
 

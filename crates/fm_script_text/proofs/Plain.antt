@@ -8,10 +8,10 @@ use Rattle.fm_base.specs.declared.kind.Kind.TheVariants as kind
 use Rattle.fm_lanes.specs.declared.{order.Order.{Order}, value_kind.ValueKind.{ValueKind}}
 use Rattle.fm_layout.specs.Name.{IsName, IsNameEnd, is_letter, is_digit}
 use Rattle.fm_words.specs.declared.shape.Shape.{Shape}
-use Rattle.fm_script_text.{proofs.Spelling.{every_type, small_value}, specs.declared.command.Command.{Command}}
+use Rattle.fm_script_text.{proofs.Spelling.{every_type, small_value}, specs.declared.{close_by.CloseBy.{CloseBy, TheVariants.{Visits, Polls}}, command.Command.{Command}}}
 use Rattle.fm_script_text.specs.declared.command.Command.TheVariants.{Open, Alloc, Slice, Readonly, Get, Set, Add, Cas, Fill, Copy, Mismatch, Alive, Hold, Unhold, Again, Back, Close}
 use Rattle.fm_script_text.specs.declared.who.Who.{Who, TheVariants.{First, Worker, Last}}
-use Rattle.fm_script_text.specs.Syntax.{Says, SaysPool, who_text, words_of, spaced, arena_kind_text, type_text, IsWho, IsSpelled, IsOfKind, most}
+use Rattle.fm_script_text.specs.Syntax.{Says, SaysPool, who_text, words_of, spaced, arena_kind_text, close_text, type_text, IsWho, IsSpelled, IsOfKind, most}
 
 -- bytes that were tested are ASCII
 ascii_tested : (bs : List ℕ) → list_all (λ b. nat_lt b 128) bs ≡ true → IsAscii bs
@@ -61,6 +61,11 @@ type k o =
     text (type_text k o) (every_type (λ t. list_all (λ b. nat_lt b 128) (type_text t.0 t.1) ≡ true)
     (refl, (refl, (refl, (refl, (refl, (refl, (refl, (refl, (refl, (refl, (refl, (refl, tt)))))))))))) k o)
 
+-- so is how an arena is closed
+close : (by : CloseBy) → IsUtf8 (close_text by)
+close Visits = text (codes "close") refl
+close Polls = text (codes "closepoll") refl
+
 -- an offset is text
 offset : (n : ℕ) → n ≤ most → IsUtf8 (decimal n)
 offset n h = number n (omega arith)
@@ -84,7 +89,7 @@ words (Hold arena name) h = (text (codes "hold") refl, (utf8_name arena h.0, (ut
 words (Unhold hold) h = (text (codes "unhold") refl, (utf8_name hold h, tt))
 words (Again handle name) h = (text (codes "again") refl, (utf8_name handle h.0, (utf8_name name h.1, tt)))
 words (Back handle) h = (text (codes "back") refl, (utf8_name handle h, tt))
-words (Close arena) h = (text (codes "close") refl, (utf8_name arena h, tt))
+words (Close arena by) h = (close by, (utf8_name arena h, tt))
 
 -- who runs a line is said in text
 who_is_text : (who : Who) → IsWho who → IsUtf8 (who_text who)

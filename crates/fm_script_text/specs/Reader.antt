@@ -7,7 +7,7 @@ use Rattle.fm_lanes.specs.declared.{order.Order.{Order, TheVariants.{Little, Big
 use Rattle.fm_lanes.specs.declared.value_kind.ValueKind.TheVariants.{Byte, Boolean, Char, Short, Int, Long}
 use Rattle.fm_layout.specs.Name.{is_letter, is_digit}
 use Rattle.fm_words.specs.declared.shape.Shape.{Shape}
-use Rattle.fm_script_text.specs.declared.{cell.Cell.{Cell}, command.Command.{Command}}
+use Rattle.fm_script_text.specs.declared.{cell.Cell.{Cell}, close_by.CloseBy.TheVariants.{Visits, Polls}, command.Command.{Command}}
 use Rattle.fm_script_text.specs.declared.command.Command.TheVariants.{Open, Alloc, Slice, Readonly, Get, Set, Add, Cas, Fill, Copy, Mismatch, Alive, Hold, Unhold, Again, Back, Close}
 use Rattle.fm_script_text.specs.declared.who.Who.{Who, TheVariants.{First, Worker, Last}}
 use Rattle.fm_script_text.specs.Syntax.{above, below, most, most_workers, arena_kind_text, type_text}
@@ -157,8 +157,9 @@ arena_command verb args =
     else (if bytes_eq verb (codes "unhold") then option_map (λ h. Unhold h) (name_named args)
     else (if bytes_eq verb (codes "again") then option_map (λ x. Again x.0 x.1) (two args)
     else (if bytes_eq verb (codes "back") then option_map (λ h. Back h) (name_named args)
-    else (if bytes_eq verb (codes "close") then option_map (λ a. Close a) (name_named args)
-    else None)))))
+    else (if bytes_eq verb (codes "close") then option_map (λ a. Close a Visits) (name_named args)
+    else (if bytes_eq verb (codes "closepoll") then option_map (λ a. Close a Polls) (name_named args)
+    else None))))))
 
 -- what they ask for of the bytes of a segment, or of an arena
 abbrev pub bytes_command : List ℕ → List ℕ → Option Command

@@ -60,7 +60,7 @@ uses may (Hold arena name) = may arena role.Arena
 uses may (Unhold hold) = may hold role.Hold
 uses may (Again handle name) = may handle role.Handle
 uses may (Back handle) = may handle role.Handle
-uses may (Close arena) = may arena role.Arena
+uses may (Close arena by) = may arena role.Arena
 
 -- ---- what was made before
 

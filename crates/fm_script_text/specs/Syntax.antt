@@ -6,7 +6,7 @@ use Rattle.fm_lanes.specs.declared.{order.Order.{Order, TheVariants.{Little, Big
 use Rattle.fm_lanes.specs.{declared.value_kind.ValueKind.TheVariants.{Byte, Boolean, Char, Short, Int, Long}, Named.{kind_text}}
 use Rattle.fm_layout.specs.Name.{IsName}
 use Rattle.fm_words.specs.{declared.shape.Shape.{Shape}, Shapes.{IsValid}}
-use Rattle.fm_script_text.specs.declared.{cell.Cell.{Cell}, command.Command.{Command}}
+use Rattle.fm_script_text.specs.declared.{cell.Cell.{Cell}, close_by.CloseBy.{CloseBy, TheVariants.{Visits, Polls}}, command.Command.{Command}}
 use Rattle.fm_script_text.specs.declared.command.Command.TheVariants.{Open, Alloc, Slice, Readonly, Get, Set, Add, Cas, Fill, Copy, Mismatch, Alive, Hold, Unhold, Again, Back, Close}
 use Rattle.fm_script_text.specs.declared.who.Who.{Who, TheVariants.{First, Worker, Last}}
 
@@ -29,6 +29,10 @@ abbrev pub type_text : ValueKind → Order → List ℕ
 type_text kind Little = kind_text kind
 type_text kind Big = kind_text kind ++ codes "-be"
 
+abbrev pub close_text : CloseBy → List ℕ
+close_text Visits = codes "close"
+close_text Polls = codes "closepoll"
+
 -- what a command asks for, word by word
 abbrev pub words_of : Command → List (List ℕ)
 words_of (Open name kind) = codes "open" ∷ name ∷ arena_kind_text kind ∷ []
@@ -48,7 +52,7 @@ words_of (Hold arena name) = codes "hold" ∷ arena ∷ name ∷ []
 words_of (Unhold hold) = codes "unhold" ∷ hold ∷ []
 words_of (Again handle name) = codes "again" ∷ handle ∷ name ∷ []
 words_of (Back handle) = codes "back" ∷ handle ∷ []
-words_of (Close arena) = codes "close" ∷ arena ∷ []
+words_of (Close arena by) = close_text by ∷ arena ∷ []
 
 -- the words of a line, with one space between each two
 abbrev pub spaced : List (List ℕ) → List ℕ
@@ -117,7 +121,7 @@ IsSpelled (Hold arena name) = IsName arena × IsName name
 IsSpelled (Unhold hold) = IsName hold
 IsSpelled (Again handle name) = IsName handle × IsName name
 IsSpelled (Back handle) = IsName handle
-IsSpelled (Close arena) = IsName arena
+IsSpelled (Close arena by) = IsName arena
 
 -- the line says that this one runs this command
 pub record Says (text : List ℕ) (who : Who) (command : Command) : Type 0 where

@@ -1,4 +1,5 @@
 use crate::cell::Cell;
+use crate::close_by::CloseBy;
 use fm_base::Kind;
 use fm_path_text::NameText;
 
@@ -74,8 +75,9 @@ pub enum Command {
     Back {
         handle: NameText,
     },
-    /// `close ARENA`
+    /// `close ARENA`, or `closepoll ARENA`
     Close {
         arena: NameText,
+        by: CloseBy,
     },
 }

@@ -108,7 +108,7 @@ impl Names {
                 arena,
                 Role::Arena,
             ),
-            Command::Alive { arena } | Command::Close { arena } => self.may_use(
+            Command::Alive { arena } | Command::Close { arena, .. } => self.may_use(
                 who,
                 arena,
                 Role::Arena,

@@ -2,6 +2,7 @@
 #![tactic(auto)]
 
 mod cell;
+mod close_by;
 mod command;
 mod cutting;
 mod knowing;
@@ -20,6 +21,7 @@ mod who;
 mod words;
 
 pub use cell::Cell;
+pub use close_by::CloseBy;
 pub use command::Command;
 pub use fm_base_text::Text;
 pub use laws::each_text_has_one_answer;

@@ -2,6 +2,7 @@ ghost use Rattle.std.specs.Prelude.{◌≡◌};
 ghost use Rattle.fm_script_text.specs.Reader.{opening, two, filled, sized, cell_named, with_value, with_two, got, valued, swapped, arena_command, bytes_command, command_named, line_named};
 
 use crate::cell::Cell;
+use crate::close_by::CloseBy;
 use crate::command::Command;
 use crate::cutting::{cut, cut3, cut4, cut5};
 use crate::who::Who;
@@ -68,7 +69,14 @@ fn arena_command_of(verb: &str, args: &str) -> Option<Command>
         "unhold" => name_of(args).map(|hold| Command::Unhold { hold }),
         "again" => two(args).map(|(handle, name)| Command::Again { handle, name }),
         "back" => name_of(args).map(|handle| Command::Back { handle }),
-        "close" => name_of(args).map(|arena| Command::Close { arena }),
+        "close" => name_of(args).map(|arena| Command::Close {
+            arena,
+            by: CloseBy::Visits,
+        }),
+        "closepoll" => name_of(args).map(|arena| Command::Close {
+            arena,
+            by: CloseBy::Polls,
+        }),
         _ => None,
     }
 }

@@ -39,12 +39,13 @@ use fm_io::{Fault, Files, Gate};
 pub use kept::Kept;
 pub use script::SCRIPT_FILE_LIMIT;
 pub use status::Status;
-use std::alloc::Global;
+use std::alloc::{AllocGlobal, Global};
+use std::random::RandomSource;
 use std::sync::Wait;
 use std::thread::Threads;
 
 /// How the run of these words ends. Words that are no command read no file.
-pub fn ending_of<'a, R: Threads + Wait + Sync, F: Files, G: Gate>(
+pub fn ending_of<'a, R: Threads + Wait + Sync + RandomSource + AllocGlobal, F: Files, G: Gate>(
     rt: &R,
     alloc: Global,
     words: &'a [String],
@@ -63,7 +64,7 @@ pub fn ending_of<'a, R: Threads + Wait + Sync, F: Files, G: Gate>(
 }
 
 /// Does what the command asks for, up to the writing.
-fn command_ending<'a, R: Threads + Wait + Sync, F: Files, G: Gate>(
+fn command_ending<'a, R: Threads + Wait + Sync + RandomSource + AllocGlobal, F: Files, G: Gate>(
     rt: &R,
     alloc: Global,
     files: &mut F,

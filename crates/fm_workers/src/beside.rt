@@ -6,7 +6,7 @@ ghost use Rattle.fm_workers.specs.Taking.{CanTakeBatch, takers_in};
 
 use crate::query::Asking;
 use fm_base::Refusal;
-use fm_io::{FreeGate, Gate};
+use fm_io::Gate;
 use fm_records::Answer;
 use fm_records_query::Query;
 use fm_rule::{Pass, Pool};
@@ -87,9 +87,7 @@ fn take_batch_beside<R: Threads + Wait + Sync, G: Gate, S, B: Beside<S>>(
         segment: *s,
         each,
     };
-    let (pass, worked) = work_crew_beside(
-        rt, alloc, pool, pass, &work, &mut crew, &FreeGate, beside, with,
-    );
+    let (pass, worked) = work_crew_beside(rt, alloc, pool, pass, &work, &mut crew, beside, with);
     let answer = match worked {
         Ok(()) => finish(alloc, q, s, each, &jobs, giver, crew, slots),
         Err(refusal) => return (pass, Err(refusal)),

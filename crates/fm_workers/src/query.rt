@@ -4,7 +4,7 @@ ghost use Rattle.fm_workers.specs.Taking.{CanTakeBatch, takers_in};
 
 use fm_arena::Shared;
 use fm_base::Refusal;
-use fm_io::{FreeGate, Gate};
+use fm_io::Gate;
 use fm_records::Answer;
 use fm_records_query::Query;
 use fm_rule::{Pass, Pool};
@@ -127,7 +127,7 @@ fn take_batch<R: Threads + Wait + Sync, G: Gate>(
         segment: *s,
         each,
     };
-    match work_crew(rt, alloc, pool, pass, &work, &mut takers, &FreeGate) {
+    match work_crew(rt, alloc, pool, pass, &work, &mut takers) {
         Ok(()) => finish(alloc, q, s, each, &jobs, giver, takers, slots),
         Err(refusal) => Err(refusal),
     }

@@ -11,7 +11,7 @@ use crate::tally_batch::TallyBatch;
 use crate::tallying::tally_shares;
 use fm_arena::Shared;
 use fm_base::Refusal;
-use fm_io::{FreeGate, Gate};
+use fm_io::Gate;
 use fm_lanes::ValueKind;
 use fm_records_query::{Asked, Fold, Query};
 use fm_rule::{Pass, Pool};
@@ -151,7 +151,7 @@ fn take_batch<R: Threads + Wait + Sync, G: Gate>(
         each,
         counts: *counts,
     };
-    match work_crew(rt, alloc, pool, pass, &work, &mut talliers, &FreeGate) {
+    match work_crew(rt, alloc, pool, pass, &work, &mut talliers) {
         Ok(()) => total_of(&jobs, giver, talliers),
         Err(refusal) => Err(refusal),
     }

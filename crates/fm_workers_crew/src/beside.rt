@@ -11,7 +11,6 @@ use crate::work::Work;
 use crate::worker::Worker;
 use fm_arena::Shared;
 use fm_base::Refusal;
-use fm_io::Gate;
 use fm_rule::{Pass, Pool};
 use std::alloc::Global;
 use std::sync::Wait;
@@ -46,10 +45,9 @@ pub trait Beside<S> {
 }
 
 /// The work of all, side by side, and what is done beside it.
-pub(crate) fn work_beside<R: Threads + Wait + Sync, T: Send, W: Work<T>, G: Gate, S, B: Beside<S>>(
+pub(crate) fn work_beside<R: Threads + Wait + Sync, T: Send, W: Work<T>, S, B: Beside<S>>(
     rt: &R,
     alloc: Global,
-    gate: &G,
     work: &W,
     crew: &mut [Worker<T>],
     memory: &mut Shared,
@@ -70,7 +68,7 @@ pub(crate) fn work_beside<R: Threads + Wait + Sync, T: Send, W: Work<T>, G: Gate
         rt,
         &mut ||
             requires { All (λ w. (w.memory.inside ≡ None) × W.can work.now w.memory w.task) crew.now }
-        { work_all(rt, alloc, gate, work, crew) },
+        { work_all(rt, alloc, work, crew) },
         &mut || beside.act(rt, with, memory),
     );
 }
@@ -79,14 +77,13 @@ pub(crate) fn work_beside<R: Threads + Wait + Sync, T: Send, W: Work<T>, G: Gate
 /// thread can be started, that comes first.
 ///
 /// Refused, in this order: `Memory`, `NoPass`. Then no task was begun, and nothing was done beside them.
-pub fn work_crew_beside<R: Threads + Wait + Sync, T: Send, W: Work<T>, G: Gate, S, B: Beside<S>>(
+pub fn work_crew_beside<R: Threads + Wait + Sync, T: Send, W: Work<T>, S, B: Beside<S>>(
     rt: &R,
     alloc: Global,
     pool: &Pool,
     mut pass: Pass,
     work: &W,
     tasks: &mut Vec<T>,
-    gate: &G,
     beside: &mut B,
     with: &mut S,
 ) -> (Pass, Result<(), Refusal>)
@@ -108,7 +105,6 @@ pub fn work_crew_beside<R: Threads + Wait + Sync, T: Send, W: Work<T>, G: Gate, 
     work_beside(
         rt,
         alloc,
-        gate,
         work,
         crew.as_mut_slice(),
         &mut memory,

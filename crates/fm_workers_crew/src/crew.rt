@@ -8,7 +8,6 @@ use crate::work::Work;
 use crate::worker::Worker;
 use fm_arena::Shared;
 use fm_base::Refusal;
-use fm_io::Gate;
 use fm_rule::{Pass, Pool};
 use std::alloc::Global;
 use std::sync::Wait;
@@ -144,29 +143,10 @@ pub(crate) fn call_all<'a, R: Wait, T>(
     Ok(crew)
 }
 
-/// The work of one, between the gate's calls. Workers are numbered in the order of their tasks.
-fn work_one<R: Wait, T, W: Work<T>, G: Gate>(
-    rt: &R,
-    alloc: Global,
-    gate: &G,
-    work: &W,
-    number: u32,
-    worker: &mut Worker<T>,
-)
-    requires outside { worker.old.memory.inside ≡ None }
-    requires can { W.can work.now worker.old.memory worker.old.task }
-    ensures { IsWorked (W.does work.now) worker.old worker.new }
-{
-    gate.before(rt, number, 0);
-    work.work(alloc, &mut worker.memory, &mut worker.task);
-    gate.after(number, 0);
-}
-
 /// The work of all, side by side.
-pub(crate) fn work_all<R: Threads + Wait + Sync, T: Send, W: Work<T>, G: Gate>(
+pub(crate) fn work_all<R: Threads + Sync, T: Send, W: Work<T>>(
     rt: &R,
     alloc: Global,
-    gate: &G,
     work: &W,
     crew: &mut [Worker<T>],
 )
@@ -175,36 +155,30 @@ pub(crate) fn work_all<R: Threads + Wait + Sync, T: Send, W: Work<T>, G: Gate>(
     ensures worked { (i : ℕ) (d : _) → i < length crew.old
         → IsWorked (W.does work.now) (slice_index_or crew.old i d) (slice_index_or crew.new i d) }
 {
-    // The last task's worker is the first of the list. No crew has more than 16, and the bounds serve the casts alone.
-    let last = crew.len().min(16) as u32;
+    // No crew has more than 16.
     thread::for_each_mut(
         rt,
         crew,
         16,
-        &|place: usize, worker: &mut Worker<T>|
+        &|_place: usize, worker: &mut Worker<T>|
             requires { (worker.now.memory.inside ≡ None) × W.can work.now worker.now.memory worker.now.task }
             ensures { IsWorked (W.does work.entry.now) worker.entry.now worker.exit.now }
-        {
-            let number = last.saturating_sub(place.min(15) as u32);
-            work_one(rt, alloc, gate, work, number, worker)
-        },
+        { work.work(alloc, &mut worker.memory, &mut worker.task) },
     );
 }
 
-/// Draws a pass for each task, for the first task first, lets all of them work side by side, each at its task between the
-/// gate's calls, and gathers them all again, after a refusal too. All memory is taken before the first draw. Workers are
-/// numbered from 1, in the order of their tasks; each has one call.
+/// Draws a pass for each task, for the first task first, lets all of them work side by side, each at its task, and gathers
+/// them all again, after a refusal too. All memory is taken before the first draw.
 ///
 /// Refused, in this order: `Memory`, `NoPass`. Then no task was begun. Where no thread can be started, a worker's work is
 /// done by the caller's own.
-pub fn work_crew<R: Threads + Wait + Sync, T: Send, W: Work<T>, G: Gate>(
+pub fn work_crew<R: Threads + Wait + Sync, T: Send, W: Work<T>>(
     rt: &R,
     alloc: Global,
     pool: &Pool,
     pass: &mut Pass,
     work: &W,
     tasks: &mut Vec<T>,
-    gate: &G,
 ) -> Result<(), Refusal>
     requires outside { IsOutside pool.now pass.old }
     requires can { All (W.can work.now pass.old) tasks.old.items }
@@ -215,7 +189,7 @@ pub fn work_crew<R: Threads + Wait + Sync, T: Send, W: Work<T>, G: Gate>(
         Ok(crew) => crew,
         Err(refusal) => return Err(refusal),
     };
-    work_all(rt, alloc, gate, work, crew.as_mut_slice());
+    work_all(rt, alloc, work, crew.as_mut_slice());
     gather_crew(pool, pass, crew, tasks);
     pool.whole(pass);
     Ok(())

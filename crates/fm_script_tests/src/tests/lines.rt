@@ -11,6 +11,7 @@ use fm_script_lines::{AtGate, Numbers, Reply, Table, count_lines, in_order, play
 use fm_script_text::{Line, Script, Who};
 use std::alloc::AllocGlobal;
 use std::process::Abort;
+use std::random::RandomSource;
 use std::sync::Wait;
 
 fn names_of<R: Abort + AllocGlobal>(rt: &R, lines: &[Line]) -> Numbers {
@@ -19,7 +20,11 @@ fn names_of<R: Abort + AllocGlobal>(rt: &R, lines: &[Line]) -> Numbers {
 }
 
 /// What a pass answers to the first lines of a script.
-fn run<R: Abort + AllocGlobal + Wait>(rt: &R, m: &mut Shared, script: &Script) -> Vec<Reply>
+fn run<R: Abort + AllocGlobal + Wait + RandomSource>(
+    rt: &R,
+    m: &mut Shared,
+    script: &Script,
+) -> Vec<Reply>
     requires outside { m.old.inside ≡ None }
     requires spelled { All (λ l. IsSpelled l.command) script.now.lines }
 {
@@ -70,7 +75,7 @@ fn answered<R: Abort + AllocGlobal>(rt: &R, lines: &[Line], replies: &[Reply]) -
 }
 
 /// What the first lines of a script are answered in a pool of its own.
-fn replies<R: Abort + AllocGlobal + Wait>(rt: &R, script: &Script) -> Vec<Reply>
+fn replies<R: Abort + AllocGlobal + Wait + RandomSource>(rt: &R, script: &Script) -> Vec<Reply>
     requires written { IsWritten script.now }
     requires spelled { All (λ l. IsSpelled l.command) script.now.lines }
 {
@@ -80,7 +85,7 @@ fn replies<R: Abort + AllocGlobal + Wait>(rt: &R, script: &Script) -> Vec<Reply>
 }
 
 /// Plays first lines in a pool, each of which is answered as behind its arrow.
-fn plays<R: Abort + AllocGlobal + Wait>(rt: &R, pool: &str, rows: &str) {
+fn plays<R: Abort + AllocGlobal + Wait + RandomSource>(rt: &R, pool: &str, rows: &str) {
     let script = script_of(rt, asking(rt, pool, rows).as_str());
     let replies = replies(rt, &script);
     same(rt, replies.len(), script.lines().len());
@@ -136,6 +141,7 @@ first unhold h -> Fine
 first unhold k -> Fine
 first close a -> Fine
 first alive a -> Truth(false)
+first closepoll a -> Refused(Closed)
 first open b auto -> Fine
 first alloc b s 8 8 -> Place(0)
 first again b j -> Fine
@@ -145,6 +151,7 @@ first back j -> Ended
 first get s long 0 -> Refused(Closed)
 first open g global -> Fine
 first close g -> Refused(CannotClose(Global))
+first closepoll g -> Refused(CannotClose(Global))
 ";
 
 #[test]

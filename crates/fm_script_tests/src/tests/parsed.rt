@@ -2,11 +2,12 @@ use crate::tests::compared::same;
 use crate::tests::written::script_of;
 use fm_base::Kind;
 use fm_lanes::{Order, ValueKind};
-use fm_script_text::{Command, Line, Script, Who};
+use fm_script_text::{CloseBy, Command, Line, Script, Who};
 use std::process::Abort;
 
 const TEXT: &str =
-    "# counts\n\npool 1 1 8 1000 1\nfirst open a shared\n\nfirst alloc a s 8 16\n#\n2 set s int-be 4 -1\nlast close a";
+    "# counts\n\npool 1 1 8 1000 1\nfirst open a shared\n\nfirst alloc a s 8 16\n#\n2 set s int-be 4 -1\n\
+     last closepoll a";
 
 fn line<'a, R: Abort>(rt: &R, script: &'a Script, k: usize) -> &'a Line {
     script.lines().get(k).expect(rt, "a line")
@@ -43,7 +44,7 @@ fn reads_lines(rt: HostRuntime) {
         Who::Worker(2),
         "2 set s int-be 4 -1",
     );
-    is_line(&rt, line(&rt, &script, 3), 9, Who::Last, "last close a");
+    is_line(&rt, line(&rt, &script, 3), 9, Who::Last, "last closepoll a");
 }
 
 #[test]
@@ -67,6 +68,10 @@ fn sets_int_be_4(command: &Command) -> bool {
         if cell.kind == ValueKind::Int && cell.order == Order::Big && cell.offset == 4)
 }
 
+fn closes_by_polls(command: &Command, named: &[u8]) -> bool {
+    matches!(command, Command::Close { arena, by: CloseBy::Polls } if arena.as_bytes() == named)
+}
+
 #[test]
 fn reads_commands(rt: HostRuntime) {
     let script = script_of(&rt, TEXT);
@@ -81,4 +86,9 @@ fn reads_commands(rt: HostRuntime) {
         true,
     );
     same(&rt, sets_int_be_4(&line(&rt, &script, 2).command), true);
+    same(
+        &rt,
+        closes_by_polls(&line(&rt, &script, 3).command, b"a"),
+        true,
+    );
 }

@@ -67,6 +67,8 @@ const WORKED: &str = "\
      first slice s u 5 4|first get u byte 0|
 0 pool 1 1 8 1000 1|first open a shared|first hold a h|first hold a k|first close a|first unhold h|\
      first unhold k|first close a|first close a|
+0 pool 1 1 8 1000 1|first open a shared|first hold a h|first closepoll a|first unhold h|first closepoll a|\
+     first closepoll a|
 0 pool 1 1 8 1000 1|first open a confined|first alloc a s 8 8|first close a|1 get s long 0|
 0 pool 1 1 8 1000 1|first open g global|first close g|
 0 pool 1 1 8 1000 1|first open a auto|first alloc a s 8 8|first again a h|first back a|first get s long 0|\
@@ -191,6 +193,10 @@ const BEHIND: &str = "\
 4 first mismatch s a|
 4 first alive s|
 4 first close s|
+4 first closepoll s|
+4 first closepoll b|
+4 first closepolls a|
+4 first close poll a|
 4 first hold s h|
 4 last open b auto|
 5 # a|1 hold a h|
@@ -278,7 +284,9 @@ first hold a h|first unhold/ h
 first open b auto|first again b h|first back b|first back/ h
 first open b auto|first back/ b
 first close/ a
-last close/ a";
+last close/ a
+first closepoll/ a
+last closepoll/ a";
 
 /// Lines are refused without their last word, and at the same line with that word twice.
 fn wants_last_word<R: Abort + AllocGlobal>(rt: &R, row: &str) {

@@ -10,11 +10,12 @@ use fm_script::run_script;
 use fm_script_report::print_report;
 use std::alloc::AllocGlobal;
 use std::process::Abort;
+use std::random::RandomSource;
 use std::sync::Wait;
 use std::thread::Threads;
 
 /// What a run of it prints, past this gate.
-fn printed_past<R: Abort + AllocGlobal + Threads + Wait + Sync, G: Gate>(
+fn printed_past<R: Abort + AllocGlobal + Threads + Wait + Sync + RandomSource, G: Gate>(
     rt: &R,
     text: &str,
     gate: &G,
@@ -24,12 +25,19 @@ fn printed_past<R: Abort + AllocGlobal + Threads + Wait + Sync, G: Gate>(
     print_report(rt.alloc(), &report).expect(rt, "a text")
 }
 
-fn printed<R: Abort + AllocGlobal + Threads + Wait + Sync>(rt: &R, text: &str) -> String {
+fn printed<R: Abort + AllocGlobal + Threads + Wait + Sync + RandomSource>(
+    rt: &R,
+    text: &str,
+) -> String {
     printed_past(rt, text, &FreeGate)
 }
 
 /// Runs a script, which prints this.
-fn plays<R: Abort + AllocGlobal + Threads + Wait + Sync>(rt: &R, text: &str, wanted: &str) {
+fn plays<R: Abort + AllocGlobal + Threads + Wait + Sync + RandomSource>(
+    rt: &R,
+    text: &str,
+    wanted: &str,
+) {
     same(rt, printed(rt, text).as_str(), wanted);
 }
 
@@ -74,7 +82,7 @@ fn a_confined_arena_is_its_owners(rt: HostRuntime) {
 }
 
 /// Plays lines that stand in the order of printing: each is answered as behind its arrow, and these bytes are left.
-fn plays_first<R: Abort + AllocGlobal + Threads + Wait + Sync>(
+fn plays_first<R: Abort + AllocGlobal + Threads + Wait + Sync + RandomSource>(
     rt: &R,
     pool: &str,
     rows: &str,
@@ -182,6 +190,34 @@ fn a_worker_finds_no_page(rt: HostRuntime) {
         "first open a shared -> ok\nfirst alloc a s 8 8 -> ok 0\n1 open b shared -> ok\n1 alloc b t 1 1 -> refused 11\n\
         1 get t byte 0 -> skipped\nlast alloc a u 1 1 -> refused 10 8\nbytes a 0000000000000000\nbytes b\n";
     plays(&rt, text, wanted);
+}
+
+/// An arena is closed by polls as by visits: once, and not while it is held; of each kind, and by whom it may be.
+#[test]
+fn arenas_are_closed_by_polls(rt: HostRuntime) {
+    plays_first(
+        &rt,
+        "pool 4 1 8 1 4",
+        "\
+first open a shared -> ok
+first hold a h -> ok
+first closepoll a -> refused 7 1
+first unhold h -> ok
+first closepoll a -> ok
+first closepoll a -> refused 1
+first open b confined -> ok
+first open c auto -> ok
+first closepoll c -> refused 8 1
+first open g global -> ok
+first closepoll g -> refused 8 0
+first open d shared -> refused 12
+first closepoll d -> skipped
+1 closepoll b -> refused 2
+last closepoll b -> ok
+last back c -> ended
+",
+        "bytes g\n",
+    );
 }
 
 #[test]

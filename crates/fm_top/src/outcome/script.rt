@@ -12,7 +12,8 @@ use fm_base::Refusal;
 use fm_io::{Fault, Files, Gate};
 use fm_script::{Script, parse_script, print_report, run_script};
 use fm_top_load::read_whole;
-use std::alloc::{AllocError, Global};
+use std::alloc::{AllocError, AllocGlobal, Global};
+use std::random::RandomSource;
 use std::sync::Wait;
 use std::thread::Threads;
 
@@ -20,7 +21,7 @@ use std::thread::Threads;
 pub const SCRIPT_FILE_LIMIT: u64 = 1_048_576;
 
 /// Reads the file of a script, runs it, and answers how the run ends.
-pub fn script_ending<'a, R: Threads + Wait + Sync, F: Files, G: Gate>(
+pub fn script_ending<'a, R: Threads + Wait + Sync + RandomSource + AllocGlobal, F: Files, G: Gate>(
     rt: &R,
     alloc: Global,
     files: &mut F,
@@ -38,7 +39,7 @@ pub fn script_ending<'a, R: Threads + Wait + Sync, F: Files, G: Gate>(
 }
 
 /// How the run ends for a script's file of these bytes.
-fn bytes_ending<'a, R: Threads + Wait + Sync, G: Gate>(
+fn bytes_ending<'a, R: Threads + Wait + Sync + RandomSource + AllocGlobal, G: Gate>(
     rt: &R,
     alloc: Global,
     file: &str,
@@ -57,7 +58,7 @@ fn bytes_ending<'a, R: Threads + Wait + Sync, G: Gate>(
 }
 
 /// How the run ends for the script that these bytes spell.
-fn report_ending<'a, R: Threads + Wait + Sync, G: Gate>(
+fn report_ending<'a, R: Threads + Wait + Sync + RandomSource + AllocGlobal, G: Gate>(
     rt: &R,
     alloc: Global,
     file: &str,

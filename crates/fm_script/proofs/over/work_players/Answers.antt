@@ -10,8 +10,10 @@ use Rattle.fm_script.proofs.over.work_players.Lts as lts
 
 pub work_crew-requires-sync-W : goal.work_crew-requires-sync-W
 work_crew-requires-sync-W g c κs within =
-    let row : RattleType = lts.arg-0-2 g.row.R g.row.G g.R.laws g.G.laws g.R.Threads-dict g.R.Wait-dict g.G.Gate-dict κs in
-    let ℓ : NamedLft = record { mir = static_lft.mir; lft = κs.1.1.1.1.1.1.1.1.0 } in
+    let row : RattleType =
+    lts.arg-0-2 g.row.R g.row.G g.R.laws g.G.laws g.R.Threads-dict g.R.Wait-dict g.R.RandomSource-dict g.R.AllocGlobal-dict g.R.Alloc-dict
+    g.bound-6-dict g.bound-7-dict g.G.Gate-dict κs in
+    let ℓ : NamedLft = record { mir = static_lft.mir; lft = κs.1.1.1.1.1.1.1.0 } in
     let inner : IsSync row = record { shared = λ x b o κ. (lines_sync ℓ _ _ c.type_bounds.sync-R c.type_bounds.sync-G).shared x b o κ } in
     param_sync 2 row inner
 

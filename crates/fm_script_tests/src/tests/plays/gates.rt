@@ -5,11 +5,12 @@ use crate::tests::written::asking;
 use fm_io_gates::{Meeting, Order, Recording};
 use std::alloc::AllocGlobal;
 use std::process::Abort;
+use std::random::RandomSource;
 use std::sync::Wait;
 use std::thread::Threads;
 
 /// Two workers meet in this order.
-fn meet<R: Abort + AllocGlobal + Threads + Wait + Sync>(rt: &R, order: Order) {
+fn meet<R: Abort + AllocGlobal + Threads + Wait + Sync + RandomSource>(rt: &R, order: Order) {
     let rows =
         "first open a shared -> ok\n1 alive a -> true\n1 alive a -> true\n2 alive a -> true\n2 alive a -> true\n\
         last close a -> ok\n";

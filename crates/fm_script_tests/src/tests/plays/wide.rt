@@ -4,6 +4,7 @@ use crate::tests::written::push;
 use itoa::Buffer;
 use std::alloc::AllocGlobal;
 use std::process::Abort;
+use std::random::RandomSource;
 use std::sync::Wait;
 use std::thread::Threads;
 
@@ -52,7 +53,11 @@ fn adding<R: Abort + AllocGlobal>(rt: &R, workers: u32, times: u32) -> Wide {
     script
 }
 
-fn runs_whole<R: Abort + AllocGlobal + Threads + Wait + Sync>(rt: &R, workers: u32, times: u32) {
+fn runs_whole<R: Abort + AllocGlobal + Threads + Wait + Sync + RandomSource>(
+    rt: &R,
+    workers: u32,
+    times: u32,
+) {
     let script = adding(rt, workers, times);
     same(rt, script.text.len() > 4096, true);
     plays(rt, script.text.as_str(), script.printed.as_str());
