@@ -2,26 +2,22 @@
 use Rattle.std.proofs.Common.{◌≡◌, ℕ, ◌/◌, List, [], ◌∷◌, length, refl, ◌∙◌, Some, Result, Ok, Err}
 use Rattle.fm_base.specs.declared.{arena_id.ArenaId.{ArenaId}, refusal.Refusal.{Refusal}}
 use Rattle.fm_base.specs.{Calls.{Call, Reply, Read, Write, Found, Fine}, Does.{DidAct, DidActs}, Learnt.{AfterAct, AfterLoads, AfterStores}, Outcomes.{Lasts}}
-use Rattle.fm_base.specs.{View.{View, Did, IsByItself}, Visits.{Acts, entries_of, reads, writes}}
+use Rattle.fm_base.specs.{View.{View, IsByItself}, Visits.{Acts, reads, writes}}
 use Rattle.fm_base.proofs.{Making.{Makes-none}, Outcomes.{Makes-lasts}}
 use Rattle.fm_segment.{specs.Region.{Region}, proofs.Access.{known_still}}
 use Rattle.fm_visit.specs.Acts.{ActsAt, GetsWord, GetsWords, PutsWords, IsOfArguments}
 use Rattle.fm_visit.specs.Learnt.{IsIn, AfterInside, AfterGetWord, AfterGetWords, AfterPutWords, place_of_words, place_to_put}
-use Rattle.fm_visit.proofs.{Alone.{finds_words, puts_words}, Places.{words_err, put_err, put_ok, words_are_at}}
+use Rattle.fm_visit.proofs.{Alone.{finds_words, puts_words}, Going.{DidJust}, Places.{words_err, put_err, put_ok, words_are_at}}
 
--- these acts, and nothing else
-abbrev pub DidJust : View → View → Acts → Type 0
-DidJust old new acts = Did old new (λ own. own ≡ entries_of old.caller acts)
-
-just_acts : {x y : View} {id : ArenaId} (acts : ArenaId → Acts) → x.inside ≡ Some id → DidActs x y acts → DidJust x y (acts id)
+pub just_acts : {x y : View} {id : ArenaId} (acts : ArenaId → Acts) → x.inside ≡ Some id → DidActs x y acts → DidJust x y (acts id)
 just_acts acts inside d = record { own = d.own; does = rw inside at d.does; makes = d.makes }
 
-just_act : {x y : View} {id : ArenaId} (call : ArenaId → Call) (reply : Reply) → x.inside ≡ Some id → DidAct x y call reply → DidJust x y ((call id, reply) ∷ [])
+pub just_act : {x y : View} {id : ArenaId} (call : ArenaId → Call) (reply : Reply) → x.inside ≡ Some id → DidAct x y call reply → DidJust x y ((call id, reply) ∷ [])
 just_act call reply inside d = record { own = d.own; does = rw inside at d.does; makes = d.makes }
 
 module _ {x y : View} {r : Region} (can : IsIn x r.arena r) where
   -- Of a call that acted, by its parts.
-  after_acts : {X : Type 0} {Do : Result X Refusal → Acts → Type 0} {Alone : X → Type 0} {v : X} (acts : Acts) → Do (Ok v) acts → DidJust x y acts
+  pub after_acts : {X : Type 0} {Do : Result X Refusal → Acts → Type 0} {Alone : X → Type 0} {v : X} (acts : Acts) → Do (Ok v) acts → DidJust x y acts
       → y.inside ≡ x.inside → Lasts x y → (IsByItself x → Alone v) → AfterInside x y r.arena r Do Alone (Ok v)
   after_acts acts are d inside lasts alone = record {
     did = record { own = d.own; does = record { acts = acts; are = are; entries = d.does }; makes = d.makes };
@@ -65,7 +61,7 @@ module _ {x y : View} {r : Region} (can : IsIn x r.arena r) where
 -- ---- refused
 
 -- Of a call that was refused by its arguments.
-after_refused : {X : Type 0} {x : View} {found : Result ℕ Refusal} {r : Region} {Alone : X → Type 0} {e : Refusal}
+pub after_refused : {X : Type 0} {x : View} {found : Result ℕ Refusal} {r : Region} {Alone : X → Type 0} {e : Refusal}
     (Do : ℕ → Result X Refusal → Acts → Type 0) (result : Result X Refusal) → IsIn x r.arena r → found ≡ Err e → result ≡ Err e → IsOfArguments e
     → AfterInside x x r.arena r (ActsAt found Do) Alone result
 after_refused {x = x} {e = e} Do result can is same of = rw (is, same) (record {

@@ -1,4 +1,13 @@
 mod Alone
+mod Getting
+mod Going
+mod Handles
 mod Learning
+mod Loading
+mod Pairs
 mod Places
+mod Putting
+mod Runs
+mod Updating
+mod Values
 mod Visiting

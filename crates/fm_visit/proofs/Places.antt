@@ -6,7 +6,7 @@ use Rattle.fm_segment.specs.Region.{Region}
 use Rattle.fm_visit.specs.{Acts.{IsOfArguments}, Learnt.{IsIn, place_of_words, place_to_put}}
 
 -- The tests of a place refuse by the arguments alone.
-placed_err : (offset size align first room p : ℕ) (e : Refusal) → if_placed offset size align first room (Ok p) ≡ Err e → IsOfArguments e
+pub placed_err : (offset size align first room p : ℕ) (e : Refusal) → if_placed offset size align first room (Ok p) ≡ Err e → IsOfArguments e
 placed_err offset size align first room p e h = by_tests (nat_le (offset + size) room) (nat_eq ((first + offset) % align) 0) h where
   by_tests : (fits even : Bool) → (if fits then (if even then Ok p else Err Misaligned) else Err Bounds) ≡ Err e → IsOfArguments e
   by_tests true true h = absurd (cc)

@@ -1,7 +1,7 @@
 -- What a caller inside an arena does by one call: acts, the lowest word first, and nothing else.
 use Rattle.std.specs.Prelude.{◌≡◌, ℕ, ◌/◌, List, [], ◌∷◌, Result, Ok, Err, ⊤}
 use Rattle.fm_base.specs.declared.{caller.Caller.{Caller}, arena_id.ArenaId.{ArenaId}}
-use Rattle.fm_base.specs.declared.refusal.Refusal.{Refusal, TheVariants.{Bounds, Misaligned, ReadOnly, Unsupported}}
+use Rattle.fm_base.specs.declared.refusal.Refusal.{Refusal, TheVariants.{Bounds, IndexOut, Misaligned, ReadOnly, Unsupported}}
 use Rattle.fm_base.specs.{Calls.{Entry}, Visits.{Acts, entries_of, reads, writes}}
 
 -- these entries are the caller's acts, and the acts are as Do says
@@ -36,4 +36,5 @@ IsOfArguments Bounds = ⊤
 IsOfArguments Misaligned = ⊤
 IsOfArguments ReadOnly = ⊤
 IsOfArguments Unsupported = ⊤
+IsOfArguments (IndexOut k) = ⊤
 IsOfArguments r = ⊥

@@ -32,3 +32,20 @@ module _ (old new : View) (id : ArenaId) (r : Region) where
   AfterVisitPutWords offset words =
       AfterInside old new id r (ActsIn id r (ActsAt (place_to_put offset (length words) r) (PutsWords r.arena words)))
       (λ u. ChangesBytes old new r.arena (r.first + offset) (bytes_in words))
+
+-- ---- of any call
+
+-- of a call on a segment: what the call inside does, or that refusal
+abbrev pub AfterVisit : {X : Type 0} → View → View → ArenaId → Region → (Result X Refusal → Acts → Type 0) → (X → Type 0) → Result X Refusal → Type 0
+AfterVisit old new id r Do Alone result = AfterInside old new id r (ActsIn id r Do) Alone result
+
+abbrev pub AreOf : ArenaId → Region → Region → Type 0
+AreOf id a b = (a.arena ≡ id) × (b.arena ≡ id)
+
+-- what is done with two segments of the arena; where one is of another arena, both are refused
+abbrev pub ActsInBoth : {X : Type 0} → ArenaId → Region → Region → (Result X Refusal → Acts → Type 0) → Result X Refusal → Acts → Type 0
+ActsInBoth id a b Do result acts = (AreOf id a b × Do result acts) ⊎ (¬ (AreOf id a b) × (result ≡ Err Unsupported) × (acts ≡ []))
+
+abbrev pub AfterVisitBoth : {X : Type 0} → View → View → ArenaId → Region → Region → (Result X Refusal → Acts → Type 0) → (X → Type 0)
+    → Result X Refusal → Type 0
+AfterVisitBoth old new id a b Do Alone result = AfterInside old new id a (ActsInBoth id a b Do) Alone result

@@ -1,7 +1,10 @@
+mod handles;
+mod values;
+
 ghost use Rattle.std.specs.Prelude.{◌≡◌, ◌^◌, ◌≤◌, ◌∷◌, [], true, false, length, IfOk, IfErr, Some};
 ghost use Rattle.fm_base.specs.Learnt.{AfterEnter, AfterLeave, CanVisit};
 ghost use Rattle.fm_visit.specs.Learnt.{IsIn};
-ghost use Rattle.fm_visit.specs.Visiting.{outcome_of, AfterVisitGetWord, AfterVisitGetWords, AfterVisitPutWords};
+ghost use Rattle.fm_visit.specs.Visiting.{AreOf, outcome_of, AfterVisitGetWord, AfterVisitGetWords, AfterVisitPutWords};
 
 use crate::words::{get_word, get_words, put_words, set_word};
 use fm_base::{ArenaId, Memory, OrRefused, Refusal};
@@ -109,5 +112,14 @@ impl Visit {
         ensures no { result ≡ false → s.now.arena ≡ self.now.arena }
     {
         s.arena() != self.arena
+    }
+
+    /// Whether one of the segments is of another arena.
+    #[inline(always)]
+    fn are_elsewhere(&self, a: &Segment, b: &Segment) -> bool
+        ensures yes { result ≡ true → ¬ (AreOf self.now.arena a.now b.now) }
+        ensures no { result ≡ false → AreOf self.now.arena a.now b.now }
+    {
+        self.is_elsewhere(a) || self.is_elsewhere(b)
     }
 }

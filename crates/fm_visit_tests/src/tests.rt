@@ -1,3 +1,4 @@
+mod accesses;
 mod calls;
 mod memories;
 mod story;

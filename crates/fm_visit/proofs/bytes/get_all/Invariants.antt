@@ -1,0 +1,9 @@
+use Rattle.std.proofs.Common.{◌-◌}
+use Rattle.fm_visit.proofs.Loading.{GotUpTo}
+use Rattle.fm_visit.proofs.bytes.get_all.Given as goal
+
+abbrev pub invariant-loop-at : goal.invariant-loop-at
+invariant-loop-at g l = GotUpTo (g.M.Memory.view l.fn.m) (g.M.Memory.view l.m) l.arena l.place l.into l.at
+
+abbrev pub decreases-loop-at : goal.decreases-loop-at
+decreases-loop-at g l = l.end - l.at
