@@ -1,0 +1,107 @@
+//! Tests of the crate's calls over the repository's examples. `FMEM_REFUSALS` names a file of refusals, a line
+//! `KIND TAB GIVEN TAB NUMBERS` each.
+
+use fmem::{Error, Kind, Place, measure, places, query};
+use std::fs;
+
+fn example(name: &str) -> Vec<u8> {
+    fs::read(format!(
+        "{}/../../examples/{name}",
+        env!("CARGO_MANIFEST_DIR")
+    ))
+    .expect("the example is there")
+}
+
+fn text(name: &str) -> String {
+    String::from_utf8(example(name)).expect("the example is text")
+}
+
+#[test]
+fn answers_as_the_program_prints() {
+    let (layout, sales) = (text("sale_layout"), example("two_sales"));
+    let asked = "count,sum(.price),list(.tags[]) where .kind>=2";
+    assert_eq!(query(&layout, asked, &sales), Ok(text("sale_answer")));
+    assert_eq!(places(&layout), Ok(text("sale_listing")));
+    assert_eq!(measure(&layout), Ok((24, 8)));
+    assert_eq!(query(&layout, "count", &[]), Ok("count 0\n".into()));
+    let bytes: Vec<u8> = (0..131_072).map(|k| k as u8).collect();
+    let listed = query(r#"{"type":"byte"}"#, "list(.)", &bytes).expect("bytes are listed");
+    assert_eq!(listed.split(' ').count(), 131_073);
+}
+
+#[test]
+fn reads_by_places() {
+    let (layout, sales) = (text("sale_layout"), example("two_sales"));
+    let tag = Place::of(&layout, ".tags[]").expect("a place");
+    assert_eq!(
+        (tag.kind(), tag.record_size(), tag.strides().len()),
+        (Kind::Byte, 24, 1)
+    );
+    assert_eq!(
+        (tag.at(&[3]), tag.at(&[4]), tag.at(&[])),
+        (Some(19), None, None)
+    );
+    assert_eq!(tag.get(&sales[24..], &[3]), Some(-1));
+    let price = Place::of(&layout, ".price").expect("a place");
+    assert_eq!(price.get(&sales[24..], &[]), Some(-40));
+    assert_eq!(price.get(&sales[24..30], &[]), None);
+    let back = Place::of(&layout, ".tags[3:-2]").expect("a place");
+    assert_eq!((back.at(&[0]), back.at(&[1])), (Some(19), Some(17)));
+}
+
+#[test]
+fn refuses_each_with_its_numbers() {
+    let Ok(file) = std::env::var("FMEM_REFUSALS") else {
+        return;
+    };
+    let (layout, sales) = (text("sale_layout"), example("two_sales"));
+    let rows = fs::read_to_string(file).expect("the rows are there");
+    for row in rows.lines() {
+        let [kind, given, numbers] = row.split('\t').collect::<Vec<_>>()[..] else {
+            panic!("{row}")
+        };
+        let came = match kind {
+            "layout" => places(given),
+            "records" => query(given, "count", &[]),
+            _ => query(&layout, given, &sales),
+        };
+        assert_eq!(came.expect_err(given).to_string(), numbers, "{given}");
+    }
+    for rest in 1..24 {
+        let refused = Error::Refused {
+            number: 51,
+            arguments: [Some(rest), None],
+        };
+        assert_eq!(
+            query(&layout, "count", &sales[..24 + rest as usize]),
+            Err(refused)
+        );
+    }
+    let refused = Error::Refused {
+        number: 10,
+        arguments: [Some(0), None],
+    };
+    assert_eq!(
+        query(r#"{"type":"byte"}"#, "count", &vec![0; 67_108_865]),
+        Err(refused)
+    );
+}
+
+#[test]
+fn serves_eight_threads_by_one_place() {
+    let (layout, sales) = (text("sale_layout"), example("two_sales"));
+    let tag = Place::of(&layout, ".tags[]").expect("a place");
+    std::thread::scope(|scope| {
+        for _ in 0..8 {
+            scope.spawn(|| {
+                for _ in 0..100 {
+                    assert_eq!(tag.get(&sales, &[2]), Some(3));
+                    assert_eq!(
+                        query(&layout, "sum(.price)", &sales),
+                        Ok("sum(.price) 210\n".into())
+                    );
+                }
+            });
+        }
+    });
+}

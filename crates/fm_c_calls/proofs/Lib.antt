@@ -1,0 +1,5 @@
+mod Outcomes
+mod Querying
+mod Room
+mod Standing
+mod Words

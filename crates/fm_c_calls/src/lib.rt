@@ -1,0 +1,35 @@
+//! Layouts, paths and queries for callers that have bytes and numbers alone, as those in C.
+//!
+//! **The problem.** C passes numbers, and slices as pointers and lengths: no layout, no list, no `Result`. And it keeps
+//! to no contract, so none of its values may be one that a call rests on.
+//!
+//! **The idea.** Each call here takes bytes and puts what it finds into memory of its caller's: a first part, as far as
+//! there is room, and how long the whole is. What came of it is a [`Report`]. A resolved path is plain numbers, a
+//! [`Place`], which any number of threads may read; whoever calls by it is tested, not trusted.
+//!
+//! **Both sides.** `fm_c` exports each call under C's rules, in a line, with the clause that stands here.
+//!
+//! **Why it is safe.** Nothing is kept between two calls, and nothing is shared but what no call changes.
+//!
+//! **What is not promised.** That the caller's pointers are good, and that nobody changes the bytes meanwhile. Pools
+//! aren't offered: their calls may wait, and C has nothing to wait with.
+#![tactic(auto)]
+
+mod answering;
+mod extent;
+mod held;
+mod laws;
+mod output;
+mod place;
+mod places;
+mod printing;
+mod reading;
+mod report;
+
+pub use answering::{answer_over, put_answer, read_query};
+pub use extent::{Extent, measure};
+pub use laws::reports_say_refusals;
+pub use place::{Place, Stride, put_place};
+pub use places::list;
+pub use printing::put_report;
+pub use report::Report;

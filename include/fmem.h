@@ -1,0 +1,115 @@
+/*
+ * Layouts, paths and queries over bytes in memory: the calls of the static library fm_c.
+ *
+ * Each call takes slices, as a pointer and a count, and puts what it finds into memory of the caller's. Its answer is 0,
+ * or the number of a refusal; the report tells that number, the refusal's arguments, and how long the whole output is.
+ *
+ * Too little room: the output gets the first part that there is room for, what lies behind it stays, the answer is 0, and
+ * `length` says how much the whole takes. So a call with no room asks for the length. A refused call puts nothing but
+ * the report.
+ *
+ * Threads: a call keeps nothing and shares nothing. Any number of threads may call at once, over the same layout, path,
+ * query, records and place, as long as nobody changes these meanwhile, and each call has an output and a report of its own.
+ *
+ * Ownership: the caller owns all memory that it passes. Nothing needs to be given back.
+ *
+ * What the caller owes: no pointer is NULL, not even where its count is 0; each points to as many items as the count says,
+ * aligned for them; outputs and reports overlap neither each other nor what is read; a count is below 2^63. Calls come
+ * neither from a signal handler nor from the forked child of a process with threads. malloc, realloc and free are of one
+ * allocator. Values are never owed: whatever bytes and numbers are passed, the call answers as it says here.
+ *
+ * Refusals have the numbers and arguments that docs/REFUSALS.md lists. FM_MEMORY may come from any call.
+ */
+#ifndef FMEM_H
+#define FMEM_H
+
+#include <stddef.h>
+#include <stdint.h>
+
+#ifdef __cplusplus
+extern "C" {
+#endif
+
+enum {
+    FM_NO_ROOM = 10,  /* more than FM_MOST_RECORDS bytes of records; its argument is 0 */
+    FM_RAGGED = 51,   /* the records end with this many bytes more than whole ones */
+    FM_NOT_TEXT = 60, /* a path or a query isn't UTF-8 behind so many bytes */
+    FM_MEMORY = 99    /* memory ran out */
+};
+
+/* The most bytes of records. */
+#define FM_MOST_RECORDS 67108864
+
+/* What came of a call. */
+struct fm_report {
+    uint64_t number;    /* 0 where the call was answered, else the refusal's number */
+    uint64_t arguments; /* how many arguments the refusal has: 0, 1 or 2 */
+    uint64_t first;     /* the first of them, else 0 */
+    uint64_t second;    /* the second of them, else 0 */
+    uint64_t length;    /* how long the whole output is, in bytes or items; 0 where the call was refused */
+};
+
+/* How long a layout is and how it is aligned, in bytes. */
+struct fm_extent {
+    uint64_t size;
+    uint64_t alignment;
+};
+
+enum fm_kind { FM_BYTE, FM_BOOLEAN, FM_CHAR, FM_SHORT, FM_INT, FM_LONG };
+enum fm_order { FM_LITTLE, FM_BIG };
+
+/* Where a path leads. Sizes and offsets are in bytes. It is plain data: copy it, share it, forget it. */
+struct fm_place {
+    uint64_t offset;         /* of the value in its record, at index 0 for each open step */
+    uint64_t kind;           /* an enum fm_kind */
+    uint64_t order;          /* an enum fm_order */
+    uint64_t alignment;      /* of the value */
+    uint64_t root_size;      /* of the record */
+    uint64_t root_alignment; /* of the record */
+};
+
+/* An open step of a path: the value at index i, which is below the bound, stands i times the stride further on. */
+struct fm_stride {
+    int64_t stride;
+    uint64_t bound;
+};
+
+/*
+ * Puts how long the layout is whose JSON the bytes are, and how it is aligned.
+ * Refused: 40, where the bytes are no JSON; 41, 20 to 24, where that is no layout.
+ */
+uint64_t fm_layout(const uint8_t *layout, size_t layout_length, struct fm_extent *extent, struct fm_report *report);
+
+/*
+ * Puts the text that lists the layout's places, as `fmem layout` prints it: its size, its alignment, and a line for each
+ * value. Refused: as fm_layout.
+ */
+uint64_t fm_places(const uint8_t *layout, size_t layout_length, uint8_t *out, size_t room, struct fm_report *report);
+
+/*
+ * Puts where the path leads in the layout, and the strides of its open steps, in their order; `length` is how many
+ * these are. At indices below the bounds the value lies inside the record, and no sum on the way passes 64 bits.
+ * Refused, in this order: as fm_layout; 60, where the path isn't UTF-8; 50, where it is no path; 30 to 36, where it leads
+ * to no value.
+ */
+uint64_t fm_place(const uint8_t *layout, size_t layout_length, const uint8_t *path, size_t path_length,
+                  struct fm_place *place, struct fm_stride *strides, size_t room, struct fm_report *report);
+
+/*
+ * Puts the text of what the query answers over records of the layout, which lie side by side, as `fmem query` prints it.
+ * The records are copied once, into memory of the call's own, so it takes as much memory as they do, and the text's.
+ * Refused, in this order: as fm_layout; 25 or 22, where no records are of the layout; 60, where the query isn't UTF-8; 50,
+ * where it is no query; 30 to 36, where it asks for no value; 10 with 0, where the records are longer than
+ * FM_MOST_RECORDS; 51, where they are no whole number of records.
+ */
+uint64_t fm_query(const uint8_t *layout, size_t layout_length, const uint8_t *query, size_t query_length,
+                  const uint8_t *records, size_t records_length, uint8_t *out, size_t room, struct fm_report *report);
+
+/* Puts the text of the refusal that a report tells, as the program prints it: its number and then its arguments. */
+uint64_t fm_refusal(const struct fm_report *told, uint8_t *out, size_t room, struct fm_report *report);
+
+#ifdef __cplusplus
+}
+#endif
+
+#endif
