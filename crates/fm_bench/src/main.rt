@@ -5,6 +5,8 @@
 //! `firsts COUNT` and `lasts COUNT` of 64 bytes in the first and in the last page of 4,096,
 //! `gives COUNT` of 8 bytes at a time, `loads COUNT` from a plain vector,
 //! `adds COUNT`, `swaps COUNT` and `patches COUNT` of a word in one visit, `draws COUNT` of a pass that is gathered each time,
+//! `polls COUNT` of an arena that a reader stays in and `looks COUNT` of its mark, `sets ROUNDS` of 64 arenas closed at once
+//! and `rows ROUNDS` of 64 closed one after another,
 //! and `beside COUNT THREADS` and `apart COUNT THREADS` of visits by threads whose marks lie 64 words and 8 words apart.
 //! `fm_bench_shared` has those that go through segments and handles.
 //!
@@ -22,6 +24,7 @@ mod crews;
 mod gates;
 mod loads;
 mod opens;
+mod polls;
 mod pools;
 mod reuse;
 mod stress;
@@ -33,6 +36,7 @@ use crate::crews::{crowd, draws};
 use crate::gates::{closes, gates, hops, nexts, spreads};
 use crate::loads::loads;
 use crate::opens::{empties, firsts, gives, grows, lasts, opens, wipes};
+use crate::polls::{By, polls, rows, sets};
 use crate::reuse::reuse;
 use crate::stress::{Trial, stress};
 use crate::updates::{Update, updates};
@@ -137,6 +141,19 @@ fn run_on_pages<R: Threads + Wait + Sync>(rt: &R, alloc: Global, asked: &Asked) 
         "firsts" => firsts(rt, alloc, count),
         "lasts" => lasts(rt, alloc, count),
         "gives" => gives(rt, alloc, count),
+        _ => return run_polls(rt, alloc, asked),
+    };
+    joined.ok()
+}
+
+/// The same of the loops that close arenas by polls, and of those behind them.
+fn run_polls<R: Threads + Wait + Sync>(rt: &R, alloc: Global, asked: &Asked) -> Option<u64> {
+    let count = asked.count;
+    let joined = match asked.what.as_str() {
+        "polls" => polls(rt, alloc, count, By::Poll),
+        "looks" => polls(rt, alloc, count, By::Visit),
+        "sets" => sets(rt, alloc, count),
+        "rows" => rows(rt, alloc, count),
         _ => return run_updates(rt, alloc, asked),
     };
     joined.ok()

@@ -3,9 +3,10 @@
 //! Sales stand side by side in an arena that two threads share. Their prices are put and added up through a handle, in
 //! loops; then one thread adds to the first price while the other closes the arena, and whoever comes later is refused. So
 //! it goes on each of two days, with a worker of its own each: the first one's pass is gathered, and the second one gets
-//! its number again.
+//! its number again. At last two arenas are closed beside other work (`closes`).
 #![tactic(auto)]
 
+mod closes;
 mod prices;
 
 ghost use Rattle.std.specs.Prelude.{◌≡◌, IfOk, None, [], length};
@@ -16,6 +17,7 @@ ghost use Rattle.fm_rule_calls.specs.Told.{view_of_pass};
 ghost use Rattle.fm_gate.specs.Crews.{HasNothing};
 ghost use Rattle.fm_handle.specs.Learnt.{CanPut};
 
+use crate::closes::close_beside_work;
 use crate::prices::{SALE_SIZE, SALES, add_up, put_prices};
 use fm_arena::{Arena, Shared, a_worker_can_be_gathered, keeps_its_pool};
 use fm_base::{Kind, Refusal};
@@ -64,7 +66,7 @@ fn main(rt: HostRuntime) -> ExitCode {
         Ok((first, second)) => print_day(&rt, 1, first).and_then(|()| print_day(&rt, 2, second)),
         Err(refusal) => println!(rt; "refused {refusal}"),
     };
-    match printed {
+    match printed.and_then(|()| print_jobs(&rt, close_beside_work(&rt, rt.alloc()))) {
         Ok(()) => ExitCode::SUCCESS,
         Err(_) => ExitCode::FAILURE,
     }
@@ -77,6 +79,14 @@ fn print_day(rt: &HostRuntime, day: u32, found: Found) -> std::io::Result<()> {
         "day {day}: put {:?}, {} in all\nadded or too late {in_time}\nafter {:?}",
         found.put, found.total, found.after
     )
+}
+
+/// Prints how many jobs were done while two arenas were closed.
+fn print_jobs(rt: &HostRuntime, jobs: Result<u32, Refusal>) -> std::io::Result<()> {
+    match jobs {
+        Ok(jobs) => println!(rt; "closed beside {jobs} jobs"),
+        Err(refusal) => println!(rt; "refused {refusal}"),
+    }
 }
 
 /// Makes the handle and a pool, and sells on two days.
