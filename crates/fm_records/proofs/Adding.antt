@@ -8,7 +8,7 @@ use Rattle.fm_segment.specs.Region.{Region}
 use Rattle.fm_path_meaning.specs.{Walk.{offset_at, reach}, declared.dim.Dim.{Dim}}
 use Rattle.fm_path.specs.declared.value_spec.ValueSpec.{ValueSpec}
 use Rattle.fm_records.specs.{declared.found.Found.{Found}, Values.{index_lists}, Few.{HasRoom}, Adds.{AddsNumbers, with_number}, Paths.{AddsAll}}
-use Rattle.fm_records.{specs.{Reads.{GetsNumber, Sees, TakesNumber, value_places}, Words.{Seen, kept_last}}, proofs.Behind.{range_append}}
+use Rattle.fm_records.{specs.{Reads.{GetsNumber, Sees, TakesNumber, value_places}, Words.{Seen}}, proofs.Behind.{range_append}}
 use Rattle.fm_records.proofs.{Few.{adds_room, room_less}, Seeing.{sees_err, sees_ok, sees_want}, Turns.{turn_cut, turn_none, turn_on, turn_one}}
 
 -- ---- one value
@@ -73,38 +73,38 @@ module _ (place at : ℕ) (d : Dim) (ds : List Dim) where
       sym (places_by_first place at d ds ∙ ap (rows 0) sum ∙ rows_split 0 i (d.bound - i) ∙ ap (λ j. rows 0 i ++ rows j (d.bound - i)) here)
 
 -- what was found when the values at the first indices below i were added, and what is kept then
-pub record AreAdded (old now : View) (s : Region) (place at : ℕ) (d : Dim) (ds : List Dim) (spec : ValueSpec) (k l : List Seen) (f g : Found) (i : ℕ) : Type 0 where
-  pub did : Sees old now s (AddsNumbers kept_last spec k (rows place at d ds 0 i) f g l) (Ok (tt {0}))
+pub record AreAdded (keeps : List Seen → Seen → List Seen) (old now : View) (s : Region) (place at : ℕ) (d : Dim) (ds : List Dim) (spec : ValueSpec) (k l : List Seen) (f g : Found) (i : ℕ) : Type 0 where
+  pub did : Sees old now s (AddsNumbers keeps spec k (rows place at d ds 0 i) f g l) (Ok (tt {0}))
 
 -- no value yet
-pub added_start : {s : Region} {place at : ℕ} {d : Dim} {ds : List Dim} {spec : ValueSpec} {k : List Seen} {f : Found} (v : View)
-    → AreAdded v v s place at d ds spec k k f f 0
-added_start {spec = spec} {k} {f} v = record { did = turn_none (TakesNumber kept_last spec) with_number v f k }
+pub added_start : {keeps : List Seen → Seen → List Seen} {s : Region} {place at : ℕ} {d : Dim} {ds : List Dim} {spec : ValueSpec} {k : List Seen} {f : Found} (v : View)
+    → AreAdded keeps v v s place at d ds spec k k f f 0
+added_start {keeps} {spec = spec} {k} {f} v = record { did = turn_none (TakesNumber keeps spec) with_number v f k }
 
-module _ {old now : View} {s : Region} {place at : ℕ} {d : Dim} {ds : List Dim} {spec : ValueSpec} {k l : List Seen} {f g : Found} {i : ℕ}
-    (a : AreAdded old now s place at d ds spec k l f g i) where
+module _ {keeps : List Seen → Seen → List Seen} {old now : View} {s : Region} {place at : ℕ} {d : Dim} {ds : List Dim} {spec : ValueSpec} {k l : List Seen} {f g : Found} {i : ℕ}
+    (a : AreAdded keeps old now s place at d ds spec k l f g i) where
   -- the values at the next first index were read
-  pub added_more : {next : View} {m : List Seen} {h : Found} (u : Unit {0}) → AddsAll kept_last now next s place (reach at d.stride i) ds spec l m g h (Ok u)
-      → AreAdded old next s place at d ds spec k m f h (i + 1)
+  pub added_more : {next : View} {m : List Seen} {h : Found} (u : Unit {0}) → AddsAll keeps now next s place (reach at d.stride i) ds spec l m g h (Ok u)
+      → AreAdded keeps old next s place at d ds spec k m f h (i + 1)
   added_more {next} {m} {h} u did = record {
-    did = subst (λ (ps : List ℕ). Sees old next s (AddsNumbers kept_last spec k ps f h m) (Ok u)) (rows_more place at d ds i)
-        (turn_on (TakesNumber kept_last spec) with_number (rows place at d ds 0 i) (row place at d ds i) f g h (Ok u) a.did did);
+    did = subst (λ (ps : List ℕ). Sees old next s (AddsNumbers keeps spec k ps f h m) (Ok u)) (rows_more place at d ds i)
+        (turn_on (TakesNumber keeps spec) with_number (rows place at d ds 0 i) (row place at d ds i) f g h (Ok u) a.did did);
   }
 
   -- or up to a refusal
   pub added_stops : {next : View} {m : List Seen} (h : Found) (r : Refusal) → i < d.bound
-      → AddsAll kept_last now next s place (reach at d.stride i) ds spec l m g h (Err r) → AddsAll kept_last old next s place at (d ∷ ds) spec k m f h (Err r)
+      → AddsAll keeps now next s place (reach at d.stride i) ds spec l m g h (Err r) → AddsAll keeps old next s place at (d ∷ ds) spec k m f h (Err r)
   added_stops {next} {m} h r below did =
-      let T = TakesNumber kept_last spec in
-      let here = subst (λ (ps : List ℕ). Sees old next s (AddsNumbers kept_last spec k ps f h m) (Err r)) (rows_more place at d ds i)
-      (turn_on (TakesNumber kept_last spec) with_number (rows place at d ds 0 i) (row place at d ds i) f g h (Err r) a.did did) in
-      subst (λ (ps : List ℕ). Sees old next s (AddsNumbers kept_last spec k ps f h m) (Err r)) (rows_all place at d ds (i + 1) (omega (arith, below)))
+      let T = TakesNumber keeps spec in
+      let here = subst (λ (ps : List ℕ). Sees old next s (AddsNumbers keeps spec k ps f h m) (Err r)) (rows_more place at d ds i)
+      (turn_on (TakesNumber keeps spec) with_number (rows place at d ds 0 i) (row place at d ds i) f g h (Err r) a.did did) in
+      subst (λ (ps : List ℕ). Sees old next s (AddsNumbers keeps spec k ps f h m) (Err r)) (rows_all place at d ds (i + 1) (omega (arith, below)))
       (turn_cut T with_number (rows place at d ds 0 (i + 1)) (rows place at d ds (i + 1) (d.bound - (i + 1))) f h r here)
 
   -- all were
-  pub added_all : i ≡ d.bound → AddsAll kept_last old now s place at (d ∷ ds) spec k l f g (Ok (tt {0}))
+  pub added_all : i ≡ d.bound → AddsAll keeps old now s place at (d ∷ ds) spec k l f g (Ok (tt {0}))
   added_all is =
-      subst (λ (ps : List ℕ). Sees old now s (AddsNumbers kept_last spec k ps f g l) (Ok (tt {0})))
+      subst (λ (ps : List ℕ). Sees old now s (AddsNumbers keeps spec k ps f g l) (Ok (tt {0})))
       (ap (rows place at d ds 0) is ∙ sym (places_by_first place at d ds)) a.did
 
   -- there is room for the values at the next one

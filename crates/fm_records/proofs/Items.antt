@@ -12,8 +12,8 @@ use Rattle.fm_records_query.specs.declared.item.Asked.TheVariants as asked
 use Rattle.fm_records.specs.declared.found.Found.{Found, TheVariants.{Count, Sum, Least, Greatest, Listed}}
 use Rattle.fm_records.specs.{Answers.{folded, lesser, greater, least_of, greatest_of}, Joined.{both, joined}}
 use Rattle.fm_records.specs.{Adds.{AddsItem, AddsItems, AddsNumbers, all_added, IsReadable, ReachesInside, with_number}, Few.{HasRoom, how_many, IsOpen}}
-use Rattle.fm_records.specs.{Paths.{AddsAll, CanAddAll, HasIndices}, Values.{index_lists}}
-use Rattle.fm_records.specs.Reads.{no_turn, CanRead, short_turn, FindsAsked, FindsItems, next_turn, Sees, TakesNumber, TakesNumbers, TakesPath, value_places}
+use Rattle.fm_records.specs.{Paths.{AddsAll}, Values.{index_lists}}
+use Rattle.fm_records.specs.Reads.{no_turn, short_turn, FindsAsked, FindsItems, next_turn, Sees, TakesNumber, TakesNumbers, TakesPath, value_places}
 use Rattle.fm_records.{specs.{Words.{Seen, kept_all, kept_last}, Texts.{IsFolded, IsFoundOf}}, proofs.{Ends.{lesser-lesser, greater-greater}, Few.{sums}}}
 use Rattle.fm_records.proofs.{Reaching.{wide_inside, wide_many, wide_places}, Steps.{zip_at}, Seeing.{sees_as, sees_none, sees_on}}
 use Rattle.fm_records.proofs.Turns.{in_turn_on, in_turn_cut, in_turn_one, turn_none}
@@ -48,17 +48,6 @@ with_numbers_both fold.Greatest (Greatest o) ns is = greatests o ns
 with_numbers_both fold.All (Listed zs) ns is = lists zs ns
 with_numbers_both f found ns is = absurd is
 
--- no open steps, or some
-pub is_none : {ds : List Dim} → length ds ≡ 0 → ds ≡ []
-is_none {ds = []} h = refl
-is_none {ds = d ∷ ds} h = absurd (omega (arith, h))
-
-pub is_some : {ds : List Dim} → ¬ (length ds ≡ 0) → ds ≢ []
-is_some {ds} h e = h (ap length e)
-
-pub some_none : {ds : List Dim} → ds ≡ [] → HasIndices ds
-some_none {ds} e = subst HasIndices (sym e) ([], tt)
-
 -- a path's values, by what calls gave of it
 module _ (s : Region) (place : ℕ) (a : Asked) {f : Fold} {r : Resolution} {n : ℕ} {ds : List Dim} {v : ValueSpec} (is : a ≡ asked.Of f r)
     (is_n : n ≡ r.offset) (is_ds : ds ≡ wide_dims r.dims) (is_v : v ≡ r.value) where
@@ -79,10 +68,6 @@ module _ (s : Region) (place : ℕ) (a : Asked) {f : Fold} {r : Resolution} {n :
   item_room found room =
       let many = ap (λ (xs : List Dim). length (index_lists xs)) is_ds ∙ wide_many r.dims in
       subst (HasRoom found) (ap how_many is ∙ sym many) room
-
-  pub item_can : {view : View} {found : Found} → CanRead view s → HasIndices ds → IsReadable s place a → HasRoom found (how_many a)
-      → CanAddAll view s place n ds v found
-  item_can {view} {found} can some readable room = record { can = can; some = some; inside = item_inside readable; room = item_room found room }
 
   -- what was read of them is what the item finds
   found_there : (k l : List Seen) (g h : Found) (result : Result (Unit {0}) Refusal) (own : List Seen) (ns : List ℤ) → IsFoundOf a g

@@ -7,8 +7,8 @@ use Rattle.fm_lanes.specs.Kind.{width_of}
 use Rattle.fm_path.specs.{Wide.{is_wide, wide_dims}, declared.value_spec.ValueSpec.{ValueSpec}}
 use Rattle.fm_path_meaning.specs.{declared.dim.Dim.{Dim}, Steady.{IsInside, IsSteady}, Walk.{AreAdmitted, offset_at, reach}}
 use Rattle.fm_segment.specs.Region.{Region}
-use Rattle.fm_records.specs.{declared.found.Found.{Found}, Adds.{ReachesInside}, Paths.{AddsAll, CanAddAll, HasIndices}, Reads.{LiesIn, value_places}}
-use Rattle.fm_records.{specs.{Values.{index_lists}, Words.{Seen, kept_last}}, proofs.Adding.{AreAdded, added_more, added_room, added_stops, places_by_first}}
+use Rattle.fm_records.specs.{declared.found.Found.{Found}, Adds.{ReachesInside}, Few.{HasRoom}, Paths.{AddsAll, CanAddAll, HasIndices}, Reads.{CanRead, LiesIn, value_places}}
+use Rattle.fm_records.{specs.{Values.{index_lists}, Words.{Seen}}, proofs.Adding.{AreAdded, added_more, added_room, added_stops, places_by_first}}
 use Rattle.fm_records.proofs.Seeing.{sees_still}
 use Rattle.fm_base_lists.proofs.Mapped.{flat_map-same}
 
@@ -21,38 +21,52 @@ some_behind d ds h = by h.0 h.1
     by (i ∷ is) a = (is, a.1)
 
 -- the next turn of a loop over that step: what it may do, and what it did
-module _ {old now : View} {s : Region} {place at : ℕ} {d : Dim} {ds : List Dim} {spec : ValueSpec} {k l : List Seen} {f g : Found} {i : ℕ}
-    (can : CanAddAll old s place at (d ∷ ds) spec f) (a : AreAdded old now s place at d ds spec k l f g i) (below : i < d.bound) where
+module _ {keeps : List Seen → Seen → List Seen} {old now : View} {s : Region} {place at : ℕ} {d : Dim} {ds : List Dim} {spec : ValueSpec} {k l : List Seen}
+    {f g : Found} {i : ℕ} (can : CanAddAll old s place at d ds spec f) (a : AreAdded keeps old now s place at d ds spec k l f g i) (below : i < d.bound) where
   pub turn_inside : IsInside at d.stride i
-  turn_inside = let some = some_behind d ds can.some in (can.inside.steady (i ∷ some.0) (below, some.1)).0
+  turn_inside = (can.inside.steady (i ∷ can.some.0) (below, can.some.1)).0
+
+  -- reading can go on, and there is room
+  pub turn_still : CanRead now s
+  turn_still = sees_still can.can a.did
 
   module _ {next : ℕ} (comes : next ≡ reach at d.stride i) where
-    pub turn_can : CanAddAll now s place next ds spec g
-    turn_can = subst (λ (n : ℕ). CanAddAll now s place n ds spec g) (sym comes) (record {
-      can = sees_still can.can a.did;
-      some = some_behind d ds can.some;
-      inside = record {
+    -- at a value
+    pub turn_lies : ds ≡ [] → LiesIn s (place + next) (width_of spec.kind)
+    turn_lies none =
+        let lies = subst (λ (es : List Dim). ReachesInside s place at (d ∷ es) spec) none can.inside in
+        subst (λ (n : ℕ). LiesIn s (place + n) (width_of spec.kind)) (sym comes) (lies.lies (i ∷ []) (below, tt))
+
+    pub turn_room : ds ≡ [] → HasRoom g 1
+    turn_room none = subst (λ (es : List Dim). HasRoom g (length (index_lists es))) none (added_room a below can.room)
+
+    -- at a row
+    pub turn_can : {e : Dim} {es : List Dim} → ds ≡ e ∷ es → CanAddAll now s place next e es spec g
+    turn_can {e} {es} some = record {
+      can = turn_still;
+      some = some_behind e es (subst HasIndices some can.some);
+      inside = subst (λ (xs : List Dim). ReachesInside s place next xs spec) some (subst (λ (n : ℕ). ReachesInside s place n ds spec) (sym comes) (record {
         steady = λ is h. (can.inside.steady (i ∷ is) (below, h)).1;
         lies = λ is h. can.inside.lies (i ∷ is) (below, h);
-      };
-      room = added_room a below can.room;
-    })
+      }));
+      room = subst (λ (xs : List Dim). HasRoom g (length (index_lists xs))) some (added_room a below can.room);
+    }
 
-    pub turn_added : {new : View} {m : List Seen} (h : Found) (u : Unit {0}) → AddsAll kept_last now new s place next ds spec l m g h (Ok u)
-        → AreAdded old new s place at d ds spec k m f h (i + 1)
-    turn_added {new} {m} h u e = added_more a u (subst (λ (n : ℕ). AddsAll kept_last now new s place n ds spec l m g h (Ok u)) comes e)
+    module _ {es : List Dim} (is : ds ≡ es) where
+      pub turn_added : {new : View} {m : List Seen} (h : Found) (u : Unit {0}) → AddsAll keeps now new s place next es spec l m g h (Ok u)
+          → AreAdded keeps old new s place at d ds spec k m f h (i + 1)
+      turn_added {new} {m} h u e =
+          added_more a u (subst (λ (n : ℕ). AddsAll keeps now new s place n ds spec l m g h (Ok u)) comes
+          (subst (λ (xs : List Dim). AddsAll keeps now new s place next xs spec l m g h (Ok u)) (sym is) e))
 
-    pub turn_stops : {new : View} {m : List Seen} (h : Found) (r : Refusal) → AddsAll kept_last now new s place next ds spec l m g h (Err r)
-        → AddsAll kept_last old new s place at (d ∷ ds) spec k m f h (Err r)
-    turn_stops {new} {m} h r e = added_stops a h r below (subst (λ (n : ℕ). AddsAll kept_last now new s place n ds spec l m g h (Err r)) comes e)
-
--- with no open step
-pub closed_lies : {v : View} {s : Region} {place at : ℕ} {spec : ValueSpec} {f : Found} → CanAddAll v s place at [] spec f
-    → LiesIn s (place + at) (width_of spec.kind)
-closed_lies can = can.inside.lies [] tt
+      pub turn_stops : {new : View} {m : List Seen} (h : Found) (r : Refusal) → AddsAll keeps now new s place next es spec l m g h (Err r)
+          → AddsAll keeps old new s place at (d ∷ ds) spec k m f h (Err r)
+      turn_stops {new} {m} h r e =
+          added_stops a h r below (subst (λ (n : ℕ). AddsAll keeps now new s place n ds spec l m g h (Err r)) comes
+          (subst (λ (xs : List Dim). AddsAll keeps now new s place next xs spec l m g h (Err r)) (sym is) e))
 
 -- a bound of 0 leaves no list of indices
-none_led : (iss : List (List ℕ)) (xs : List ℕ) → iss ≡ [] → flat_map (λ i. map (λ is. i ∷ is) iss) xs ≡ []
+pub none_led : (iss : List (List ℕ)) (xs : List ℕ) → iss ≡ [] → flat_map (λ i. map (λ is. i ∷ is) iss) xs ≡ []
 none_led iss [] e = refl
 none_led iss (x ∷ xs) e = ap (λ ys. ys ++ flat_map (λ i. map (λ is. i ∷ is) iss) xs) (ap (map (λ is. x ∷ is)) e) ∙ none_led iss xs e
 

@@ -12,7 +12,7 @@ use Rattle.fm_records.proofs.Visiting.{can_still}
 
 -- ---- their entries
 
-visits_on : {X : Type 0} (c : Caller) (id : ArenaId) (es fs : List Seen) (result : Result X Refusal)
+pub visits_on : {X : Type 0} (c : Caller) (id : ArenaId) (es fs : List Seen) (result : Result X Refusal)
     → flat_map (read_visit c id) es ++ visits_to c id result fs ≡ visits_to c id result (es ++ fs)
 visits_on c id es fs (Ok x) = sym (flat_map-append (read_visit c id) es fs)
 visits_on c id es fs (Err Closed) =

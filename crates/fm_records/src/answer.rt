@@ -93,10 +93,7 @@ fn join_from(found: &mut Vec<Found>, next: &Vec<Found>, k: usize) -> Result<(), 
     if k >= next.len() {
         return Ok(());
     }
-    match found[k].lengthen(&next[k]) {
-        Ok(()) => {}
-        Err(refusal) => return Err(refusal),
-    }
+    found[k].lengthen(&next[k])?;
     match join_from(found, next, k + 1) {
         Ok(()) => {
             found[k].add(&next[k]);

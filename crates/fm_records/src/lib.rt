@@ -28,6 +28,7 @@ mod numbers;
 mod query;
 mod querying;
 mod record;
+mod row;
 mod stored;
 mod values;
 mod words;

@@ -36,14 +36,9 @@ pub fn query_segment<M: Memory>(
     if !may_use(m, s.arena()) {
         return Err(Refusal::WrongThread);
     }
-    let mut found = match of_no_records(alloc, q) {
-        Ok(none) => none.into_found(),
-        Err(refusal) => return Err(refusal),
-    };
-    match add_records(m, s, q, found.as_mut_slice()) {
-        Ok(()) => Ok(Answer::of(found)),
-        Err(refusal) => Err(refusal),
-    }
+    let mut found = of_no_records(alloc, q)?.into_found();
+    add_records(m, s, q, found.as_mut_slice())?;
+    Ok(Answer::of(found))
 }
 
 /// Adds what the items find in the chosen ones of the segment's records.
@@ -86,10 +81,7 @@ fn add_each<M: Memory>(
     let mut kept = Kept::none();
     let mut place = s.first();
     for _ in 0..count {
-        match add_record(m, s, place, q, &mut kept, found) {
-            Ok(()) => {}
-            Err(refusal) => return Err(refusal),
-        }
+        add_record(m, s, place, q, &mut kept, found)?;
         place += size;
     }
     Ok(())

@@ -1,18 +1,20 @@
-ghost use Rattle.std.specs.Prelude.{◌≡◌, List, [], true, false, length};
+ghost use Rattle.std.specs.Prelude.{◌≡◌, List, ◌∷◌, [], ◌≤◌, true, false, length};
 ghost use Rattle.std.specs.List.{AllByRecursion, AllZip};
 ghost use Rattle.fm_records.specs.Answers as answers;
 ghost use Rattle.fm_records.specs.Few.{HasRoom, IsOpen};
 ghost use Rattle.fm_records.specs.Adds.{AddsItem, AddsItems, IsItemReadable, IsTestable, ReachesInside};
 ghost use Rattle.fm_records.specs.Reads.{CanRead, Sees, Tests, TestsConditions, or_closed};
-ghost use Rattle.fm_records.specs.Paths.{AddsAll, CanAddAll, HasIndices};
+ghost use Rattle.fm_records.specs.Paths.{HasIndices};
+ghost use Rattle.fm_records.specs.Rows.{AddsRows};
 ghost use Rattle.fm_records.specs.Values.{index_lists};
 ghost use Rattle.fm_records.specs.Words.{Seen, kept_last};
 
 use crate::found::Found;
-use crate::values::{add_all, add_one_row, add_value, number_at};
+use crate::row::{Row, add_row, add_rows};
+use crate::values::number_at;
 use crate::words::{Kept, Last};
 use fm_base::{Memory, Refusal};
-use fm_path::{Dim, ValueSpec};
+use fm_path::Dim;
 use fm_records_query::{Asked, Condition, Item, Operator};
 use fm_segment::Segment;
 
@@ -96,10 +98,7 @@ pub(crate) fn add_items<M: Memory>(
         (AddsItems place kept.old items.now found.old found.new kept.new) result }
 {
     for k in 0..items.len() {
-        match add_item(m, s, place, &items[k], kept, &mut found[k]) {
-            Ok(()) => {}
-            Err(refusal) => return Err(refusal),
-        }
+        add_item(m, s, place, &items[k], kept, &mut found[k])?;
     }
     Ok(())
 }
@@ -125,41 +124,44 @@ fn add_item<M: Memory>(
             found.add_records(1);
             Ok(())
         }
-        Asked::Of(_, path) => {
-            let dims = path.dims().wide();
-            if dims.is_empty() {
-                return add_value(m, s, place, path.offset(), path.value(), kept, found);
+        Asked::Of(_, path) => match path.dims().wide() {
+            [] => match number_at(m, s, place + path.offset(), path.value(), kept) {
+                Some(number) => found.add_number(number),
+                None => Err(Refusal::Closed),
+            },
+            [dim, dims @ ..] => {
+                let row = Row {
+                    place,
+                    at: path.offset(),
+                    dim: *dim,
+                    value: path.value(),
+                };
+                add_open(m, s, &row, dims, found)
             }
-            add_open(m, s, place, path.offset(), dims, path.value(), found)
-        }
+        },
     }
 }
 
-/// Adds the values of a path in the record at a place, which may be none. It keeps its own last two words in place of the
+/// Adds the values of a path with open steps, which may be none. It keeps its own last two words in place of the
 /// record's.
 #[inline(always)]
 fn add_open<M: Memory>(
     m: &mut M,
     s: &Segment,
-    place: u64,
-    at: u64,
+    row: &Row<'_>,
     dims: &[Dim],
-    value: &ValueSpec,
     found: &mut Found,
 ) -> Result<(), Refusal>
     requires can { CanRead (M.view m.old) s.now }
-    requires inside { ReachesInside s.now place at dims.now value.now }
-    requires room { HasRoom found.old (length (index_lists dims.now)) }
-    ensures { (last : List Seen) × AddsAll kept_last (M.view m.old) (M.view m.new) s.now place at dims.now value.now
+    requires inside { ReachesInside s.now row.now.place row.now.at (row.now.dim ∷ dims.now) row.now.value.now }
+    requires room { HasRoom found.old (length (index_lists (row.now.dim ∷ dims.now))) }
+    ensures { (last : List Seen) × AddsRows kept_last (M.view m.old) (M.view m.new) s.now row.now dims.now
         [] last found.old found.new result }
 {
-    if has_no_values(dims) {
-        return Ok(());
+    if dims.is_empty() {
+        return add_row(m, s, row, &mut Last::None, found);
     }
-    match dims {
-        [dim] => add_one_row(m, s, place, at, *dim, value, found),
-        _ => add_many_rows(m, s, place, at, dims, value, found),
-    }
+    add_many_rows(m, s, row, dims, found)
 }
 
 /// The same of several rows. It isn't inlined, so that other paths pay nothing for it.
@@ -167,18 +169,21 @@ fn add_open<M: Memory>(
 fn add_many_rows<M: Memory>(
     m: &mut M,
     s: &Segment,
-    place: u64,
-    at: u64,
+    row: &Row<'_>,
     dims: &[Dim],
-    value: &ValueSpec,
     found: &mut Found,
 ) -> Result<(), Refusal>
-    requires { CanAddAll (M.view m.old) s.now place at dims.now value.now found.old }
-    ensures { (last : List Seen) × AddsAll kept_last (M.view m.old) (M.view m.new) s.now place at dims.now value.now
+    requires can { CanRead (M.view m.old) s.now }
+    requires some { 1 ≤ length dims.now }
+    requires inside { ReachesInside s.now row.now.place row.now.at (row.now.dim ∷ dims.now) row.now.value.now }
+    requires room { HasRoom found.old (length (index_lists (row.now.dim ∷ dims.now))) }
+    ensures { (last : List Seen) × AddsRows kept_last (M.view m.old) (M.view m.new) s.now row.now dims.now
         [] last found.old found.new result }
 {
-    let mut last = Last::None;
-    add_all(m, s, place, at, dims, value, &mut last, found)
+    if has_no_values(dims) {
+        return Ok(());
+    }
+    add_rows(m, s, row, dims, &mut Last::None, found)
 }
 
 /// Whether a bound is 0: then no indices are admitted.

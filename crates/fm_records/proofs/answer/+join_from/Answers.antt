@@ -17,19 +17,19 @@ index_mut-requires t c =
 pub add-requires : goal.add-requires
 add-requires t c =
     adds (step c.args.found.now c.args.next.now c.requires.join c.len.ensures c.if-k-len.false c.index_mut.ensures.value c.index.ensures
-    c.in-Ok.ensures.ok) c.join_from.new.found.items _ _ c.index_mut-in-Ok-join_from.ensures.value c.index-in-Ok-join_from.ensures
-    c.in-Ok-join_from.ensures.ok
+    c.in_ok-lengthen.ensures.ok) c.join_from.new.found.items _ _ c.index_mut-in-Ok.ensures.value c.index-in-Ok.ensures
+    c.in-Ok.ensures.ok
 
-pub returns-in-Ok-join_from : goal.returns-in-Ok-join_from
-returns-in-Ok-join_from t c =
+pub returns-in-Ok : goal.returns-in-Ok
+returns-in-Ok t c =
     let all = joins (step c.args.found.now c.args.next.now c.requires.join c.len.ensures c.if-k-len.false c.index_mut.ensures.value c.index.ensures
-    c.in-Ok.ensures.ok) c.join_from.new.found.items _ _ c.index_mut-in-Ok-join_from.ensures.value c.index-in-Ok-join_from.ensures
-    c.in-Ok-join_from.ensures.ok c.add.new.self c.add.ensures in
+    c.in_ok-lengthen.ensures.ok) c.join_from.new.found.items _ _ c.index_mut-in-Ok.ensures.value c.index-in-Ok.ensures
+    c.in-Ok.ensures.ok c.add.new.self c.add.ensures in
     record { ok = all; same = tt; memory = tt }
 
-pub returns-in-Err-join_from : goal.returns-in-Err-join_from
-returns-in-Err-join_from t c =
+pub returns-in-Err : goal.returns-in-Err
+returns-in-Err t c =
     let back = undoes (step c.args.found.now c.args.next.now c.requires.join c.len.ensures c.if-k-len.false c.index_mut.ensures.value c.index.ensures
-    c.in-Ok.ensures.ok) c.join_from.new.found.items _ _ c.index_mut-in-Err-join_from.ensures.value c.index-in-Err-join_from.ensures
-    c.shorten.new.self c.in-Err-join_from.ensures.same c.shorten.ensures in
-    record { ok = tt; same = back; memory = c.in-Err-join_from.ensures.memory }
+    c.in_ok-lengthen.ensures.ok) c.join_from.new.found.items _ _ c.index_mut-in-Err.ensures.value c.index-in-Err.ensures
+    c.shorten.new.self c.in-Err.ensures.same c.shorten.ensures in
+    record { ok = tt; same = back; memory = c.in-Err.ensures.memory }

@@ -1,5 +1,5 @@
 -- Records are gone through one by one.
-use Rattle.std.proofs.Common.{◌/◌, ◌<◌, ◌∙◌, ap, subst, arith}
+use Rattle.std.proofs.{Common.{◌/◌, ◌<◌, ◌∙◌, ap, subst, arith}, lemmas.Result.{err_from_is_err_and}}
 use Rattle.fm_records.proofs.{Recording.{next_lies, next_room, one_on, recorded_all, recorded_more, recorded_none, recorded_stops}, Visiting.{can_still}}
 use Rattle.fm_records.proofs.query.add_each.Goals as goal
 
@@ -21,11 +21,13 @@ add_record-requires-clause-room g c =
     next_room c.loop.invariant.0 c.loop.invariant.1 (subst (λ n. c.loop.counter < n) count c.loop-test.true) c.record_size-size.ensures.plan
     c.requires.can.ends c.requires.few
 
-pub returns-in-Err : goal.returns-in-Err
-returns-in-Err g c =
+pub returns-in_err-add_record : goal.returns-in_err-add_record
+returns-in_err-add_record g c =
     let count = ap (λ n. n / c.record_size-size.result) c.size.ensures.size ∙ ap (λ n. c.args.s.now.size / n) c.record_size-size.ensures.size in
-    recorded_stops c.loop.invariant.0 c.loop.invariant.1 (subst (λ n. c.loop.counter < n) count c.loop-test.true) c.add_record.new.found
-    c.in-Err.refusal c.in-Err.ensures
+    let p = err_from_is_err_and c.from_residual.result c.from_residual.ensures.1 in
+    rw (p.1, p.2)
+    (recorded_stops c.loop.invariant.0 c.loop.invariant.1 (subst (λ n. c.loop.counter < n) count c.loop-test.true) c.add_record.new.found
+    c.in_err-add_record.field-0.0 c.in_err-add_record.ensures)
 
 pub overflow_add-place : goal.overflow_add-place
 overflow_add-place g c =
@@ -37,7 +39,7 @@ pub loop-preserved : goal.loop-preserved
 loop-preserved g c =
     let count = ap (λ n. n / c.record_size-size.result) c.size.ensures.size ∙ ap (λ n. c.args.s.now.size / n) c.record_size-size.ensures.size in
     let next = one_on c.loop.counter c.args.q.now.size in (
-      recorded_more c.loop.invariant.0 c.loop.invariant.1 (subst (λ n. c.loop.counter < n) count c.loop-test.true) c.in-Ok.ensures,
+      recorded_more c.loop.invariant.0 c.loop.invariant.1 (subst (λ n. c.loop.counter < n) count c.loop-test.true) c.in_ok-add_record.ensures,
       omega (arith, c.loop.invariant.1, next, c.record_size-size.ensures.size),
     )
 

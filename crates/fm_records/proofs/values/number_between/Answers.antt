@@ -4,8 +4,8 @@ use Rattle.fm_lanes.{specs.Kind.{width_of}, proofs.Meaning.{width_of-bounds}}
 use Rattle.fm_records.{specs.Words.{number_of}, proofs.ByWords.{placed}}
 use Rattle.fm_records.proofs.values.number_between.Goals as goal
 
-pub overflow_add-read : goal.overflow_add-read
-overflow_add-read c =
+pub overflow_add-number : goal.overflow_add-number
+overflow_add-number c =
     let p = placed c.args.low c.args.high c.args.at (width_of c.args.value.now.kind) c.requires.at c.requires.across (width_of-bounds c.args.value.now.kind).1 in
     rw (c.read.ensures, c.read-2.ensures, c.width.ensures, p.whole) (let f = p.fits in omega arith)
 

@@ -1,6 +1,6 @@
 use Rattle.std.{proofs.{Common.{rules, ◌≡◌, ap, ◌∙◌}, lemmas.Int.{to_z-of_z}}, specs.Int.{w64, cast_unsigned, cast_signed}}
 use Rattle.fm_path.proofs.Indices.{moves}
-use Rattle.fm_records.proofs.values.reach_of.Goals as goal
+use Rattle.fm_records.proofs.row.reach_of.Goals as goal
 
 pub returns : goal.returns
 returns c =
