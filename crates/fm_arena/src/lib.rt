@@ -34,7 +34,6 @@ mod laws;
 mod shared;
 
 pub use arena::Arena;
-pub use fm_arena_braided::{Braided, Turn};
 pub use handle::AutoHandle;
 pub use laws::{
     a_handle_lasts, a_hold_lasts, a_worker_can_be_gathered, keeps_its_pool, what_is_held_is_open,

@@ -1,4 +1,5 @@
-//! Tests alone: of a pool's gate, and of closing its arenas.
+//! Tests alone: bodies that run over every memory, the tests of `Mono`, and of accesses, copies, segments and handles over
+//! it alone, and those of a pool's arenas as a memory.
 #![tactic(auto)]
 
 #[cfg(test)]

@@ -1,18 +1,25 @@
-//! What tests of the gate and of closing both need.
-ghost use Rattle.std.specs.Prelude.{◌≡◌, ◌<◌, ◌≤◌, ◌*◌, true};
-ghost use Rattle.fm_rule_facts.specs.Views.{given_of, span};
-ghost use Rattle.fm_rule_calls.specs.Kept.{Lasts};
-ghost use Rattle.fm_gate.specs.Crews.{HasNothing, StandsOn};
-ghost use Rattle.fm_gate.specs.Needs.{CanAllocate, CanVisit, IsOutside};
+ghost use Rattle.std.specs.Prelude.{◌≡◌, None};
+ghost use Rattle.fm_rule_calls.specs.Told.{view_of_pass};
+ghost use Rattle.fm_segment.specs.Access.{IsKnown};
+ghost use Rattle.fm_segment.specs.Learnt.{CanUse};
 ghost use Rattle.fm_arena.specs.Shares.{CanShare};
+ghost use Rattle.fm_memory_doubles.specs.Beside.{AreBeside};
 ghost use Rattle.fm_words.specs.Shapes.{IsValid};
 
-use crate::tests::compared::same;
-use fm_base::{ArenaId, Kind, Refusal};
-use fm_gate::{a_crew_stands, allocate, enter, leave, load, open_arena};
+use crate::tests::body::{stay_out, use_a_word};
+use crate::tests::exact::use_by_itself;
+use crate::tests::handles::{use_a_long_of_another, use_values_of_another};
+use crate::tests::memories::use_alone;
+use crate::tests::segments::{
+    copy_until_closed, read_of_another, use_no_bytes, use_of_another, use_ranges,
+};
+use fm_arena::Shared;
+use fm_base::{Kind, Memory};
+use fm_memory_doubles::Interrupted;
 use fm_rule::{Pass, Pool};
+use fm_segment::Segment;
 use fm_words::Shape;
-use std::alloc::AllocGlobal;
+use std::alloc::{AllocGlobal, Global};
 use std::process::Abort;
 use std::sync::Wait;
 
@@ -24,157 +31,109 @@ pub(crate) fn pool_as<R: Abort + AllocGlobal>(rt: &R, shape: Shape) -> (Pool, Pa
     Pool::make(rt.alloc(), shape).expect(rt, "words")
 }
 
-/// A pool for so many passes, whose slots have one page each, and so many arenas one after another; and its first pass.
-pub(crate) fn pool_of<R: Abort + AllocGlobal>(
-    rt: &R,
-    passes: u32,
-    slots: u32,
-    page_words: u32,
-    generations: u32,
-) -> (Pool, Pass)
-    requires some_passes { 0 < passes }
-    requires few_passes { passes ≤ 4096 }
-    requires some_slots { 0 < slots }
-    requires few_slots { slots < 65 }
-    requires some_words { 0 < page_words }
-    requires few_words { page_words ≤ 8192 }
-    requires some_generations { 0 < generations }
-    ensures ready { CanShare result.0 result.1 }
-    ensures nothing { HasNothing result.1 }
-    ensures whole { result.1.whole ≡ true }
-    ensures wide { span result.0.shape ≡ page_words }
-    ensures passes { result.0.shape.passes ≡ passes }
-{
-    let shape = Shape {
-        passes,
-        slots,
-        pages: slots,
-        page_words,
-        reach: 1,
-        generations,
-    };
-    Pool::make(rt.alloc(), shape).expect(rt, "words")
-}
-
-/// A pool for two passes of so many pages, all of which one arena can have; and its first pass.
-pub(crate) fn paged<R: Abort + AllocGlobal>(
-    rt: &R,
-    slots: u32,
-    pages: u32,
-    page_words: u32,
-    generations: u32,
-) -> (Pool, Pass)
-    requires some_slots { 0 < slots }
-    requires few_slots { slots < 65 }
-    requires some_pages { 0 < pages }
-    requires few_pages { pages ≤ 4096 }
-    requires some_words { 0 < page_words }
-    requires few_words { page_words ≤ 4096 }
-    requires some_generations { 0 < generations }
+/// A pool of two passes and eight slots. Each arena has up to eight words, in four pages of two.
+fn made<R: Abort + AllocGlobal>(rt: &R) -> (Pool, Pass)
     ensures { CanShare result.0 result.1 }
 {
     let shape = Shape {
         passes: 2,
-        slots,
-        pages,
-        page_words,
-        reach: pages,
-        generations,
+        slots: 8,
+        pages: 32,
+        page_words: 2,
+        reach: 4,
+        generations: 1,
     };
     pool_as(rt, shape)
 }
 
-/// Whether no slot is free.
-pub(crate) fn is_full<R: Wait>(rt: &R, pool: &Pool, pass: &mut Pass) -> bool
-    requires { IsOutside pool.now pass.old }
-    ensures { IsOutside pool.now pass.new }
-{
-    open_arena(rt, pool, pass, Kind::Shared) == Err(Refusal::NoSlot)
-}
-
-/// Opens an arena.
-pub(crate) fn new_arena<R: Abort + Wait>(
+/// Both passes of the pool, the second drawn by the first.
+pub(crate) fn both<'a, R: Abort + Wait>(
     rt: &R,
-    pool: &Pool,
-    pass: &mut Pass,
-    kind: Kind,
-) -> ArenaId
-    requires outside { IsOutside pool.now pass.old }
-    ensures visit { CanVisit pool.now pass.new result }
-    ensures pages { pass.new.pages ≡ pass.old.pages }
-    ensures lasts { Lasts pass.old pass.new }
+    pool: &'a Pool,
+    pass: Pass,
+) -> (Shared<'a>, Shared<'a>)
+    requires { CanShare pool.now pass }
+    ensures outside { result.0.inside ≡ None }
+    ensures beside { AreBeside result.0 result.1 }
 {
-    open_arena(rt, pool, pass, kind).expect(rt, "a slot")
+    let mut first = pass;
+    let second = pool.draw(rt, &mut first).expect(rt, "a pass");
+    (Shared::new(pool, first), Shared::new(pool, second))
 }
 
-/// Opens an arena, and gives its first bytes, so many.
-pub(crate) fn given<R: Abort + Wait>(
+#[test]
+fn over_a_pool(rt: HostRuntime) {
+    let (pool, pass) = made(&rt);
+    let mut m = Shared::new(&pool, pass);
+    use_alone(&rt, &mut m, rt.alloc());
+}
+
+/// A pass that was asked, and has every number, is by itself.
+#[test]
+fn over_a_pool_by_itself(rt: HostRuntime) {
+    let (pool, mut pass) = made(&rt);
+    if pool.whole(&mut pass) {
+        let mut m = Shared::new(&pool, pass);
+        use_by_itself(&rt, &mut m);
+    } else {
+        assert!(rt; false);
+    }
+}
+
+#[test]
+fn over_a_pool_while_another_pass_closes(rt: HostRuntime) {
+    let (pool, pass) = made(&rt);
+    let (ours, theirs) = both(&rt, &pool, pass);
+    let mut m = Interrupted::new(&rt, ours, theirs, 5);
+    copy_until_closed(&rt, &mut m);
+}
+
+/// 16 bytes of an arena that is confined to the other pass, open or closed, of which this one hears.
+fn theirs<'a, R: Abort + Wait>(
     rt: &R,
-    pool: &Pool,
-    pass: &mut Pass,
-    kind: Kind,
-    bytes: u64,
-) -> ArenaId
-    requires { CanShare pool.now pass.old }
-    ensures can { CanAllocate pool.now pass.new result }
-    ensures given { bytes ≤ given_of pass.new result }
-    ensures whole { pass.new.whole ≡ pass.old.whole }
-    ensures lasts { Lasts pass.old pass.new }
+    m: &mut Shared<'a>,
+    other: Shared<'a>,
+    is_closed: bool,
+) -> Segment
+    requires outside { m.old.inside ≡ None }
+    requires beside { AreBeside m.old other }
+    ensures outside { m.new.inside ≡ None }
+    ensures known { IsKnown (view_of_pass m.new) result }
 {
-    let a = open_arena(rt, pool, pass, kind).expect(rt, "a slot");
-    same(rt, allocate(rt, pool, pass, a, bytes, 8), Ok(0));
-    a
+    let mut other = other;
+    let arena = other.open_arena(rt, Kind::Confined).expect(rt, "an arena");
+    let first = other.allocate(rt, arena, 16, 8).expect(rt, "bytes");
+    if is_closed {
+        other.close(rt, arena).expect(rt, "an arena that is open");
+    }
+    m.meet(other.note());
+    Segment::of(arena, first, 16)
 }
 
-/// Loads a word in a visit of its own.
-pub(crate) fn word_of(
-    pool: &Pool,
-    pass: &mut Pass,
-    arena: ArenaId,
-    word: u64,
-) -> Result<u64, Refusal>
-    requires ready { CanVisit pool.now pass.old arena }
-    requires within { 8 * word < given_of pass.old arena }
-    ensures outside { IsOutside pool.now pass.new }
-    ensures lasts { Lasts pass.old pass.new }
+/// What every memory does with 16 bytes of another caller's arena, and with arenas of its own beside it.
+fn use_beside_another<R: Abort + Wait, M: Memory>(rt: &R, m: &mut M, alloc: Global, s: &Segment)
+    requires { CanUse (M.view m.old) s.now }
 {
-    enter(pool, pass, arena)?;
-    let found = load(pool, pass, word);
-    leave(pool, pass);
-    Ok(found)
+    use_of_another(rt, m, s);
+    read_of_another(rt, m, s);
+    use_no_bytes(rt, m, s);
+    use_values_of_another(rt, m, alloc, s);
+    use_a_long_of_another(rt, m, alloc, s);
+    stay_out(rt, m, s.arena());
+    use_a_word(rt, m, 0);
+    use_ranges(rt, m);
 }
 
-/// A pass is drawn, which has nothing.
-pub(crate) fn drawn<R: Abort + Wait>(rt: &R, pool: &Pool, giver: &mut Pass) -> Pass
-    requires outside { IsOutside pool.now giver.old }
-    ensures giver { StandsOn pool.now giver.old giver.new }
-    ensures pages { giver.new.pages ≡ giver.old.pages }
-    ensures outside { IsOutside pool.now result }
-    ensures lasts { Lasts giver.old result }
-    ensures nothing { HasNothing result }
-{
-    a_crew_stands();
-    pool.draw(rt, giver).expect(rt, "a number")
+/// An arena of another pass, open or closed, beside those of this one.
+fn beside_an_arena<R: Abort + AllocGlobal + Wait>(rt: &R, is_closed: bool) {
+    let (pool, pass) = made(rt);
+    let (mut m, other) = both(rt, &pool, pass);
+    let s = theirs(rt, &mut m, other, is_closed);
+    use_beside_another(rt, &mut m, rt.alloc(), &s);
 }
 
-/// Whether the pass has every caller that was drawn.
-pub(crate) fn is_whole(pool: &Pool, pass: &mut Pass) -> bool
-    requires outside { IsOutside pool.now pass.old }
-    ensures outside { IsOutside pool.now pass.new }
-    ensures lasts { Lasts pass.old pass.new }
-{
-    a_crew_stands();
-    pool.whole(pass)
-}
-
-/// A pass takes the other in.
-pub(crate) fn takes_in(pool: &Pool, pass: &mut Pass, other: Pass)
-    requires outside { IsOutside pool.now pass.old }
-    requires other { IsOutside pool.now other }
-    requires nothing { HasNothing other }
-    ensures stands { StandsOn pool.now pass.old pass.new }
-    ensures lasts { Lasts other pass.new }
-{
-    a_crew_stands();
-    pool.gather(pass, other);
+#[test]
+fn over_a_pool_beside_an_arena_of_another_pass(rt: HostRuntime) {
+    beside_an_arena(&rt, false);
+    beside_an_arena(&rt, true);
 }

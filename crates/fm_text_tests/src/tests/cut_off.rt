@@ -5,7 +5,8 @@ ghost use Rattle.fm_arena.specs.Shares.{CanShare};
 
 use crate::tests::calls::{gets, same, sets};
 use crate::tests::pools::{both, made, started, tell};
-use fm_arena::{Arena, Braided, Shared, Turn};
+use fm_arena::{Arena, Shared};
+use fm_arena_braided::{Braided, Turn};
 use fm_base::{Kind, Memory, Refusal};
 use fm_lanes::{Value, ValueKind};
 use fm_layout::Layout;

@@ -1,4 +1,0 @@
-use Rattle.fm_arena_tests.proofs.tests.closes.visit_beside.Goals as goal
-
-pub returns-clause-other : goal.returns-clause-other
-returns-clause-other c = c.a_close_lasts.ensures.beside.at_visit _ _ _ _ _ _ _ c.visit.ensures c.requires.apart c.requires.other

@@ -1,5 +1,0 @@
-use Rattle.fm_arena_tests.proofs.Lasting.{lasts_then}
-use Rattle.fm_arena_tests.proofs.tests.gates.are_words.Goals as goal
-
-pub returns-clause-lasts : goal.returns-clause-lasts
-returns-clause-lasts g c = lasts_then c.word_of.ensures.lasts c.word_of-2.ensures.lasts

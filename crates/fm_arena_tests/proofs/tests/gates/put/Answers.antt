@@ -1,5 +1,0 @@
-use Rattle.fm_arena_tests.proofs.Lasting.{lasts_then}
-use Rattle.fm_arena_tests.proofs.tests.gates.put.Goals as goal
-
-pub returns-clause-lasts : goal.returns-clause-lasts
-returns-clause-lasts c = lasts_then (lasts_then c.enter.ensures.lasts c.store.ensures.lasts) c.leave.ensures.lasts

@@ -1,5 +1,0 @@
-use Rattle.fm_arena_tests.proofs.Lasting.{lasts_then}
-use Rattle.fm_arena_tests.proofs.tests.pools.given.Goals as goal
-
-pub returns-clause-lasts : goal.returns-clause-lasts
-returns-clause-lasts g c = lasts_then c.open_arena.ensures.lasts c.allocate.ensures.lasts

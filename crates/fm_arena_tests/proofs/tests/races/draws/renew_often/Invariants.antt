@@ -1,5 +1,0 @@
-use Rattle.fm_gate.specs.{Crews.{HasNothing}, Needs.{IsOutside}}
-use Rattle.fm_arena_tests.proofs.tests.races.draws.renew_often.Given as goal
-
-abbrev pub invariant-loop : goal.invariant-loop
-invariant-loop g l = IsOutside l.fn.pool l.pass × HasNothing l.pass

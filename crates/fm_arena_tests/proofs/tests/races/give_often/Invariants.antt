@@ -1,5 +1,0 @@
-use Rattle.fm_gate.specs.Needs.{CanAllocate}
-use Rattle.fm_arena_tests.proofs.tests.races.give_often.Given as goal
-
-abbrev pub invariant-loop-given : goal.invariant-loop-given
-invariant-loop-given g l = CanAllocate l.fn.pool l.pass l.fn.a

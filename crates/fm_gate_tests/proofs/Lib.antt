@@ -1,0 +1,4 @@
+pub mod Finishing
+pub mod Holds
+mod Nothing
+mod Lasting

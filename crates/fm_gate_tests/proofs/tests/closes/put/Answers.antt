@@ -1,0 +1,5 @@
+use Rattle.fm_gate_tests.proofs.Lasting.{lasts_then}
+use Rattle.fm_gate_tests.proofs.tests.closes.put.Goals as goal
+
+pub returns-clause-lasts : goal.returns-clause-lasts
+returns-clause-lasts c = lasts_then (lasts_then c.enter.ensures.lasts c.swap_if-found.ensures.lasts) c.leave.ensures.lasts

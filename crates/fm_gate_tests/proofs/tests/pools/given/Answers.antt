@@ -1,0 +1,5 @@
+use Rattle.fm_gate_tests.proofs.Lasting.{lasts_then}
+use Rattle.fm_gate_tests.proofs.tests.pools.given.Goals as goal
+
+pub returns-clause-lasts : goal.returns-clause-lasts
+returns-clause-lasts g c = lasts_then c.open_arena.ensures.lasts c.allocate.ensures.lasts

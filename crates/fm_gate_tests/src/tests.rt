@@ -1,0 +1,6 @@
+mod closes;
+mod compared;
+mod gates;
+mod numbers;
+mod pools;
+mod races;

@@ -1,5 +1,0 @@
-use Rattle.fm_memory_tests.proofs.Lasting.{lasts_then}
-use Rattle.fm_memory_tests.proofs.tests.arenas.renewed.Goals as goal
-
-pub returns-clause-lasts : goal.returns-clause-lasts
-returns-clause-lasts g c = lasts_then c.again.ensures.lasts c.give_back-gave.ensures.lasts

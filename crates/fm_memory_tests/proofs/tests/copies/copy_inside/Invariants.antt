@@ -1,5 +1,0 @@
-use Rattle.fm_segment_access.specs.Learnt.{CanTouch}
-use Rattle.fm_memory_tests.proofs.tests.copies.copy_inside.Given as goal
-
-abbrev pub invariant-loop-place : goal.invariant-loop-place
-invariant-loop-place g l = CanTouch (g.M.Memory.view l.m) l.a 0 48

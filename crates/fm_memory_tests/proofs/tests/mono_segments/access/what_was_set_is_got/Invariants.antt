@@ -1,6 +1,0 @@
-use Rattle.fm_mono.specs.Shown.{view_of}
-use Rattle.fm_segment.specs.Learnt.{CanUse}
-use Rattle.fm_memory_tests.proofs.tests.mono_segments.access.what_was_set_is_got.Given as goal
-
-abbrev pub invariant-loop-v : goal.invariant-loop-v
-invariant-loop-v g l = CanUse (view_of l.m) l.s

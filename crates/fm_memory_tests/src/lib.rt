@@ -1,6 +1,0 @@
-//! Tests alone: bodies that run over every memory, the tests of `Mono`, and of accesses, copies, segments and handles over
-//! it alone, and those of a pool's arenas as a memory.
-#![tactic(auto)]
-
-#[cfg(test)]
-mod tests;
