@@ -22,38 +22,40 @@ const SLOTS: u32 = 64;
 /// The words of each of these.
 const SHARE: u64 = 128;
 
-/// Visits words of an arena of a pool, so often, and answers them joined by exclusive or; what was found says which is
-/// next.
+/// Which words of an arena are visited.
+#[derive(Clone, Copy)]
+pub enum Words {
+    /// Those of one page; what was found says which is next.
+    OfOnePage,
+    /// The same of words that lie in 64 pages.
+    OfPages,
+    /// Each of these after the one before it.
+    InTurn,
+}
+
+/// A pool with an arena for them.
+fn shape_of(words: Words) -> Shape
+    ensures { IsValid result }
+{
+    match words {
+        Words::OfOnePage => Shape {
+            page_words: 8_192,
+            ..ONE
+        },
+        Words::OfPages | Words::InTurn => spread(128),
+    }
+}
+
+/// Visits words of an arena of a pool, so often, and answers them joined by exclusive or, or those in turn added up.
 ///
 /// Each visit enters the arena, loads one word and leaves. Word w holds w times `count`, wrapping.
-pub fn gates<R: Wait>(rt: &R, alloc: Global, count: u64) -> Result<u64, Refusal> {
-    let shape = Shape {
-        page_words: 8_192,
-        ..ONE
-    };
-    let (pool, pass) = made(alloc, shape)?;
-    gates_of(rt, pool, pass, count)
-}
-
-/// The same of an arena whose words lie in 64 pages.
-pub fn spreads<R: Wait>(rt: &R, alloc: Global, count: u64) -> Result<u64, Refusal> {
-    let (pool, pass) = made(alloc, spread(128))?;
-    gates_of(rt, pool, pass, count)
-}
-
-/// The same, each word after the one before it.
-pub fn nexts<R: Wait>(rt: &R, alloc: Global, count: u64) -> Result<u64, Refusal> {
-    let (pool, mut pass) = made(alloc, spread(128))?;
+pub fn gates<R: Wait>(rt: &R, alloc: Global, count: u64, words: Words) -> Result<u64, Refusal> {
+    let (pool, mut pass) = made(alloc, shape_of(words))?;
     let arena = filled(rt, &pool, &mut pass, count)?;
-    rounds(pool, pass, arena, count / WORDS)
-}
-
-/// Fills an arena of the pool and visits it.
-fn gates_of<R: Wait>(rt: &R, pool: Pool, mut pass: Pass, count: u64) -> Result<u64, Refusal>
-    requires { IsFree pool pass }
-{
-    let arena = filled(rt, &pool, &mut pass, count)?;
-    visits(pool, pass, arena, count)
+    match words {
+        Words::InTurn => rounds(pool, pass, arena, count / WORDS),
+        Words::OfOnePage | Words::OfPages => visits(pool, pass, arena, count),
+    }
 }
 
 /// An arena whose word w holds w times a number, wrapping.

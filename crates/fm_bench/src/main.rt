@@ -33,9 +33,9 @@ mod visits;
 
 use crate::count::Count;
 use crate::crews::{crowd, draws};
-use crate::gates::{closes, gates, hops, nexts, spreads};
+use crate::gates::{Words, closes, gates, hops};
 use crate::loads::loads;
-use crate::opens::{empties, firsts, gives, grows, lasts, opens, wipes};
+use crate::opens::{Opening, gives, opens};
 use crate::polls::{By, polls, rows, sets};
 use crate::reuse::reuse;
 use crate::stress::{Trial, stress};
@@ -118,51 +118,33 @@ fn words(rt: &HostRuntime) -> Option<Asked> {
 fn run<R: Threads + Wait + Sync>(rt: &R, alloc: Global, asked: &Asked) -> Option<u64> {
     let count = asked.count;
     let joined = match asked.what.as_str() {
+        "loads" => return loads(alloc, count).ok(),
         "visits" => visits(rt, alloc, count),
-        "gates" => gates(rt, alloc, count),
-        "spreads" => spreads(rt, alloc, count),
-        "nexts" => nexts(rt, alloc, count),
+        "gates" => gates(rt, alloc, count, Words::OfOnePage),
+        "spreads" => gates(rt, alloc, count, Words::OfPages),
+        "nexts" => gates(rt, alloc, count, Words::InTurn),
         "hops" => hops(rt, alloc, count),
         "closes" => closes(rt, alloc, count),
-        "loads" => return loads(alloc, count).ok(),
-        _ => return run_on_pages(rt, alloc, asked),
-    };
-    joined.ok()
-}
-
-/// The same of the loops that open arenas and give their bytes, and of those behind them.
-fn run_on_pages<R: Threads + Wait + Sync>(rt: &R, alloc: Global, asked: &Asked) -> Option<u64> {
-    let count = asked.count;
-    let joined = match asked.what.as_str() {
-        "opens" => opens(rt, alloc, count),
-        "wipes" => wipes(rt, alloc, count),
-        "grows" => grows(rt, alloc, count),
-        "empties" => empties(rt, alloc, count),
-        "firsts" => firsts(rt, alloc, count),
-        "lasts" => lasts(rt, alloc, count),
+        "opens" => opens(rt, alloc, count, Opening::Small),
+        "wipes" => opens(rt, alloc, count, Opening::Large),
+        "grows" => opens(rt, alloc, count, Opening::Paged),
+        "empties" => opens(rt, alloc, count, Opening::Empty),
+        "firsts" => opens(rt, alloc, count, Opening::FirstPage),
+        "lasts" => opens(rt, alloc, count, Opening::LastPage),
         "gives" => gives(rt, alloc, count),
-        _ => return run_polls(rt, alloc, asked),
+        _ => return run_closes(rt, alloc, asked),
     };
     joined.ok()
 }
 
-/// The same of the loops that close arenas by polls, and of those behind them.
-fn run_polls<R: Threads + Wait + Sync>(rt: &R, alloc: Global, asked: &Asked) -> Option<u64> {
+/// The same of the loops that close arenas by polls, that update words, and those of crews.
+fn run_closes<R: Threads + Wait + Sync>(rt: &R, alloc: Global, asked: &Asked) -> Option<u64> {
     let count = asked.count;
     let joined = match asked.what.as_str() {
         "polls" => polls(rt, alloc, count, By::Poll),
         "looks" => polls(rt, alloc, count, By::Visit),
         "sets" => sets(rt, alloc, count),
         "rows" => rows(rt, alloc, count),
-        _ => return run_updates(rt, alloc, asked),
-    };
-    joined.ok()
-}
-
-/// The same of the loops that update words, and of those of crews.
-fn run_updates<R: Threads + Wait + Sync>(rt: &R, alloc: Global, asked: &Asked) -> Option<u64> {
-    let count = asked.count;
-    let joined = match asked.what.as_str() {
         "adds" => updates(rt, alloc, count, Update::Add),
         "swaps" => updates(rt, alloc, count, Update::Swap),
         "patches" => updates(rt, alloc, count, Update::Patch),

@@ -1,3 +1,4 @@
+ghost use Rattle.fm_words.specs.Shapes.{IsValid};
 ghost use Rattle.fm_bench.specs.Ready.{IsFree, IsOpen};
 
 use crate::gates::spread;
@@ -21,47 +22,51 @@ const MANY_PAGED: Shape = Shape {
     ..AGAIN
 };
 
-/// Opens an arena of a pool of 16 passes, allocates all its 64 bytes and closes it, so often. Answers how often.
-pub fn opens<R: Wait>(rt: &R, alloc: Global, count: u64) -> Result<u64, Refusal> {
-    let (pool, pass) = made(alloc, AGAIN)?;
-    turns(rt, pool, pass, 64, count)
+/// Which arena is opened, given its bytes and closed.
+#[derive(Clone, Copy)]
+pub enum Opening {
+    /// One of 64 bytes.
+    Small,
+    /// One of 1,048,576 words, which are wiped at each close.
+    Large,
+    /// One of 1 MiB in 64 pages, each of which is taken, wiped and given back.
+    Paged,
+    /// One that may have 32 MiB, and gives nothing.
+    Empty,
+    /// One of 64 bytes in a pool of 4,096 pages, which takes the first one.
+    FirstPage,
+    /// The same where other arenas have all other pages, so that it takes the last one.
+    LastPage,
 }
 
-/// The same of an arena of 1,048,576 words, which are wiped at each close.
-pub fn wipes<R: Wait>(rt: &R, alloc: Global, count: u64) -> Result<u64, Refusal> {
-    let shape = Shape {
-        page_words: 1_048_576,
-        ..AGAIN
-    };
-    let (pool, pass) = made(alloc, shape)?;
-    turns(rt, pool, pass, 8_388_608, count)
+/// A pool for such arenas, how many bytes each gives, and how many of 65 pages are opened before.
+fn shape_of(opening: Opening) -> (Shape, u64, u64)
+    ensures { IsValid result.0 }
+{
+    match opening {
+        Opening::Small => (AGAIN, 64, 0),
+        Opening::Large => {
+            let shape = Shape {
+                page_words: 1_048_576,
+                ..AGAIN
+            };
+            (shape, 8_388_608, 0)
+        }
+        Opening::Paged => (spread(2_048), 1_048_576, 0),
+        Opening::Empty => (spread(65_536), 0, 0),
+        Opening::FirstPage => (MANY_PAGED, 64, 0),
+        Opening::LastPage => (MANY_PAGED, 64, 63),
+    }
 }
 
-/// The same of an arena of 1 MiB in 64 pages, each of which is taken, wiped and given back.
-pub fn grows<R: Wait>(rt: &R, alloc: Global, count: u64) -> Result<u64, Refusal> {
-    let (pool, pass) = made(alloc, spread(2_048))?;
-    turns(rt, pool, pass, 1_048_576, count)
-}
-
-/// The same of an arena that may have 32 MiB, and gives nothing.
-pub fn empties<R: Wait>(rt: &R, alloc: Global, count: u64) -> Result<u64, Refusal> {
-    let (pool, pass) = made(alloc, spread(65_536))?;
-    turns(rt, pool, pass, 0, count)
-}
-
-/// The same of an arena of 64 bytes in a pool of 4,096 pages, which takes the first one.
-pub fn firsts<R: Wait>(rt: &R, alloc: Global, count: u64) -> Result<u64, Refusal> {
-    let (pool, pass) = made(alloc, MANY_PAGED)?;
-    turns(rt, pool, pass, 64, count)
-}
-
-/// The same where other arenas have all other pages, so that it takes the last one.
-pub fn lasts<R: Wait>(rt: &R, alloc: Global, count: u64) -> Result<u64, Refusal> {
-    let (pool, mut pass) = made(alloc, MANY_PAGED)?;
-    for _ in 1..64 {
+/// Opens an arena of a pool of 16 passes, allocates its bytes and closes it, so often. Answers how often.
+pub fn opens<R: Wait>(rt: &R, alloc: Global, count: u64, opening: Opening) -> Result<u64, Refusal> {
+    let (shape, bytes, before) = shape_of(opening);
+    let (pool, mut pass) = made(alloc, shape)?;
+    for _ in 0..before {
         given(rt, &pool, &mut pass, 65 * 64)?;
     }
-    turns(rt, pool, pass, 64, count)
+    turns(rt, pool, pass, bytes, count)
 }
 
 /// The calls alone. The pool and the pass are moved here, so that the compiler knows that nothing else has a name for

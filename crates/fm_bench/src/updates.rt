@@ -69,7 +69,7 @@ fn patching<R: Wait>(rt: &R, pool: Pool, mut pass: Pass, count: u64) -> u64
 {
     let mut joined: u64 = 0;
     for turn in 0..count {
-        joined ^= put_byte(rt, &pool, &mut pass, byte_of(turn));
+        joined ^= patch(rt, &pool, &mut pass, 0, 0xff, byte_of(turn));
     }
     leave(&pool, &mut pass);
     joined
@@ -85,12 +85,4 @@ fn byte_of(turn: u64) -> u64
         2 => 0xff,
         _ => 0,
     }
-}
-
-fn put_byte<R: Wait>(rt: &R, pool: &Pool, pass: &mut Pass, byte: u64) -> u64
-    requires reach { CanReach pool.now pass.old 0 }
-    requires byte { bit_and byte 255 ≡ byte }
-    ensures { CanReach pool.now pass.new 0 }
-{
-    patch(rt, pool, pass, 0, 0xff, byte)
 }

@@ -1,4 +1,4 @@
-ghost use Rattle.std.specs.Prelude.{◌≡◌, ◌<◌, None};
+ghost use Rattle.std.specs.Prelude.{◌<◌};
 ghost use Rattle.fm_bench.specs.Ready.{IsReady};
 
 use fm_base::{ArenaId, Kind, Memory, Refusal};

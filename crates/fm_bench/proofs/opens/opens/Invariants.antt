@@ -1,5 +1,5 @@
 use Rattle.fm_bench.specs.Ready.{IsFree}
-use Rattle.fm_bench.proofs.opens.lasts.Given as goal
+use Rattle.fm_bench.proofs.opens.opens.Given as goal
 
 abbrev pub invariant-loop : goal.invariant-loop
 invariant-loop g l = IsFree l.pool l.pass
