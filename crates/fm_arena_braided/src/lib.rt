@@ -7,7 +7,7 @@
 //!
 //! ```
 //! let (mut braided, source, target) = scene(rt, &pool, first, at);
-//! access.make(rt, &mut braided, &cut);
+//! let found = access.make(rt, &mut braided, &cut);
 //! let mut ours = ended(rt, braided, &target, walk);
 //! ```
 //!

@@ -5,72 +5,98 @@ use crate::tests::compared::same;
 use fm_base::{ArenaId, Kind, Memory, Refusal};
 use fm_mono::Mono;
 use fm_segment_access::{fill, get_number, put_number};
+use fm_segment_copies::{copy_range, mismatch_range};
 use std::process::Abort;
 use std::sync::Wait;
 
-/// A shared arena with three words.
-fn three_words<R: Abort + Wait, M: Memory>(rt: &R, m: &mut M) -> ArenaId
+/// A call on the first 48 bytes of an arena, by places.
+#[derive(Clone, Copy)]
+pub(super) enum Call {
+    /// The number of so many bytes.
+    Get(u64, u32),
+    Put(u64, u32, u64),
+    /// So many bytes, each made this one.
+    Fill(u64, u64, u8),
+    /// From the first place to the second, so many bytes.
+    Copy(u64, u64, u64),
+    Mismatch(u64, u64, u64),
+    Close,
+}
+
+/// What a comparison answers where no byte differs.
+pub(super) const NONE: u64 = u64::MAX;
+
+/// An arena with 48 bytes, all zeros.
+pub(super) fn zeros<R: Abort + Wait, M: Memory>(rt: &R, m: &mut M) -> ArenaId
     requires { (M.view m.old).inside ≡ None }
-    ensures { CanTouch (M.view m.new) result 0 24 }
+    ensures { CanTouch (M.view m.new) result 0 48 }
 {
-    let arena = m.open_arena(rt, Kind::Shared).expect(rt, "an arena");
-    let place = m.allocate(rt, arena, 24, 8).expect(rt, "three words");
-    same(rt, place, 0);
-    arena
+    let a = m.open_arena(rt, Kind::Shared).expect(rt, "an arena");
+    same(rt, m.allocate(rt, a, 48, 8), Ok(0));
+    a
 }
 
-/// Stops where `put_number` doesn't answer so.
-fn puts<R: Abort + Wait, M: Memory>(
-    rt: &R,
-    m: &mut M,
-    arena: ArenaId,
-    place: u64,
-    width: u32,
-    number: u64,
-    answer: Result<(), Refusal>,
-)
-    requires words { CanTouch (M.view m.old) arena 0 24 }
-    requires some { 1 ≤ width }
-    requires width { width ≤ 8 }
-    requires within { place + width ≤ 24 }
-    ensures { CanTouch (M.view m.new) arena 0 24 }
+/// Stops where the bytes don't lie in the first 48.
+fn lies<R: Abort>(rt: &R, place: u64, n: u64)
+    ensures { place + n ≤ 48 }
 {
-    same(rt, put_number(rt, m, arena, place, width, number), answer);
+    assert!(rt; n <= 48 && place <= 48 - n);
 }
 
-/// Stops where `fill` doesn't answer so.
-fn fills<R: Abort + Wait, M: Memory>(
+/// The number that was got, the first byte that differs, or 0 where there is nothing to answer.
+fn answer<R: Abort + Wait, M: Memory>(
     rt: &R,
     m: &mut M,
-    arena: ArenaId,
-    place: u64,
-    n: u64,
-    byte: u8,
-    answer: Result<(), Refusal>,
-)
-    requires words { CanTouch (M.view m.old) arena 0 24 }
-    requires within { place + n ≤ 24 }
-    ensures { CanTouch (M.view m.new) arena 0 24 }
+    a: ArenaId,
+    call: Call,
+) -> Result<u64, Refusal>
+    requires { CanTouch (M.view m.old) a 0 48 }
+    ensures { CanTouch (M.view m.new) a 0 48 }
 {
-    same(rt, fill(rt, m, arena, place, n, byte), answer);
+    match call {
+        Call::Get(place, width) => {
+            lies(rt, place, u64::from(width));
+            assert!(rt; 1 <= width && width <= 8);
+            get_number(m, a, place, width)
+        }
+        Call::Put(place, width, number) => {
+            lies(rt, place, u64::from(width));
+            assert!(rt; 1 <= width && width <= 8);
+            put_number(rt, m, a, place, width, number).and(Ok(0))
+        }
+        Call::Fill(place, n, byte) => {
+            lies(rt, place, n);
+            fill(rt, m, a, place, n, byte).and(Ok(0))
+        }
+        Call::Copy(from, to, n) => {
+            lies(rt, from, n);
+            lies(rt, to, n);
+            copy_range(rt, m, a, from, a, to, n).and(Ok(0))
+        }
+        Call::Mismatch(one, other, n) => {
+            lies(rt, one, n);
+            lies(rt, other, n);
+            let found = mismatch_range(m, a, one, a, other, n)?;
+            Ok(found.unwrap_or(NONE))
+        }
+        Call::Close => m.close(rt, a).and(Ok(0)),
+    }
 }
 
-/// Stops where `get_number` doesn't answer so.
-fn gets<R: Abort, M: Memory>(
+/// Stops where one of the calls isn't answered so.
+pub(super) fn calls<R: Abort + Wait, M: Memory>(
     rt: &R,
     m: &mut M,
-    arena: ArenaId,
-    place: u64,
-    width: u32,
-    answer: Result<u64, Refusal>,
+    a: ArenaId,
+    rows: &[(Call, Result<u64, Refusal>)],
 )
-    requires words { CanTouch (M.view m.old) arena 0 24 }
-    requires some { 1 ≤ width }
-    requires width { width ≤ 8 }
-    requires within { place + width ≤ 24 }
-    ensures { CanTouch (M.view m.new) arena 0 24 }
+    requires { CanTouch (M.view m.old) a 0 48 }
+    ensures { CanTouch (M.view m.new) a 0 48 }
 {
-    same(rt, get_number(m, arena, place, width), answer);
+    for (k, row) in rows.iter().enumerate() {
+        let (call, wanted) = *row;
+        same(rt, (k, answer(rt, m, a, call)), (k, wanted));
+    }
 }
 
 /// The byte at `at`, where the bytes 1, 2, 3 .. were put at `place` and all others are 255.
@@ -84,75 +110,77 @@ fn byte_at(at: u64, place: u64, width: u64) -> u64
     }
 }
 
-/// Puts a number of the bytes 1, 2, 3 .. among ones, and reads it and every byte again.
+/// A number of the bytes 1, 2, 3 .. is put among ones, and it and every byte are read again.
 fn put_among_ones<R: Abort + Wait, M: Memory>(
     rt: &R,
     m: &mut M,
-    arena: ArenaId,
+    a: ArenaId,
     place: u64,
     width: u32,
     number: u64,
 )
-    requires words { CanTouch (M.view m.old) arena 0 24 }
-    requires some { 1 ≤ width }
-    requires width { width ≤ 8 }
+    requires words { CanTouch (M.view m.old) a 0 48 }
     requires within { place + width ≤ 24 }
-    ensures { CanTouch (M.view m.new) arena 0 24 }
+    ensures { CanTouch (M.view m.new) a 0 48 }
 {
-    puts(rt, m, arena, 0, 8, u64::MAX, Ok(()));
-    puts(rt, m, arena, 8, 8, u64::MAX, Ok(()));
-    puts(rt, m, arena, 16, 8, u64::MAX, Ok(()));
-    puts(rt, m, arena, place, width, number, Ok(()));
-    gets(rt, m, arena, place, width, Ok(number));
+    let rows = [
+        (Call::Put(0, 8, u64::MAX), Ok(0)),
+        (Call::Put(8, 8, u64::MAX), Ok(0)),
+        (Call::Put(16, 8, u64::MAX), Ok(0)),
+        (Call::Put(place, width, number), Ok(0)),
+        (Call::Get(place, width), Ok(number)),
+    ];
+    calls(rt, m, a, &rows);
     for at in 0..24u64 {
         let byte = byte_at(at, place, u64::from(width));
-        gets(rt, m, arena, at, 1, Ok(byte));
+        calls(rt, m, a, &[(Call::Get(at, 1), Ok(byte))]);
     }
 }
 
-/// The number at each place from a word's start to the next word's.
-fn at_each_place<R: Abort + Wait, M: Memory>(rt: &R, m: &mut M, width: u32, number: u64)
-    requires outside { (M.view m.old).inside ≡ None }
-    requires some { 1 ≤ width }
-    requires width { width ≤ 8 }
-    ensures { (M.view m.new).inside ≡ None }
-{
-    let arena = three_words(rt, m);
-    for place in 0..9u64 {
-        put_among_ones(rt, m, arena, place, width, number);
-    }
-}
-
+/// At each place from a word's start to the next word's.
 #[test]
 fn numbers_at_each_place(rt: HostRuntime) {
     let mut m = Mono::make(rt.alloc(), 64);
-    at_each_place(&rt, &mut m, 1, 0x01);
-    at_each_place(&rt, &mut m, 2, 0x0201);
-    at_each_place(&rt, &mut m, 4, 0x0403_0201);
-    at_each_place(&rt, &mut m, 8, 0x0807_0605_0403_0201);
+    let a = zeros(&rt, &mut m);
+    for place in 0..9u64 {
+        put_among_ones(&rt, &mut m, a, place, 1, 0x01);
+        put_among_ones(&rt, &mut m, a, place, 2, 0x0201);
+        put_among_ones(&rt, &mut m, a, place, 4, 0x0403_0201);
+        put_among_ones(&rt, &mut m, a, place, 8, 0x0807_0605_0403_0201);
+    }
 }
 
 #[test]
 fn a_fill_changes_just_its_bytes(rt: HostRuntime) {
     let mut m = Mono::make(rt.alloc(), 64);
-    let a = three_words(&rt, &mut m);
-    fills(&rt, &mut m, a, 3, 14, 7, Ok(()));
-    gets(&rt, &mut m, a, 0, 8, Ok(0x0707_0707_0700_0000));
-    gets(&rt, &mut m, a, 8, 8, Ok(0x0707_0707_0707_0707));
-    gets(&rt, &mut m, a, 16, 8, Ok(7));
-    fills(&rt, &mut m, a, 5, 0, 9, Ok(()));
-    gets(&rt, &mut m, a, 5, 1, Ok(7));
+    let a = zeros(&rt, &mut m);
+    let rows = [
+        (Call::Fill(3, 14, 7), Ok(0)),
+        (Call::Get(0, 8), Ok(0x0707_0707_0700_0000)),
+        (Call::Get(8, 8), Ok(0x0707_0707_0707_0707)),
+        (Call::Get(16, 8), Ok(7)),
+        (Call::Fill(5, 0, 9), Ok(0)),
+        (Call::Get(5, 1), Ok(7)),
+    ];
+    calls(&rt, &mut m, a, &rows);
 }
 
 #[test]
 fn a_closed_arena_is_refused(rt: HostRuntime) {
     let mut m = Mono::make(rt.alloc(), 64);
-    let a = three_words(&rt, &mut m);
-    let refused = Refusal::Closed;
-    puts(&rt, &mut m, a, 6, 4, 0x0403_0201, Ok(()));
-    gets(&rt, &mut m, a, 4, 4, Ok(0x0201_0000));
-    same(&rt, m.close(&rt, a), Ok(()));
-    gets(&rt, &mut m, a, 6, 4, Err(refused));
-    puts(&rt, &mut m, a, 6, 4, 0, Err(refused));
-    fills(&rt, &mut m, a, 6, 4, 0, Err(refused));
+    let a = zeros(&rt, &mut m);
+    let refused = Err(Refusal::Closed);
+    let rows = [
+        (Call::Put(6, 4, 0x0403_0201), Ok(0)),
+        (Call::Get(4, 4), Ok(0x0201_0000)),
+        (Call::Close, Ok(0)),
+        (Call::Get(6, 4), refused),
+        (Call::Put(6, 4, 0), refused),
+        (Call::Fill(6, 4, 0), refused),
+        (Call::Copy(0, 9, 5), refused),
+        (Call::Mismatch(0, 9, 5), refused),
+        (Call::Copy(0, 9, 0), Ok(0)),
+        (Call::Mismatch(0, 9, 0), Ok(NONE)),
+    ];
+    calls(&rt, &mut m, a, &rows);
 }

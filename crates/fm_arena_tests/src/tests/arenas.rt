@@ -8,6 +8,8 @@ ghost use Rattle.fm_arena.specs.Lasting.{SamePool};
 
 use crate::tests::compared::same;
 use crate::tests::pools::{both, pool_as};
+use crate::tests::segment_calls::{Call, calls};
+use crate::tests::segments::LOW;
 use fm_arena::{Arena, AutoHandle, Shared, a_handle_lasts, a_hold_lasts, keeps_its_pool};
 use fm_base::{Kind, Memory, Refusal};
 use fm_close::GaveBack;
@@ -93,16 +95,16 @@ fn a_confined_arena_is_used_by_its_own_pass_alone(rt: HostRuntime) {
     is_kept_out(&rt, &mut theirs, &arena, &s);
 }
 
-/// An automatic arena, and eight bytes of it.
-fn automatic<R: Abort + Wait>(rt: &R, m: &mut Shared) -> (AutoHandle, Segment)
+/// An automatic arena, and so many bytes of it.
+pub(super) fn automatic<R: Abort + Wait>(rt: &R, m: &mut Shared, size: u64) -> (AutoHandle, Segment)
     requires { m.old.inside ≡ None }
     ensures handle { CanGiveBack m.new result.0 }
     ensures known { IsKnown (view_of_pass m.new) result.1 }
 {
     let handle = AutoHandle::start(rt, m).expect(rt, "a slot");
     a_handle_lasts();
-    let first = m.allocate(rt, handle.arena(), 8, 8).expect(rt, "bytes");
-    let s = Segment::of(handle.arena(), first, 8);
+    let first = m.allocate(rt, handle.arena(), size, 8).expect(rt, "bytes");
+    let s = Segment::of(handle.arena(), first, size);
     (handle, s)
 }
 
@@ -134,27 +136,12 @@ fn long_beside(m: &mut Shared, s: &Segment, handle: &AutoHandle) -> Result<Value
 fn an_automatic_arena_ends_with_its_last_handle(rt: HostRuntime) {
     let (pool, pass) = pool_as(&rt, TWO_SLOTS);
     let mut m = Shared::new(&pool, pass);
-    let (handle, s) = automatic(&rt, &mut m);
+    let (handle, s) = automatic(&rt, &mut m, 8);
     let (last, gave) = renewed(&rt, &mut m, handle);
     same(&rt, gave, GaveBack::Kept);
     same(&rt, long_beside(&mut m, &s, &last), Ok(Value::Long(0)));
     same(&rt, last.give_back(&rt, &mut m), GaveBack::Ended);
     same(&rt, long_of(&mut m, &s), Err(Refusal::Closed));
-}
-
-/// A shared arena, and eight bytes of it, which are the long 250.
-fn priced<R: Abort + Wait>(rt: &R, m: &mut Shared) -> (Arena, Segment)
-    requires { m.old.inside ≡ None }
-    ensures outside { m.new.inside ≡ None }
-    ensures known { IsKnown (view_of_pass m.new) result.1 }
-    ensures arena { result.1.arena ≡ result.0.id }
-    ensures same { SamePool m.old m.new }
-{
-    keeps_its_pool();
-    let (arena, s) = started(rt, m, Kind::Shared);
-    let long = Layout::value(ValueKind::Long);
-    same(rt, s.set(rt, m, &long, 0, Value::Long(250)), Ok(()));
-    (arena, s)
 }
 
 /// One pass reads the long while the other closes the arena, each in a thread of its own.
@@ -185,8 +172,9 @@ fn read_and_close<R: Threads + Wait + Sync>(
 fn an_arena_is_closed_while_another_thread_reads(rt: HostRuntime) {
     let (pool, pass) = pool_as(&rt, TWO_SLOTS);
     let (mut ours, mut theirs) = both(&rt, &pool, pass);
-    let (arena, s) = priced(&rt, &mut ours);
+    let (arena, s) = started(&rt, &mut ours, Kind::Shared);
     tell(&mut ours, &mut theirs, &s);
+    calls(&rt, &mut ours, &s, &[(Call::Set(LOW, 0, 250), Ok(0))]);
     let (read, closed) = read_and_close(&rt, &mut ours, &mut theirs, &arena, &s);
     let whole = read == Ok(Value::Long(250));
     same(&rt, whole || read == Err(Refusal::Closed), true);

@@ -8,12 +8,48 @@ use fm_base::{ArenaId, Kind, Memory, Refusal};
 use std::process::Abort;
 use std::sync::Wait;
 
-/// Stops where `load` doesn't find this in the word.
-fn loads<R: Abort, M: Memory>(rt: &R, m: &mut M, word: u64, found: u64)
-    requires { CanReach (M.view m.old) word }
-    ensures { CanReach (M.view m.new) word }
+/// A call on an arena by a caller that is in none.
+#[derive(Clone, Copy)]
+pub enum Ask {
+    /// Bytes of a size and an alignment are allocated.
+    Allocate(u64, u64),
+    /// The arena is entered and left.
+    Visit,
+    Close,
+}
+
+/// The place of the first byte, or 0 where there is nothing to answer.
+fn answer<R: Wait, M: Memory>(rt: &R, m: &mut M, id: ArenaId, ask: Ask) -> Result<u64, Refusal>
+    requires { CanVisit (M.view m.old) id }
+    ensures { CanVisit (M.view m.new) id }
 {
-    same(rt, m.load(word), found);
+    match ask {
+        Ask::Allocate(size, align) => m.allocate(rt, id, size, align),
+        Ask::Visit => match m.enter(id) {
+            Ok(()) => {
+                m.leave();
+                Ok(0)
+            }
+            Err(refusal) => Err(refusal),
+        },
+        Ask::Close => m.close(rt, id).and(Ok(0)),
+    }
+}
+
+/// Stops where one of the calls isn't answered so.
+pub fn asks<R: Abort + Wait, M: Memory>(
+    rt: &R,
+    m: &mut M,
+    id: ArenaId,
+    rows: &[(Ask, Result<u64, Refusal>)],
+)
+    requires { CanVisit (M.view m.old) id }
+    ensures { CanVisit (M.view m.new) id }
+{
+    for (k, row) in rows.iter().enumerate() {
+        let (ask, wanted) = *row;
+        same(rt, (k, answer(rt, m, id, ask)), (k, wanted));
+    }
 }
 
 /// Inside a shared arena with two words.
@@ -34,42 +70,15 @@ pub fn use_a_word<R: Abort + Wait, M: Memory>(rt: &R, m: &mut M, step: u64)
 {
     enter_two_words(rt, m);
     m.store(1, 7);
-    loads(rt, m, 1, 7 + step);
-    same(rt, m.swap_if(1, 0, 5), 7 + 2 * step);
-    same(rt, m.add(1, 10), 7 + 3 * step);
-    same(rt, m.patch(rt, 1, 0xff00, 0x4200), 17 + 4 * step);
-    loads(rt, m, 1, 0x4200 + 17 + 5 * step);
+    let loaded = m.load(1);
+    let found = m.swap_if(1, 0, 5);
+    let added = m.add(1, 10);
+    let patched = m.patch(rt, 1, 0xff00, 0x4200);
+    let left = m.load(1);
     m.leave();
-}
-
-/// Stops where `allocate` of a byte doesn't answer so.
-fn gives<R: Abort + Wait, M: Memory>(
-    rt: &R,
-    m: &mut M,
-    id: ArenaId,
-    align: u64,
-    answer: Result<u64, Refusal>,
-)
-    requires { CanVisit (M.view m.old) id }
-    ensures { CanVisit (M.view m.new) id }
-{
-    same(rt, m.allocate(rt, id, 1, align), answer);
-}
-
-/// Stops where `close` doesn't answer so.
-fn ends<R: Abort + Wait, M: Memory>(rt: &R, m: &mut M, id: ArenaId, answer: Result<(), Refusal>)
-    requires { CanVisit (M.view m.old) id }
-    ensures { CanVisit (M.view m.new) id }
-{
-    same(rt, m.close(rt, id), answer);
-}
-
-/// Stops where `enter` isn't refused so.
-fn stays_out<R: Abort, M: Memory>(rt: &R, m: &mut M, id: ArenaId, refusal: Refusal)
-    requires { CanVisit (M.view m.old) id }
-    ensures { CanVisit (M.view m.new) id }
-{
-    same(rt, m.enter(id), Err(refusal));
+    same(rt, (loaded, found), (7 + step, 7 + 2 * step));
+    same(rt, (added, patched), (7 + 3 * step, 17 + 4 * step));
+    same(rt, left, 0x4200 + 17 + 5 * step);
 }
 
 /// What every memory does with an arena that is closed.
@@ -78,11 +87,14 @@ pub fn close_an_arena<R: Abort + Wait, M: Memory>(rt: &R, m: &mut M)
     ensures { (M.view m.new).inside ≡ None }
 {
     let a = m.open_arena(rt, Kind::Confined).expect(rt, "an arena");
-    gives(rt, m, a, 3, Err(Refusal::BadAlignment));
-    ends(rt, m, a, Ok(()));
-    stays_out(rt, m, a, Refusal::Closed);
-    gives(rt, m, a, 1, Err(Refusal::Closed));
-    ends(rt, m, a, Err(Refusal::Closed));
+    let rows = [
+        (Ask::Allocate(1, 3), Err(Refusal::BadAlignment)),
+        (Ask::Close, Ok(0)),
+        (Ask::Visit, Err(Refusal::Closed)),
+        (Ask::Allocate(1, 1), Err(Refusal::Closed)),
+        (Ask::Close, Err(Refusal::Closed)),
+    ];
+    asks(rt, m, a, &rows);
 }
 
 /// What every memory does with an arena that is confined to another caller.
@@ -91,8 +103,11 @@ pub fn stay_out<R: Abort + Wait, M: Memory>(rt: &R, m: &mut M, id: ArenaId)
     requires known { has_arena (M.view m.old).state id ≡ true }
     ensures { (M.view m.new).inside ≡ None }
 {
-    stays_out(rt, m, id, Refusal::WrongThread);
-    gives(rt, m, id, 3, Err(Refusal::BadAlignment));
-    gives(rt, m, id, 1, Err(Refusal::WrongThread));
-    ends(rt, m, id, Err(Refusal::WrongThread));
+    let rows = [
+        (Ask::Visit, Err(Refusal::WrongThread)),
+        (Ask::Allocate(1, 3), Err(Refusal::BadAlignment)),
+        (Ask::Allocate(1, 1), Err(Refusal::WrongThread)),
+        (Ask::Close, Err(Refusal::WrongThread)),
+    ];
+    asks(rt, m, id, &rows);
 }

@@ -1,10 +1,10 @@
-ghost use Rattle.std.specs.Prelude.{◌≡◌, ◌≤◌, IsTrue, None, length};
+ghost use Rattle.std.specs.Prelude.{◌≡◌, ◌≤◌, None};
 ghost use Rattle.fm_lanes.specs.Value.{kind_of};
 ghost use Rattle.fm_segment.specs.Learnt.{CanUse};
 
 use crate::tests::compared::same;
-use crate::tests::segments::fresh;
-use fm_base::{Memory, Refusal};
+use crate::tests::segment_calls::fresh;
+use fm_base::{Kind, Memory, Refusal};
 use fm_handle::VarHandle;
 use fm_lanes::{Value, ValueKind};
 use fm_layout::Layout;
@@ -14,223 +14,96 @@ use std::alloc::Global;
 use std::process::Abort;
 use std::sync::Wait;
 
-/// A handle for a path into two rows of two such values.
-pub fn handle<R: Abort>(rt: &R, alloc: Global, kind: ValueKind, text: &str) -> VarHandle {
-    let row = Layout::sequence(alloc, 2, Layout::value(kind)).expect(rt, "a row");
-    let rows = Layout::sequence(alloc, 2, row).expect(rt, "rows");
+/// A handle for a path into a layout.
+pub fn handle<R: Abort>(rt: &R, alloc: Global, layout: &Layout, text: &str) -> VarHandle {
     let path = parse_path(alloc, text).expect(rt, "a path");
-    VarHandle::of(resolve(alloc, &rows, &path).expect(rt, "a value"))
+    VarHandle::of(resolve(alloc, layout, &path).expect(rt, "a value"))
 }
 
-/// Stops where the path leaves another number of indices open.
-pub fn takes<R: Abort>(rt: &R, h: &VarHandle, indices: &[u64])
-    ensures { length indices.now ≡ length h.now.dims }
+/// Two such layouts in a row.
+pub fn two<R: Abort>(rt: &R, alloc: Global, layout: Layout) -> Layout {
+    Layout::sequence(alloc, 2, layout).expect(rt, "a row")
+}
+
+/// A call of a handle. An exchange names what it expects first.
+#[derive(Clone, Copy)]
+pub enum Call {
+    Get,
+    Set(Value),
+    Add(Value),
+    Exchange(Value, Value),
+    /// Whether it was put is a boolean.
+    SetIf(Value, Value),
+    SetLong(i64),
+    ExchangeLong(i64, i64),
+    AddLong(i64),
+}
+
+/// A handle's call on the root at a base, with its indices, and what it is answered: the value found, or put.
+pub type Row<'a> = (&'a VarHandle, u64, &'a [u64], Call, Result<Value, Refusal>);
+
+/// Stops where the handle's value is of another kind.
+fn holds<R: Abort>(rt: &R, h: &VarHandle, v: Value)
+    ensures { kind_of v ≡ h.now.value.kind }
 {
+    same(rt, v.kind(), h.resolved().value().kind);
+}
+
+fn answer<R: Abort + Wait, M: Memory>(
+    rt: &R,
+    m: &mut M,
+    s: &Segment,
+    row: &Row,
+) -> Result<Value, Refusal>
+    requires { CanUse (M.view m.old) s.now }
+    ensures { CanUse (M.view m.new) s.now }
+{
+    let (h, base, indices, call, _) = *row;
     same(rt, indices.len() == h.resolved().dims().len(), true);
-}
-
-fn is_of(v: Value, kind: ValueKind) -> bool
-    ensures { IsTrue result → kind_of v ≡ kind }
-{
-    match (v, kind) {
-        (Value::Byte(_), ValueKind::Byte) => true,
-        (Value::Boolean(_), ValueKind::Boolean) => true,
-        (Value::Char(_), ValueKind::Char) => true,
-        (Value::Short(_), ValueKind::Short) => true,
-        (Value::Int(_), ValueKind::Int) => true,
-        (Value::Long(_), ValueKind::Long) => true,
-        _ => false,
+    match call {
+        Call::Get => h.get(m, s, base, indices),
+        Call::Set(v) => {
+            holds(rt, h, v);
+            h.set(rt, m, s, base, indices, v).and(Ok(v))
+        }
+        Call::Add(delta) => {
+            holds(rt, h, delta);
+            h.get_and_add(rt, m, s, base, indices, delta)
+        }
+        Call::Exchange(expected, v) => {
+            holds(rt, h, expected);
+            holds(rt, h, v);
+            h.compare_and_exchange(rt, m, s, base, indices, expected, v)
+        }
+        Call::SetIf(expected, v) => {
+            holds(rt, h, expected);
+            holds(rt, h, v);
+            let is_set = h.compare_and_set(rt, m, s, base, indices, expected, v)?;
+            Ok(Value::Boolean(is_set))
+        }
+        Call::SetLong(n) => {
+            let set = h.set_long(m, s, base, indices, n);
+            set.and(Ok(Value::Long(n)))
+        }
+        Call::ExchangeLong(expected, n) => {
+            let found = h.compare_and_exchange_long(m, s, base, indices, expected, n)?;
+            Ok(Value::Long(found))
+        }
+        Call::AddLong(delta) => {
+            let found = h.get_and_add_long(m, s, base, indices, delta)?;
+            Ok(Value::Long(found))
+        }
     }
 }
 
-/// Stops where the handle's value is of another kind.
-pub fn holds<R: Abort>(rt: &R, h: &VarHandle, v: Value)
-    ensures { kind_of v ≡ h.now.value.kind }
-{
-    same(rt, is_of(v, h.resolved().value().kind), true);
-}
-
-/// Stops where `get` doesn't answer so.
-fn gets<R: Abort, M: Memory>(
-    rt: &R,
-    m: &mut M,
-    h: &VarHandle,
-    s: &Segment,
-    indices: &[u64],
-    answer: Result<Value, Refusal>,
-)
+/// Stops where one of the calls isn't answered so.
+pub fn calls<R: Abort + Wait, M: Memory>(rt: &R, m: &mut M, s: &Segment, rows: &[Row])
     requires { CanUse (M.view m.old) s.now }
     ensures { CanUse (M.view m.new) s.now }
 {
-    takes(rt, h, indices);
-    same(rt, h.get(m, s, 0, indices), answer);
-}
-
-/// Stops where `set` doesn't answer so.
-fn sets<R: Abort + Wait, M: Memory>(
-    rt: &R,
-    m: &mut M,
-    h: &VarHandle,
-    s: &Segment,
-    indices: &[u64],
-    v: Value,
-    answer: Result<(), Refusal>,
-)
-    requires { CanUse (M.view m.old) s.now }
-    ensures { CanUse (M.view m.new) s.now }
-{
-    takes(rt, h, indices);
-    holds(rt, h, v);
-    same(rt, h.set(rt, m, s, 0, indices, v), answer);
-}
-
-/// Stops where `get_and_add` doesn't answer so.
-fn adds<R: Abort + Wait, M: Memory>(
-    rt: &R,
-    m: &mut M,
-    h: &VarHandle,
-    s: &Segment,
-    indices: &[u64],
-    delta: Value,
-    answer: Result<Value, Refusal>,
-)
-    requires { CanUse (M.view m.old) s.now }
-    ensures { CanUse (M.view m.new) s.now }
-{
-    takes(rt, h, indices);
-    holds(rt, h, delta);
-    same(rt, h.get_and_add(rt, m, s, 0, indices, delta), answer);
-}
-
-/// Stops where `compare_and_exchange` of this value for the next one doesn't answer so.
-fn exchanges<R: Abort + Wait, M: Memory>(
-    rt: &R,
-    m: &mut M,
-    h: &VarHandle,
-    s: &Segment,
-    indices: &[u64],
-    change: (Value, Value),
-    answer: Result<Value, Refusal>,
-)
-    requires { CanUse (M.view m.old) s.now }
-    ensures { CanUse (M.view m.new) s.now }
-{
-    let (expected, v) = change;
-    takes(rt, h, indices);
-    holds(rt, h, expected);
-    holds(rt, h, v);
-    let found = h.compare_and_exchange(rt, m, s, 0, indices, expected, v);
-    same(rt, found, answer);
-}
-
-/// Stops where `compare_and_set` of this value for the next one doesn't answer so.
-fn wins<R: Abort + Wait, M: Memory>(
-    rt: &R,
-    m: &mut M,
-    h: &VarHandle,
-    s: &Segment,
-    indices: &[u64],
-    change: (Value, Value),
-    answer: Result<bool, Refusal>,
-)
-    requires { CanUse (M.view m.old) s.now }
-    ensures { CanUse (M.view m.new) s.now }
-{
-    let (expected, v) = change;
-    takes(rt, h, indices);
-    holds(rt, h, expected);
-    holds(rt, h, v);
-    let won = h.compare_and_set(rt, m, s, 0, indices, expected, v);
-    same(rt, won, answer);
-}
-
-/// Stops where `set_long` doesn't answer so.
-fn sets_long<R: Abort, M: Memory>(
-    rt: &R,
-    m: &mut M,
-    h: &VarHandle,
-    s: &Segment,
-    base: u64,
-    indices: &[u64],
-    answer: Result<(), Refusal>,
-)
-    requires { CanUse (M.view m.old) s.now }
-    ensures { CanUse (M.view m.new) s.now }
-{
-    takes(rt, h, indices);
-    same(rt, h.set_long(m, s, base, indices, 7), answer);
-}
-
-/// Stops where `compare_and_exchange_long` of 0 for 5 doesn't answer so.
-fn exchanges_long<R: Abort, M: Memory>(
-    rt: &R,
-    m: &mut M,
-    h: &VarHandle,
-    s: &Segment,
-    indices: &[u64],
-    answer: Result<i64, Refusal>,
-)
-    requires { CanUse (M.view m.old) s.now }
-    ensures { CanUse (M.view m.new) s.now }
-{
-    takes(rt, h, indices);
-    same(
-        rt,
-        h.compare_and_exchange_long(m, s, 0, indices, 0, 5),
-        answer,
-    );
-}
-
-/// Stops where `get_and_add_long` of -20 doesn't answer so.
-fn adds_long<R: Abort, M: Memory>(
-    rt: &R,
-    m: &mut M,
-    h: &VarHandle,
-    s: &Segment,
-    indices: &[u64],
-    answer: Result<i64, Refusal>,
-)
-    requires { CanUse (M.view m.old) s.now }
-    ensures { CanUse (M.view m.new) s.now }
-{
-    takes(rt, h, indices);
-    same(rt, h.get_and_add_long(m, s, 0, indices, -20), answer);
-}
-
-/// An int, at `index` of the second row, is set, added to, and changed by who expects it.
-fn change_an_int<R: Abort + Wait, M: Memory>(
-    rt: &R,
-    m: &mut M,
-    rows: &VarHandle,
-    row: &VarHandle,
-    s: &Segment,
-    index: u64,
-)
-    requires { CanUse (M.view m.old) s.now }
-    ensures { CanUse (M.view m.new) s.now }
-{
-    let (four, seven, nine) = (Value::Int(4), Value::Int(7), Value::Int(9));
-    sets(rt, m, rows, s, &[1, index], seven, Ok(()));
-    adds(rt, m, row, s, &[index], Value::Int(-3), Ok(seven));
-    wins(rt, m, rows, s, &[1, index], (seven, nine), Ok(false));
-    wins(rt, m, rows, s, &[1, index], (four, nine), Ok(true));
-}
-
-/// It is 9 then, and is exchanged for 7.
-fn exchange_an_int<R: Abort + Wait, M: Memory>(
-    rt: &R,
-    m: &mut M,
-    row: &VarHandle,
-    s: &Segment,
-    index: u64,
-)
-    requires { CanUse (M.view m.old) s.now }
-    ensures { CanUse (M.view m.new) s.now }
-{
-    let (four, seven, nine) = (Value::Int(4), Value::Int(7), Value::Int(9));
-    exchanges(rt, m, row, s, &[index], (four, seven), Ok(nine));
-    exchanges(rt, m, row, s, &[index], (nine, seven), Ok(nine));
-    gets(rt, m, row, s, &[index], Ok(seven));
+    for (k, row) in rows.iter().enumerate() {
+        same(rt, (k, answer(rt, m, s, row)), (k, row.4));
+    }
 }
 
 /// What every memory does with an int in a word whose other int others alone change: the int is as this caller leaves
@@ -246,26 +119,36 @@ pub fn use_ints<R: Abort + Wait, M: Memory>(
     requires index { index ≤ 1 }
     ensures { (M.view m.new).inside ≡ None }
 {
-    let s = fresh(rt, m, 16);
-    let rows = handle(rt, alloc, ValueKind::Int, "[][]");
-    let row = handle(rt, alloc, ValueKind::Int, "[1][]");
-    change_an_int(rt, m, &rows, &row, &s, index);
-    exchange_an_int(rt, m, &row, &s, index);
-    gets(rt, m, &rows, &s, &[1, 1 - index], Ok(Value::Int(others)));
-}
-
-/// A long to which others add `step` before each call on its word.
-fn change_a_long<R: Abort, M: Memory>(rt: &R, m: &mut M, long: &VarHandle, s: &Segment, step: u32)
-    requires known { CanUse (M.view m.old) s.now }
-    requires small { step ≤ 1 }
-    ensures { CanUse (M.view m.new) s.now }
-{
-    let step = i64::from(step);
-    sets_long(rt, m, long, s, 0, &[1, 0], Ok(()));
-    gets(rt, m, long, s, &[1, 0], Ok(Value::Long(7 + step)));
-    exchanges_long(rt, m, long, s, &[1, 0], Ok(7 + 2 * step));
-    adds_long(rt, m, long, s, &[1, 0], Ok(7 + 3 * step));
-    gets(rt, m, long, s, &[1, 0], Ok(Value::Long(4 * step - 13)));
+    let s = fresh(rt, m, Kind::Shared, 16);
+    let layout = two(rt, alloc, two(rt, alloc, Layout::value(ValueKind::Int)));
+    let rows = &handle(rt, alloc, &layout, "[][]");
+    let row = &handle(rt, alloc, &layout, "[1][]");
+    let (both, one, other) = (&[1, index], &[index], &[1, 1 - index]);
+    let (four, seven, nine) = (Value::Int(4), Value::Int(7), Value::Int(9));
+    let (missed, set) = (Ok(Value::Boolean(false)), Ok(Value::Boolean(true)));
+    let table = [
+        (rows, 0, both.as_slice(), Call::Set(seven), Ok(seven)),
+        (row, 0, one.as_slice(), Call::Add(Value::Int(-3)), Ok(seven)),
+        (rows, 0, both.as_slice(), Call::SetIf(seven, nine), missed),
+        (rows, 0, both.as_slice(), Call::SetIf(four, nine), set),
+        (
+            row,
+            0,
+            one.as_slice(),
+            Call::Exchange(four, seven),
+            Ok(nine),
+        ),
+        (
+            row,
+            0,
+            one.as_slice(),
+            Call::Exchange(nine, seven),
+            Ok(nine),
+        ),
+        (row, 0, one.as_slice(), Call::Get, Ok(seven)),
+        (rows, 0, other.as_slice(), Call::Get, Ok(Value::Int(others))),
+    ];
+    calls(rt, m, &s, &table);
 }
 
 /// What every memory does with a long to which others add `step` before each call on its word.
@@ -274,12 +157,36 @@ pub fn use_longs<R: Abort + Wait, M: Memory>(rt: &R, m: &mut M, alloc: Global, s
     requires small { step ≤ 1 }
     ensures { (M.view m.new).inside ≡ None }
 {
-    let s = fresh(rt, m, 32);
-    let long = handle(rt, alloc, ValueKind::Long, "[][]");
-    change_a_long(rt, m, &long, &s, step);
+    let step = i64::from(step);
+    let s = fresh(rt, m, Kind::Shared, 32);
+    let layout = two(rt, alloc, two(rt, alloc, Layout::value(ValueKind::Long)));
+    let long = &handle(rt, alloc, &layout, "[][]");
+    let at = [1, 0];
+    let at = at.as_slice();
+    let table = [
+        (long, 0, at, Call::SetLong(7), Ok(Value::Long(7))),
+        (long, 0, at, Call::Get, Ok(Value::Long(7 + step))),
+        (
+            long,
+            0,
+            at,
+            Call::ExchangeLong(0, 5),
+            Ok(Value::Long(7 + 2 * step)),
+        ),
+        (
+            long,
+            0,
+            at,
+            Call::AddLong(-20),
+            Ok(Value::Long(7 + 3 * step)),
+        ),
+        (long, 0, at, Call::Get, Ok(Value::Long(4 * step - 13))),
+    ];
+    calls(rt, m, &s, &table);
 }
 
-/// What every memory does with a value of an arena that is confined to another caller.
+/// What every memory does with a value of an arena that is confined to another caller, be it an int or a long that fills
+/// a word, and with calls that are refused before.
 pub fn use_values_of_another<R: Abort + Wait, M: Memory>(
     rt: &R,
     m: &mut M,
@@ -289,31 +196,23 @@ pub fn use_values_of_another<R: Abort + Wait, M: Memory>(
     requires { CanUse (M.view m.old) s.now }
     ensures { CanUse (M.view m.new) s.now }
 {
-    let rows = handle(rt, alloc, ValueKind::Int, "[][]");
-    let (v, refused) = (Value::Int(7), Refusal::WrongThread);
-    gets(rt, m, &rows, s, &[0, 1], Err(refused));
-    sets(rt, m, &rows, s, &[0, 1], v, Err(refused));
-    adds(rt, m, &rows, s, &[0, 1], v, Err(refused));
-    wins(rt, m, &rows, s, &[0, 1], (v, v), Err(refused));
-    exchanges(rt, m, &rows, s, &[0, 1], (v, v), Err(refused));
-}
-
-/// A handle for a long by itself.
-fn one_long<R: Abort>(rt: &R, alloc: Global) -> VarHandle {
-    let path = parse_path(alloc, ".").expect(rt, "a path");
-    let long = resolve(alloc, &Layout::value(ValueKind::Long), &path);
-    VarHandle::of(long.expect(rt, "a value"))
-}
-
-/// The same of a long that fills a word, and of a call that is refused before.
-pub fn use_a_long_of_another<R: Abort, M: Memory>(rt: &R, m: &mut M, alloc: Global, s: &Segment)
-    requires { CanUse (M.view m.old) s.now }
-    ensures { CanUse (M.view m.new) s.now }
-{
-    let long = one_long(rt, alloc);
-    sets_long(rt, m, &long, s, 0, &[], Err(Refusal::WrongThread));
-    sets_long(rt, m, &long, s, 12, &[], Err(Refusal::Bounds));
-    sets_long(rt, m, &long, s, 4, &[], Err(Refusal::Misaligned));
-    exchanges_long(rt, m, &long, s, &[], Err(Refusal::WrongThread));
-    adds_long(rt, m, &long, s, &[], Err(Refusal::WrongThread));
+    let layout = two(rt, alloc, two(rt, alloc, Layout::value(ValueKind::Int)));
+    let int = &handle(rt, alloc, &layout, "[][]");
+    let long = &handle(rt, alloc, &Layout::value(ValueKind::Long), ".");
+    let at = [0, 1];
+    let (at, none) = (at.as_slice(), [].as_slice());
+    let (v, refused) = (Value::Int(7), Err(Refusal::WrongThread));
+    let table = [
+        (int, 0, at, Call::Get, refused),
+        (int, 0, at, Call::Set(v), refused),
+        (int, 0, at, Call::Add(v), refused),
+        (int, 0, at, Call::SetIf(v, v), refused),
+        (int, 0, at, Call::Exchange(v, v), refused),
+        (long, 0, none, Call::SetLong(7), refused),
+        (long, 12, none, Call::SetLong(7), Err(Refusal::Bounds)),
+        (long, 4, none, Call::SetLong(7), Err(Refusal::Misaligned)),
+        (long, 0, none, Call::ExchangeLong(0, 5), refused),
+        (long, 0, none, Call::AddLong(-20), refused),
+    ];
+    calls(rt, m, s, &table);
 }

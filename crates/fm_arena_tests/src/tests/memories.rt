@@ -19,7 +19,7 @@ pub fn use_alone<R: Abort + Wait, M: Memory>(rt: &R, m: &mut M, alloc: Global)
     use_a_word(rt, m, 0);
     close_an_arena(rt, m);
     use_ranges(rt, m);
-    use_values(rt, m, 7, 7, -1);
+    use_values(rt, m, [7, 7, -1]);
     use_ints(rt, m, alloc, 0, 0);
     use_longs(rt, m, alloc, 0);
 }
@@ -31,17 +31,7 @@ fn one_thread(rt: HostRuntime) {
     use_alone(&rt, &mut m, rt.alloc());
 }
 
-/// What every memory does before whose calls another adds 1 to the word.
-fn use_beside_another<R: Abort + Wait, M: Memory>(rt: &R, m: &mut M, alloc: Global)
-    requires { (M.view m.old).inside ≡ None }
-{
-    use_a_word(rt, m, 1);
-    close_an_arena(rt, m);
-    use_ranges(rt, m);
-    use_values(rt, m, 8, 10, 0);
-    use_longs(rt, m, alloc, 1);
-}
-
+/// Another adds 1 to the word before each call on it.
 #[test]
 fn beside_another_caller(rt: HostRuntime) {
     let others = Others::Add {
@@ -49,7 +39,11 @@ fn beside_another_caller(rt: HostRuntime) {
         step: 1,
     };
     let mut m = Double::new(&rt, rt.alloc(), Mono::make(rt.alloc(), 64), others);
-    use_beside_another(&rt, &mut m, rt.alloc());
+    use_a_word(&rt, &mut m, 1);
+    close_an_arena(&rt, &mut m);
+    use_ranges(&rt, &mut m);
+    use_values(&rt, &mut m, [8, 10, 0]);
+    use_longs(&rt, &mut m, rt.alloc(), 1);
 }
 
 #[test]

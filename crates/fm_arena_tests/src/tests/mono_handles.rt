@@ -1,4 +1,3 @@
-mod calls;
 mod layouts;
 mod refusals;
 mod updates;

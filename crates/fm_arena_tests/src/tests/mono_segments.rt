@@ -9,7 +9,6 @@ use fm_base::{ArenaId, Kind, Refusal};
 use fm_lanes::ValueKind;
 use fm_layout::Layout;
 use fm_segment::{Segment, is_aligned};
-use std::process::Abort;
 use std::test::Fail;
 
 /// The end of every arena.
@@ -40,10 +39,6 @@ fn a_segment_has_its_parts(rt: HostRuntime) {
     same(&rt, segment.arena(), arena(3));
     same(&rt, (segment.first(), segment.size()), (8, 24));
     same(&rt, segment.is_read_only(), false);
-}
-
-#[test]
-fn places_are_aligned(rt: HostRuntime) {
     same(&rt, is_aligned(24, 8), true);
     same(&rt, is_aligned(20, 8), false);
     same(&rt, is_aligned(7, 1), true);
@@ -137,50 +132,28 @@ fn the_last_byte_is_a_slice(rt: HostRuntime) {
     same(&rt, whole.overlap(&last), Some(places(LIMIT - 1, LIMIT)));
 }
 
-/// Stops where the places 8 to 24 don't share those from `start` to `end` with these.
-fn shares<R: Abort>(rt: &R, first: u64, last: u64, start: u64, end: u64)
-    requires ordered { first ≤ last }
-    requires low { last ≤ 2 ^ 40 }
-    requires shared { start ≤ end }
-    requires low_end { end ≤ 2 ^ 40 }
-{
-    let (segment, other) = (places(8, 24), places(first, last));
-    same(
-        rt,
-        (segment.overlap(&other), (first, last)),
-        (Some(places(start, end)), (first, last)),
-    );
-    same(
-        rt,
-        (other.overlap(&segment), (first, last)),
-        (Some(places(start, end)), (first, last)),
-    );
-}
-
+/// With the places 8 to 24, in both directions.
 #[test]
 fn overlaps_are_slices_of_the_first(rt: HostRuntime) {
-    shares(&rt, 0, 9, 8, 9);
-    shares(&rt, 0, 24, 8, 24);
-    shares(&rt, 0, 40, 8, 24);
-    shares(&rt, 8, 24, 8, 24);
-    shares(&rt, 12, 16, 12, 16);
-    shares(&rt, 12, 40, 12, 24);
-    shares(&rt, 23, 24, 23, 24);
-}
-
-/// Stops where the places 8 to 24 share any with these.
-fn shares_none<R: Abort>(rt: &R, other: Segment) {
     let segment = places(8, 24);
-    same(rt, segment.overlap(&other), None);
-    same(rt, other.overlap(&segment), None);
-}
-
-#[test]
-fn segments_apart_have_no_overlap(rt: HostRuntime) {
-    shares_none(&rt, places(0, 8));
-    shares_none(&rt, places(24, 40));
-    shares_none(&rt, places(12, 12));
-    shares_none(&rt, Segment::of(arena(1), 8, 16));
+    for (other, shared) in [
+        (places(0, 9), Some(places(8, 9))),
+        (places(0, 24), Some(places(8, 24))),
+        (places(0, 40), Some(places(8, 24))),
+        (places(8, 12), Some(places(8, 12))),
+        (places(8, 24), Some(places(8, 24))),
+        (places(12, 16), Some(places(12, 16))),
+        (places(12, 40), Some(places(12, 24))),
+        (places(23, 24), Some(places(23, 24))),
+        (places(0, 8), None),
+        (places(24, 40), None),
+        (places(12, 12), None),
+        (Segment::of(arena(1), 8, 16), None),
+    ] {
+        let first = other.first();
+        assert_eq!(rt; segment.overlap(&other), shared, "from {first}");
+        assert_eq!(rt; other.overlap(&segment), shared, "from {first}");
+    }
     same(&rt, places(12, 12).overlap(&places(12, 12)), None);
 }
 
@@ -205,50 +178,32 @@ fn elements_are_the_consecutive_slices(rt: HostRuntime) {
     same(&rt, elements.next(), Some(places(16, 24)));
     same(&rt, elements.next(), Some(places(24, 32)));
     same(&rt, elements.next(), None);
-}
-
-#[test]
-fn no_bytes_have_no_elements(rt: HostRuntime) {
-    let long = Layout::value(ValueKind::Long);
-    let mut elements = places(8, 8).elements(&long).expect(&rt, "elements");
-    same(&rt, elements.next(), None);
-}
-
-#[test]
-fn elements_stay_read_only(rt: HostRuntime) {
-    let long = Layout::value(ValueKind::Long);
+    let mut none = places(8, 8).elements(&long).expect(&rt, "elements");
+    same(&rt, none.next(), None);
     let kept = places(8, 32).as_read_only();
     for element in kept.elements(&long).expect(&rt, "elements") {
         same(&rt, (element.is_read_only(), element.size()), (true, 8));
     }
 }
 
-/// Stops where the elements of these places aren't refused so.
-fn refuses_elements<R: Abort>(rt: &R, layout: &Layout, first: u64, last: u64, refusal: Refusal)
-    requires ordered { first ≤ last }
-    requires low { last ≤ 2 ^ 40 }
-{
-    let found = places(first, last).elements(layout).err();
-    same(rt, (found, (first, last)), (Some(refusal), (first, last)));
-}
-
-#[test]
-fn elements_of_no_size_are_refused_first(rt: HostRuntime) {
-    let empty = Layout::structure(Vec::new(rt.alloc())).expect(&rt, "a layout");
-    refuses_elements(&rt, &empty, 1, 21, Refusal::NoSize);
-}
-
 #[test]
 fn elements_are_refused_in_order(rt: HostRuntime) {
+    let empty = Layout::structure(Vec::new(rt.alloc())).expect(&rt, "a layout");
     let long = Layout::value(ValueKind::Long);
-    refuses_elements(&rt, &long, 1, 21, Refusal::Ragged(4));
-    refuses_elements(&rt, &long, 4, 28, Refusal::Misaligned);
-}
-
-#[test]
-fn ragged_elements_are_refused_in_order(rt: HostRuntime) {
     let int = Layout::value(ValueKind::Int);
     let ragged = int.with_alignment(8).expect(&rt, "an alignment");
-    refuses_elements(&rt, &ragged, 1, 22, Refusal::Ragged(1));
-    refuses_elements(&rt, &ragged, 4, 24, Refusal::ElementRagged);
+    for (layout, segment, refusal) in [
+        (&empty, places(1, 21), Refusal::NoSize),
+        (&long, places(1, 21), Refusal::Ragged(4)),
+        (&long, places(4, 28), Refusal::Misaligned),
+        (&ragged, places(1, 22), Refusal::Ragged(1)),
+        (&ragged, places(4, 24), Refusal::ElementRagged),
+    ] {
+        let found = segment.elements(layout).err();
+        same(
+            &rt,
+            (found, segment.first()),
+            (Some(refusal), segment.first()),
+        );
+    }
 }

@@ -1,18 +1,16 @@
 //! Pages, which an arena gets one by one as it allocates, and gives back as it ends.
-ghost use Rattle.std.specs.Prelude.{◌≡◌, ◌<◌, ◌≤◌, None};
+ghost use Rattle.std.specs.Prelude.{◌<◌, ◌≤◌};
 ghost use Rattle.fm_base.specs.Learnt.{CanVisit};
 ghost use Rattle.fm_rule_calls.specs.Told.{view_of_pass};
-ghost use Rattle.fm_segment.specs.Access.{IsKnown};
 ghost use Rattle.fm_arena.specs.Handles.{CanGiveBack};
 
+use crate::tests::arenas::automatic;
 use crate::tests::compared::same;
 use crate::tests::pools::pool_as;
+use crate::tests::segment_calls::{Call, Part, calls, fresh};
 use fm_arena::{Arena, AutoHandle, Shared, a_handle_lasts};
 use fm_base::{ArenaId, Kind, Memory, Refusal};
 use fm_close::GaveBack;
-use fm_lanes::{Value, ValueKind};
-use fm_layout::Layout;
-use fm_segment::Segment;
 use fm_words::Shape;
 use std::alloc::AllocGlobal;
 use std::process::Abort;
@@ -86,17 +84,6 @@ fn who_found_no_page_finds_it_once_another_arena_is_closed(rt: HostRuntime) {
     same(&rt, m.allocate(&rt, b.id(), 192, 8), Ok(0));
 }
 
-/// An automatic arena that has given 192 bytes.
-fn automatic<R: Abort + Wait>(rt: &R, m: &mut Shared) -> AutoHandle
-    requires { m.old.inside ≡ None }
-    ensures { CanGiveBack m.new result }
-{
-    let handle = AutoHandle::start(rt, m).expect(rt, "a slot");
-    a_handle_lasts();
-    same(rt, m.allocate(rt, handle.arena(), 192, 8), Ok(0));
-    handle
-}
-
 /// Another arena, for which the page that is left is too few.
 fn short<R: Abort + Wait>(rt: &R, m: &mut Shared, handle: &AutoHandle) -> ArenaId
     requires { CanGiveBack m.old handle.now }
@@ -113,48 +100,29 @@ fn short<R: Abort + Wait>(rt: &R, m: &mut Shared, handle: &AutoHandle) -> ArenaI
 fn the_last_handle_gives_the_pages_back(rt: HostRuntime) {
     let (pool, pass) = pool_as(&rt, FOUR_PAGES);
     let mut m = Shared::new(&pool, pass);
-    let handle = automatic(&rt, &mut m);
+    let (handle, _) = automatic(&rt, &mut m, 192);
     let a = short(&rt, &mut m, &handle);
     same(&rt, handle.give_back(&rt, &mut m), GaveBack::Ended);
     same(&rt, m.allocate(&rt, a, 65, 1), Ok(0));
-}
-
-/// A new arena, and all its bytes.
-fn whole<R: Abort + Wait>(rt: &R, m: &mut Shared) -> (Arena, Segment)
-    requires { m.old.inside ≡ None }
-    ensures outside { m.new.inside ≡ None }
-    ensures known { IsKnown (view_of_pass m.new) result.1 }
-    ensures arena { result.1.arena ≡ result.0.id }
-{
-    let arena = m.start(rt, Kind::Shared).expect(rt, "a slot");
-    let s = m.allocate_segment(rt, &arena, 192, 8).expect(rt, "pages");
-    (arena, s)
-}
-
-/// How many of the longs of 192 bytes are 0, up to the first one that isn't.
-fn zeros(m: &mut Shared, s: &Segment) -> u64
-    requires outside { m.old.inside ≡ None }
-    requires known { IsKnown (view_of_pass m.old) s.now }
-    ensures outside { m.new.inside ≡ None }
-{
-    let long = Layout::value(ValueKind::Long);
-    for at in 0..24 {
-        if s.get(m, &long, 8 * at) != Ok(Value::Long(0)) {
-            return at;
-        }
-    }
-    24
 }
 
 #[test]
 fn each_page_is_zeros_when_it_is_lent_again(rt: HostRuntime) {
     let (pool, pass) = pool_as(&rt, FOUR_PAGES);
     let mut m = Shared::new(&pool, pass);
-    let (arena, s) = whole(&rt, &mut m);
+    let arena = m.start(&rt, Kind::Shared).expect(&rt, "a slot");
+    let s = m.allocate_segment(&rt, &arena, 192, 8).expect(&rt, "pages");
     same(&rt, s.fill(&rt, &mut m, 255), Ok(()));
     same(&rt, arena.close(&rt, &mut m), Ok(()));
-    let (_, t) = whole(&rt, &mut m);
-    same(&rt, zeros(&mut m, &t), 24);
+    let s = fresh(&rt, &mut m, Kind::Shared, 192);
+    for word in 0..24 {
+        let all = Part {
+            at: 0,
+            size: 192,
+            is_read_only: false,
+        };
+        calls(&rt, &mut m, &s, &[(Call::Get(all, 8 * word), Ok(0))]);
+    }
 }
 
 /// What an allocation of all bytes of a pool of so many pages is answered, and then one of another arena.

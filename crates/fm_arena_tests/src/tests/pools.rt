@@ -8,11 +8,9 @@ ghost use Rattle.fm_words.specs.Shapes.{IsValid};
 
 use crate::tests::body::{stay_out, use_a_word};
 use crate::tests::exact::use_by_itself;
-use crate::tests::handles::{use_a_long_of_another, use_values_of_another};
+use crate::tests::handles::use_values_of_another;
 use crate::tests::memories::use_alone;
-use crate::tests::segments::{
-    copy_until_closed, read_of_another, use_no_bytes, use_of_another, use_ranges,
-};
+use crate::tests::segments::{copy_until_closed, use_of_another, use_ranges};
 use fm_arena::Shared;
 use fm_base::{Kind, Memory};
 use fm_memory_doubles::Interrupted;
@@ -61,20 +59,14 @@ pub(crate) fn both<'a, R: Abort + Wait>(
     (Shared::new(pool, first), Shared::new(pool, second))
 }
 
-#[test]
-fn over_a_pool(rt: HostRuntime) {
-    let (pool, pass) = made(&rt);
-    let mut m = Shared::new(&pool, pass);
-    use_alone(&rt, &mut m, rt.alloc());
-}
-
 /// A pass that was asked, and has every number, is by itself.
 #[test]
-fn over_a_pool_by_itself(rt: HostRuntime) {
+fn over_a_pool(rt: HostRuntime) {
     let (pool, mut pass) = made(&rt);
     if pool.whole(&mut pass) {
         let mut m = Shared::new(&pool, pass);
         use_by_itself(&rt, &mut m);
+        use_alone(&rt, &mut m, rt.alloc());
     } else {
         assert!(rt; false);
     }
@@ -115,10 +107,7 @@ fn use_beside_another<R: Abort + Wait, M: Memory>(rt: &R, m: &mut M, alloc: Glob
     requires { CanUse (M.view m.old) s.now }
 {
     use_of_another(rt, m, s);
-    read_of_another(rt, m, s);
-    use_no_bytes(rt, m, s);
     use_values_of_another(rt, m, alloc, s);
-    use_a_long_of_another(rt, m, alloc, s);
     stay_out(rt, m, s.arena());
     use_a_word(rt, m, 0);
     use_ranges(rt, m);

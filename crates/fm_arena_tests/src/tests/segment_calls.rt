@@ -1,192 +1,124 @@
-ghost use Rattle.std.specs.Prelude.{◌≡◌, None};
+ghost use Rattle.std.specs.Prelude.{◌≡◌, ◌≢◌, None};
 ghost use Rattle.fm_base.specs.Outcomes.{Lasts};
-ghost use Rattle.fm_segment.specs.Learnt.{CanGet, CanSet, CanUse, CanUseBoth};
+ghost use Rattle.fm_segment.specs.Learnt.{CanUse};
 
 use crate::tests::compared::same;
-use fm_base::{Memory, Refusal};
+use fm_base::{Kind, Memory, Refusal};
 use fm_lanes::{Value, ValueKind};
 use fm_layout::Layout;
 use fm_segment::Segment;
 use std::process::Abort;
 use std::sync::Wait;
 
-/// Stops where `get` doesn't answer so.
-pub fn gets<R: Abort, M: Memory>(
-    rt: &R,
-    m: &mut M,
-    s: &Segment,
-    layout: &Layout,
-    offset: u64,
-    answer: Result<Value, Refusal>,
-)
-    requires { CanGet (M.view m.old) s.now layout.now }
-    ensures outside { (M.view m.new).inside ≡ None }
+/// A segment of so many bytes of a fresh arena.
+pub fn fresh<R: Abort + Wait, M: Memory>(rt: &R, m: &mut M, kind: Kind, size: u64) -> Segment
+    requires outside { (M.view m.old).inside ≡ None }
+    requires by_hand { kind ≢ Kind.Automatic }
+    ensures known { CanUse (M.view m.new) result }
     ensures lasts { Lasts (M.view m.old) (M.view m.new) }
 {
-    same(rt, s.get(m, layout, offset), answer);
+    let arena = m.open_arena(rt, kind).expect(rt, "an arena");
+    let first = m.allocate(rt, arena, size, 8).expect(rt, "bytes");
+    Segment::of(arena, first, size)
 }
 
-/// Stops where `set` doesn't answer so.
-pub fn sets<R: Abort + Wait, M: Memory>(
+/// So many bytes of a segment from an offset on.
+#[derive(Clone, Copy)]
+pub struct Part {
+    pub at: u64,
+    pub size: u64,
+    pub is_read_only: bool,
+}
+
+impl Part {
+    /// The part of a segment that is known.
+    fn of<R: Abort, M: Memory>(self, rt: &R, m: &M, s: &Segment) -> Segment
+        requires { CanUse (M.view m.now) s.now }
+        ensures { CanUse (M.view m.now) result }
+    {
+        assert!(rt; self.at <= s.size() && self.size <= s.size() - self.at);
+        let part = Segment::of(s.arena(), s.first() + self.at, self.size);
+        if self.is_read_only {
+            part.as_read_only()
+        } else {
+            part
+        }
+    }
+}
+
+/// A call on parts of one segment.
+#[derive(Clone, Copy)]
+pub enum Call<'a> {
+    /// The long at an offset is got.
+    Get(Part, u64),
+    Set(Part, u64, i64),
+    Fill(Part, u8),
+    /// Bytes are put from an offset on.
+    Put(Part, u64, &'a [u8]),
+    /// The first part is copied from the second.
+    CopyFrom(Part, Part),
+    /// From an offset of the first part to one of the second, so many bytes.
+    Copy(Part, u64, Part, u64, u64),
+    Mismatch(Part, Part),
+    Close,
+}
+
+/// What was got or compared, or 0 where there is nothing to answer.
+fn answer<R: Abort + Wait, M: Memory>(
     rt: &R,
     m: &mut M,
     s: &Segment,
-    layout: &Layout,
-    offset: u64,
-    v: Value,
-    answer: Result<(), Refusal>,
-)
-    requires { CanSet (M.view m.old) s.now layout.now v }
-    ensures outside { (M.view m.new).inside ≡ None }
-    ensures lasts { Lasts (M.view m.old) (M.view m.new) }
-{
-    same(rt, s.set(rt, m, layout, offset, v), answer);
-}
-
-/// Stops where `get` of a long doesn't answer so.
-pub fn gets_long<R: Abort, M: Memory>(
-    rt: &R,
-    m: &mut M,
-    s: &Segment,
-    offset: u64,
-    answer: Result<Value, Refusal>,
-)
+    call: Call,
+) -> Result<i64, Refusal>
     requires { CanUse (M.view m.old) s.now }
-    ensures outside { (M.view m.new).inside ≡ None }
-    ensures lasts { Lasts (M.view m.old) (M.view m.new) }
-{
-    gets(rt, m, s, &Layout::value(ValueKind::Long), offset, answer);
-}
-
-/// Stops where `set` of a long doesn't answer so.
-pub fn sets_long<R: Abort + Wait, M: Memory>(
-    rt: &R,
-    m: &mut M,
-    s: &Segment,
-    offset: u64,
-    n: i64,
-    answer: Result<(), Refusal>,
-)
-    requires { CanUse (M.view m.old) s.now }
-    ensures outside { (M.view m.new).inside ≡ None }
+    ensures can { CanUse (M.view m.new) s.now }
     ensures lasts { Lasts (M.view m.old) (M.view m.new) }
 {
     let long = Layout::value(ValueKind::Long);
-    sets(rt, m, s, &long, offset, Value::Long(n), answer);
+    match call {
+        Call::Get(part, offset) => match part.of(rt, m, s).get(m, &long, offset) {
+            Ok(Value::Long(n)) => Ok(n),
+            Ok(_) => Ok(0),
+            Err(refusal) => Err(refusal),
+        },
+        Call::Set(part, offset, n) => {
+            let part = part.of(rt, m, s);
+            part.set(rt, m, &long, offset, Value::Long(n)).and(Ok(0))
+        }
+        Call::Fill(part, byte) => part.of(rt, m, s).fill(rt, m, byte).and(Ok(0)),
+        Call::Put(part, offset, bytes) => {
+            let part = part.of(rt, m, s);
+            part.put_bytes(rt, m, offset, bytes).and(Ok(0))
+        }
+        Call::CopyFrom(to, from) => {
+            let (to, from) = (to.of(rt, m, s), from.of(rt, m, s));
+            to.copy_from(rt, m, &from).and(Ok(0))
+        }
+        Call::Copy(from, from_at, to, to_at, n) => {
+            let (from, to) = (from.of(rt, m, s), to.of(rt, m, s));
+            Segment::copy(rt, m, &from, from_at, &to, to_at, n).and(Ok(0))
+        }
+        Call::Mismatch(one, other) => {
+            let (one, other) = (one.of(rt, m, s), other.of(rt, m, s));
+            one.mismatch(m, &other)
+        }
+        Call::Close => m.close(rt, s.arena()).and(Ok(0)),
+    }
 }
 
-/// Stops where `get_at_index` doesn't answer so.
-pub fn gets_at_index<R: Abort, M: Memory>(
+/// Stops where one of the calls isn't answered so.
+pub fn calls<R: Abort + Wait, M: Memory>(
     rt: &R,
     m: &mut M,
     s: &Segment,
-    layout: &Layout,
-    index: u64,
-    answer: Result<Value, Refusal>,
-)
-    requires { CanGet (M.view m.old) s.now layout.now }
-    ensures outside { (M.view m.new).inside ≡ None }
-    ensures lasts { Lasts (M.view m.old) (M.view m.new) }
-{
-    same(rt, s.get_at_index(m, layout, index), answer);
-}
-
-/// Stops where `set_at_index` doesn't answer so.
-pub fn sets_at_index<R: Abort + Wait, M: Memory>(
-    rt: &R,
-    m: &mut M,
-    s: &Segment,
-    layout: &Layout,
-    index: u64,
-    v: Value,
-    answer: Result<(), Refusal>,
-)
-    requires { CanSet (M.view m.old) s.now layout.now v }
-    ensures outside { (M.view m.new).inside ≡ None }
-    ensures lasts { Lasts (M.view m.old) (M.view m.new) }
-{
-    same(rt, s.set_at_index(rt, m, layout, index, v), answer);
-}
-
-/// Stops where `fill` doesn't answer so.
-pub fn fills<R: Abort + Wait, M: Memory>(
-    rt: &R,
-    m: &mut M,
-    s: &Segment,
-    byte: u8,
-    answer: Result<(), Refusal>,
+    rows: &[(Call, Result<i64, Refusal>)],
 )
     requires { CanUse (M.view m.old) s.now }
-    ensures outside { (M.view m.new).inside ≡ None }
+    ensures can { CanUse (M.view m.new) s.now }
     ensures lasts { Lasts (M.view m.old) (M.view m.new) }
 {
-    same(rt, s.fill(rt, m, byte), answer);
-}
-
-/// Stops where `put_bytes` doesn't answer so.
-pub fn puts_bytes<R: Abort + Wait, M: Memory>(
-    rt: &R,
-    m: &mut M,
-    s: &Segment,
-    offset: u64,
-    bytes: &[u8],
-    answer: Result<(), Refusal>,
-)
-    requires { CanUse (M.view m.old) s.now }
-    ensures outside { (M.view m.new).inside ≡ None }
-    ensures lasts { Lasts (M.view m.old) (M.view m.new) }
-{
-    same(rt, s.put_bytes(rt, m, offset, bytes), answer);
-}
-
-/// Stops where `copy_from` doesn't answer so.
-pub fn copies<R: Abort + Wait, M: Memory>(
-    rt: &R,
-    m: &mut M,
-    dst: &Segment,
-    src: &Segment,
-    answer: Result<(), Refusal>,
-)
-    requires { CanUseBoth (M.view m.old) src.now dst.now }
-    ensures outside { (M.view m.new).inside ≡ None }
-    ensures lasts { Lasts (M.view m.old) (M.view m.new) }
-{
-    same(rt, dst.copy_from(rt, m, src), answer);
-}
-
-/// Stops where `copy` doesn't answer so.
-pub fn copies_part<R: Abort + Wait, M: Memory>(
-    rt: &R,
-    m: &mut M,
-    src: &Segment,
-    src_at: u64,
-    dst: &Segment,
-    dst_at: u64,
-    n: u64,
-    answer: Result<(), Refusal>,
-)
-    requires { CanUseBoth (M.view m.old) src.now dst.now }
-    ensures outside { (M.view m.new).inside ≡ None }
-    ensures lasts { Lasts (M.view m.old) (M.view m.new) }
-{
-    same(
-        rt,
-        Segment::copy(rt, m, src, src_at, dst, dst_at, n),
-        answer,
-    );
-}
-
-/// Stops where `mismatch` doesn't answer so.
-pub fn differ<R: Abort, M: Memory>(
-    rt: &R,
-    m: &mut M,
-    s: &Segment,
-    t: &Segment,
-    answer: Result<i64, Refusal>,
-)
-    requires { CanUseBoth (M.view m.old) s.now t.now }
-    ensures outside { (M.view m.new).inside ≡ None }
-    ensures lasts { Lasts (M.view m.old) (M.view m.new) }
-{
-    same(rt, s.mismatch(m, t), answer);
+    for (k, row) in rows.iter().enumerate() {
+        let (call, wanted) = *row;
+        same(rt, (k, answer(rt, m, s, call)), (k, wanted));
+    }
 }

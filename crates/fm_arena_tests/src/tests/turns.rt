@@ -1,85 +1,27 @@
-//! The turns of a `Braided`, each just before its own call.
+//! The turns of a `Braided`, each just before its own call. The memory below it is one too, whose turns count its calls.
 ghost use Rattle.std.specs.Prelude.{◌≡◌, None};
 
 use crate::tests::body::{close_an_arena, use_a_word};
 use crate::tests::compared::same;
 use fm_arena_braided::{Braided, Turn};
-use fm_base::{ArenaId, Caller, Kind, Memory, OrRefused};
+use fm_base::{Kind, Memory};
 use fm_mono::Mono;
 use std::cell::Cell;
 use std::process::Abort;
 use std::sync::Wait;
 
-/// A memory that counts its numbered calls in a cell, each before it is made.
+/// Counts the numbered calls of a memory below, each before it is made.
 #[derive(Drop)]
-struct Counted<'a, M: Memory> {
-    memory: M,
+struct Count<'a> {
     made: &'a Cell<u64>,
 }
 
-impl<'a, M: Memory> Counted<'a, M> {
-    fn count(&self) {
+impl<'a> Turn for Count<'a> {
+    ghost turns = { λ old at new. Unit };
+
+    fn turn(&mut self, _at: u64) {
         self.made.set(self.made.get().wrapping_add(1));
     }
-}
-
-impl<'a, M: Memory> Memory for Counted<'a, M> {
-    ghost nature = { M.nature };
-
-    ghost view = { λ c. M.view c.memory };
-
-    fn caller(&self) -> Caller {
-        self.memory.caller()
-    }
-
-    fn enter(&mut self, id: ArenaId) -> OrRefused<()> {
-        self.count();
-        self.memory.enter(id)
-    }
-
-    fn load(&mut self, word: u64) -> u64 {
-        self.count();
-        self.memory.load(word)
-    }
-
-    fn store(&mut self, word: u64, v: u64) {
-        self.count();
-        self.memory.store(word, v);
-    }
-
-    fn swap_if(&mut self, word: u64, old: u64, new: u64) -> u64 {
-        self.count();
-        self.memory.swap_if(word, old, new)
-    }
-
-    fn add(&mut self, word: u64, n: u64) -> u64 {
-        self.count();
-        self.memory.add(word, n)
-    }
-
-    fn patch<R: Wait>(&mut self, rt: &R, word: u64, mask: u64, bits: u64) -> u64 {
-        self.count();
-        self.memory.patch(rt, word, mask, bits)
-    }
-
-    fn leave(&mut self) {
-        self.count();
-        self.memory.leave();
-    }
-
-    fn open_arena<R: Wait>(&mut self, rt: &R, kind: Kind) -> OrRefused<ArenaId> {
-        self.memory.open_arena(rt, kind)
-    }
-
-    fn allocate<R: Wait>(&mut self, rt: &R, id: ArenaId, size: u64, align: u64) -> OrRefused<u64> {
-        self.memory.allocate(rt, id, size, align)
-    }
-
-    fn close<R: Wait>(&mut self, rt: &R, id: ArenaId) -> OrRefused<()> {
-        self.memory.close(rt, id)
-    }
-
-    ghost alone_is = { λ c. M.alone_is c.memory };
 }
 
 /// Counts the turns, and whether each came when just as many calls were made as its number says.
@@ -119,10 +61,7 @@ fn use_runs<R: Abort + Wait, M: Memory>(rt: &R, m: &mut M)
 #[test]
 fn each_turn_comes_just_before_its_call(rt: HostRuntime) {
     let made = Cell::new(0);
-    let memory = Counted {
-        memory: Mono::make(rt.alloc(), 64),
-        made: &made,
-    };
+    let memory = Braided::new(Mono::make(rt.alloc(), 64), Count { made: &made });
     let watch = Watch {
         made: &made,
         came: 0,
@@ -132,7 +71,8 @@ fn each_turn_comes_just_before_its_call(rt: HostRuntime) {
     use_a_word(&rt, &mut m, 0);
     use_runs(&rt, &mut m);
     close_an_arena(&rt, &mut m);
-    let (_, watch) = m.into_parts();
+    let (below, watch) = m.into_parts();
+    let _ = below.into_parts();
     same(&rt, (watch.came, watch.is_in_time), (15, true));
     same(&rt, made.get(), 15);
 }

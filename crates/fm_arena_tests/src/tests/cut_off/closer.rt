@@ -1,4 +1,4 @@
-ghost use Rattle.std.specs.Prelude.{◌≡◌, ◌≤◌, ◌<◌, ◌*◌};
+ghost use Rattle.std.specs.Prelude.{◌≤◌, ◌<◌, ◌*◌};
 ghost use Rattle.fm_rule_facts.specs.Views.{given_of};
 ghost use Rattle.fm_rule_calls.specs.Kept.{Lasts};
 ghost use Rattle.fm_gate.specs.Needs.{CanVisit, IsOutside};
@@ -14,7 +14,6 @@ use fm_rule::{Pass, Pool};
 use std::marker::Model;
 use std::mem::replace;
 use std::process::Abort;
-use std::sync::Wait;
 
 /// What a closer found at its turn: the arena's first three words, and what the visits answered.
 #[derive(Clone, Copy, Debug, PartialEq, Eq)]

@@ -8,21 +8,26 @@ ghost use Rattle.fm_segment.specs.Access.{IsKnown};
 ghost use Rattle.fm_arena.specs.Lasting.{SamePool};
 ghost use Rattle.fm_arena.specs.Shares.{CanShare};
 
-use crate::tests::compared::same;
 use crate::tests::cut_off::closer::{Closer, Walk};
 use crate::tests::pools::pool_as;
+use crate::tests::segment_calls::{Call, Part, calls, fresh};
 use fm_arena::{Arena, Shared, keeps_its_pool};
 use fm_arena_braided::Braided;
 use fm_base::Kind;
 use fm_gate::a_crew_stands;
-use fm_lanes::{Value, ValueKind};
-use fm_layout::Layout;
 use fm_rule::{Pass, Pool};
 use fm_segment::Segment;
 use fm_words::Shape;
 use std::alloc::AllocGlobal;
 use std::process::Abort;
 use std::sync::Wait;
+
+/// The bytes of three longs.
+pub(crate) const LONGS: Part = Part {
+    at: 0,
+    size: 24,
+    is_read_only: false,
+};
 
 /// Two passes, and two slots of one page of three longs, for two arenas each.
 pub(crate) fn made<R: Abort + AllocGlobal>(rt: &R) -> (Pool, Pass)
@@ -50,84 +55,6 @@ fn longs_of<R: Abort + Wait>(rt: &R, m: &mut Shared) -> Segment
     keeps_its_pool();
     let arena = Arena::start(rt, m, Kind::Shared).expect(rt, "a slot");
     arena.allocate(rt, m, 24, 8).expect(rt, "bytes")
-}
-
-/// Those of another arena, beside a segment that is known.
-fn longs_beside<R: Abort + Wait>(rt: &R, m: &mut Shared, other: &Segment) -> Segment
-    requires outside { m.old.inside ≡ None }
-    requires other { IsKnown (view_of_pass m.old) other.now }
-    ensures outside { m.new.inside ≡ None }
-    ensures other { IsKnown (view_of_pass m.new) other.now }
-    ensures known { IsKnown (view_of_pass m.new) result }
-    ensures same { SamePool m.old m.new }
-{
-    keeps_its_pool();
-    let arena = Arena::start(rt, m, Kind::Shared).expect(rt, "a slot");
-    arena.allocate(rt, m, 24, 8).expect(rt, "bytes")
-}
-
-/// Puts a long of the segment.
-fn put<R: Abort + Wait>(rt: &R, m: &mut Shared, s: &Segment, offset: u64, number: i64)
-    requires outside { m.old.inside ≡ None }
-    requires known { IsKnown (view_of_pass m.old) s.now }
-    ensures outside { m.new.inside ≡ None }
-    ensures known { IsKnown (view_of_pass m.new) s.now }
-    ensures same { SamePool m.old m.new }
-{
-    keeps_its_pool();
-    let long = Layout::value(ValueKind::Long);
-    let put = s.set(rt, m, &long, offset, Value::Long(number));
-    same(rt, put, Ok(()));
-}
-
-/// A shared arena's longs 1, 2 and 3.
-fn one_two_three<R: Abort + Wait>(rt: &R, m: &mut Shared) -> Segment
-    requires { m.old.inside ≡ None }
-    ensures outside { m.new.inside ≡ None }
-    ensures known { IsKnown (view_of_pass m.new) result }
-    ensures size { result.size ≡ 24 }
-    ensures same { SamePool m.old m.new }
-{
-    let s = longs_of(rt, m);
-    put(rt, m, &s, 0, 1);
-    put(rt, m, &s, 8, 2);
-    put(rt, m, &s, 16, 3);
-    s
-}
-
-/// Whether the segment has this long, beside another that is known.
-fn has<R: Abort>(rt: &R, m: &mut Shared, s: &Segment, other: &Segment, offset: u64, number: i64)
-    requires outside { m.old.inside ≡ None }
-    requires known { IsKnown (view_of_pass m.old) s.now }
-    requires other { IsKnown (view_of_pass m.old) other.now }
-    ensures outside { m.new.inside ≡ None }
-    ensures known { IsKnown (view_of_pass m.new) s.now }
-    ensures other { IsKnown (view_of_pass m.new) other.now }
-{
-    let long = Layout::value(ValueKind::Long);
-    let found = s.get(m, &long, offset);
-    same(rt, found, Ok(Value::Long(number)));
-}
-
-/// Whether it has these longs.
-pub(crate) fn has_numbers<R: Abort>(
-    rt: &R,
-    m: &mut Shared,
-    s: &Segment,
-    other: &Segment,
-    numbers: [i64; 3],
-)
-    requires outside { m.old.inside ≡ None }
-    requires known { IsKnown (view_of_pass m.old) s.now }
-    requires other { IsKnown (view_of_pass m.old) other.now }
-    ensures outside { m.new.inside ≡ None }
-    ensures known { IsKnown (view_of_pass m.new) s.now }
-    ensures other { IsKnown (view_of_pass m.new) other.now }
-{
-    let [first, second, third] = numbers;
-    has(rt, m, s, other, 0, first);
-    has(rt, m, s, other, 8, second);
-    has(rt, m, s, other, 16, third);
 }
 
 /// The pass learns what the other one has seen.
@@ -162,9 +89,15 @@ pub(crate) fn scene<'a, R: Abort + Wait>(
     let mut first = first;
     let second = pool.draw(rt, &mut first).expect(rt, "a pass");
     let mut ours = Shared::new(pool, second);
-    let source = one_two_three(rt, &mut ours);
-    let target = longs_beside(rt, &mut ours, &source);
+    let source = longs_of(rt, &mut ours);
     let theirs = told(pool, first, &mut ours, &source);
+    let target = fresh(rt, &mut ours, Kind::Shared, 24);
+    let longs = [
+        (Call::Set(LONGS, 0, 1), Ok(0)),
+        (Call::Set(LONGS, 8, 2), Ok(0)),
+        (Call::Set(LONGS, 16, 3), Ok(0)),
+    ];
+    calls(rt, &mut ours, &source, &longs);
     let closer = Closer::new(pool, theirs, source.arena(), at);
     (Braided::new(ours, closer), source, target)
 }
@@ -183,7 +116,12 @@ pub(crate) fn ended<'a, R: Abort + Wait>(
 {
     let (mut ours, closer) = braided.into_parts();
     closer.finish(rt, wanted);
-    let next = longs_beside(rt, &mut ours, target);
-    has_numbers(rt, &mut ours, &next, target, [0, 0, 0]);
+    let next = fresh(rt, &mut ours, Kind::Shared, 24);
+    let zeros = [
+        (Call::Get(LONGS, 0), Ok(0)),
+        (Call::Get(LONGS, 8), Ok(0)),
+        (Call::Get(LONGS, 16), Ok(0)),
+    ];
+    calls(rt, &mut ours, &next, &zeros);
     ours
 }

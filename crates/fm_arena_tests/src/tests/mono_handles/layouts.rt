@@ -1,18 +1,12 @@
 ghost use Rattle.fm_layout.specs.Name.{IsName};
 
-use crate::tests::segments::anywhere;
+use crate::tests::handles::handle;
+use crate::tests::segments::layout_of;
 use fm_handle::VarHandle;
 use fm_lanes::{Order, Value, ValueKind};
 use fm_layout::Layout;
-use fm_path::{parse_path, resolve};
 use std::alloc::Global;
 use std::process::Abort;
-
-/// A handle for a path into a layout.
-pub(super) fn handle<R: Abort>(rt: &R, alloc: Global, layout: &Layout, text: &str) -> VarHandle {
-    let path = parse_path(alloc, text).expect(rt, "a path");
-    VarHandle::of(resolve(alloc, layout, &path).expect(rt, "a value"))
-}
 
 /// A handle for a value of its own, with nothing round it.
 pub(super) fn value<R: Abort>(rt: &R, alloc: Global, kind: ValueKind, order: Order) -> VarHandle {
@@ -40,9 +34,9 @@ pub(super) fn either<R: Abort>(rt: &R, alloc: Global, one: Layout) -> Layout {
 
 /// A row of four values and then one in a union with a byte, at any place.
 pub(super) fn table<R: Abort>(rt: &R, alloc: Global, v: Value, order: Order) -> Layout {
-    let items = Layout::sequence(alloc, 4, anywhere(rt, v, order)).expect(rt, "items");
+    let items = Layout::sequence(alloc, 4, layout_of(rt, v, order, 1)).expect(rt, "items");
     let items = named(rt, alloc, items, "items");
-    let either = either(rt, alloc, anywhere(rt, v, order));
+    let either = either(rt, alloc, layout_of(rt, v, order, 1));
     let either = named(rt, alloc, either, "either");
     Layout::structure(pair(rt, alloc, items, either)).expect(rt, "a table")
 }

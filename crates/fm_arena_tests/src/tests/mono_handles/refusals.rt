@@ -1,119 +1,74 @@
-use super::calls::Ground;
-use super::layouts::{accounts, handle, value};
+use super::layouts::{accounts, value};
 use crate::tests::compared::same;
-use fm_base::Refusal;
-use fm_handle::VarHandle;
+use crate::tests::handles::{Call, calls, handle, two};
+use crate::tests::segment_calls::fresh;
+use fm_base::{Kind, Memory, Refusal};
 use fm_lanes::{Order, Value, ValueKind};
 use fm_layout::Layout;
-use std::alloc::Global;
-use std::process::Abort;
-use std::sync::Wait;
+use fm_mono::Mono;
 
-/// Stops where a call that writes a long isn't refused so.
-fn all_refuse<R: Abort + Wait>(
-    rt: &R,
-    g: &mut Ground,
-    long: &VarHandle,
-    base: u64,
-    index: u64,
-    refusal: Refusal,
-) {
-    let n = Value::Long(1);
-    let indices = &[index];
-    g.sets(rt, long, base, indices, n, Err(refusal));
-    g.sets_long(rt, long, base, indices, 1, Err(refusal));
-    g.adds(rt, long, base, indices, n, Err(refusal));
-}
-
-/// A handle for one of two values in a row.
-fn one_of_two<R: Abort>(rt: &R, alloc: Global, kind: ValueKind) -> VarHandle {
-    let row = Layout::sequence(alloc, 2, Layout::value(kind)).expect(rt, "a row");
-    handle(rt, alloc, &row, "[]")
-}
-
-/// A handle for a long that may stand across words.
-fn narrow<R: Abort>(rt: &R, alloc: Global) -> VarHandle {
-    let long = Layout::value(ValueKind::Long);
-    let narrow = long.with_alignment(4).expect(rt, "an alignment");
-    handle(rt, alloc, &narrow, ".")
-}
-
-#[test]
-fn calls_on_what_is_read_only_are_refused_in_order(rt: HostRuntime) {
-    let long = one_of_two(&rt, rt.alloc(), ValueKind::Long);
-    let mut kept = Ground::new(&rt, rt.alloc(), 16).closed(&rt).kept();
-    all_refuse(&rt, &mut kept, &long, 9, 2, Refusal::IndexOut(0));
-    all_refuse(&rt, &mut kept, &long, 9, 1, Refusal::ReadOnly);
-    kept.gets(&rt, &long, 0, &[0], Err(Refusal::Closed));
-}
-
+/// What is unsupported is told first, and then the index, what is read-only, the bounds, and that the arena is closed.
 #[test]
 fn calls_on_what_is_closed_are_refused_in_order(rt: HostRuntime) {
-    let long = one_of_two(&rt, rt.alloc(), ValueKind::Long);
-    let mut g = Ground::new(&rt, rt.alloc(), 16).closed(&rt);
-    all_refuse(&rt, &mut g, &long, 9, 1, Refusal::Bounds);
-    all_refuse(&rt, &mut g, &long, 0, 1, Refusal::Closed);
-}
-
-fn add_to_one_of_two_shorts<R: Abort + Wait>(rt: &R, g: &mut Ground) {
-    let short = one_of_two(rt, g.alloc(), ValueKind::Short);
-    g.adds(
-        rt,
-        &short,
-        9,
-        &[9],
-        Value::Short(1),
-        Err(Refusal::Unsupported),
-    );
-}
-
-fn set_a_narrow_long<R: Abort>(rt: &R, g: &mut Ground) {
-    let narrow = narrow(rt, g.alloc());
-    g.sets_long(rt, &narrow, 9, &[], 1, Err(Refusal::Unsupported));
-}
-
-#[test]
-fn what_is_unsupported_is_told_first(rt: HostRuntime) {
-    let mut kept = Ground::new(&rt, rt.alloc(), 16).closed(&rt).kept();
-    add_to_one_of_two_shorts(&rt, &mut kept);
-    set_a_narrow_long(&rt, &mut kept);
-}
-
-fn get_past_the_end<R: Abort>(rt: &R, g: &mut Ground) {
-    let layout = accounts(rt, g.alloc());
-    let count = handle(rt, g.alloc(), &layout, ".count");
-    g.gets(rt, &count, 0, &[], Err(Refusal::Bounds));
-}
-
-#[test]
-fn gets_are_refused_by_their_root(rt: HostRuntime) {
-    let mut g = Ground::new(&rt, rt.alloc(), 8);
-    g.gets_one(&rt, ValueKind::Long, 0, Ok(Value::Long(0)));
-    g.gets_one(&rt, ValueKind::Long, 1, Err(Refusal::Bounds));
-    g.gets_one(&rt, ValueKind::Int, 1, Err(Refusal::Misaligned));
-    get_past_the_end(&rt, &mut g);
-}
-
-fn add_to_a_short<R: Abort + Wait>(rt: &R, g: &mut Ground) {
-    let short = value(rt, g.alloc(), ValueKind::Short, Order::Little);
-    let refused = Err(Refusal::Unsupported);
-    g.adds(rt, &short, 0, &[], Value::Short(1), refused);
+    let mut m = Mono::make(rt.alloc(), 64);
+    let s = fresh(&rt, &mut m, Kind::Shared, 16);
+    same(&rt, m.close(&rt, s.arena()), Ok(()));
+    let longs = two(&rt, rt.alloc(), Layout::value(ValueKind::Long));
+    let long = &handle(&rt, rt.alloc(), &longs, "[]");
+    let indices = [0, 1, 2, 9];
+    let (first, second) = (&indices[0..1], &indices[1..2]);
+    let (third, tenth) = (&indices[2..3], &indices[3..4]);
+    let add = Call::Add(Value::Long(1));
+    let set = Call::Set(Value::Long(1));
+    let open = [
+        (long, 9, second, set, Err(Refusal::Bounds)),
+        (long, 9, second, Call::SetLong(1), Err(Refusal::Bounds)),
+        (long, 9, second, add, Err(Refusal::Bounds)),
+        (long, 0, second, set, Err(Refusal::Closed)),
+        (long, 0, second, Call::SetLong(1), Err(Refusal::Closed)),
+        (long, 0, second, add, Err(Refusal::Closed)),
+    ];
+    calls(&rt, &mut m, &s, &open);
+    let shorts = two(&rt, rt.alloc(), Layout::value(ValueKind::Short));
+    let short = &handle(&rt, rt.alloc(), &shorts, "[]");
+    let narrow = Layout::value(ValueKind::Long).with_alignment(4);
+    let narrow = narrow.expect(&rt, "an alignment");
+    let narrow = &handle(&rt, rt.alloc(), &narrow, ".");
+    let none = &indices[0..0];
+    let one = Call::Add(Value::Short(1));
+    let kept = [
+        (short, 9, tenth, one, Err(Refusal::Unsupported)),
+        (narrow, 9, none, Call::SetLong(1), Err(Refusal::Unsupported)),
+        (long, 9, third, set, Err(Refusal::IndexOut(0))),
+        (long, 9, third, Call::SetLong(1), Err(Refusal::IndexOut(0))),
+        (long, 9, third, add, Err(Refusal::IndexOut(0))),
+        (long, 9, second, set, Err(Refusal::ReadOnly)),
+        (long, 9, second, Call::SetLong(1), Err(Refusal::ReadOnly)),
+        (long, 9, second, add, Err(Refusal::ReadOnly)),
+        (long, 0, first, Call::Get, Err(Refusal::Closed)),
+    ];
+    calls(&rt, &mut m, &s.as_read_only(), &kept);
 }
 
 #[test]
-fn a_short_is_not_added_to(rt: HostRuntime) {
-    let mut g = Ground::new(&rt, rt.alloc(), 8);
-    add_to_a_short(&rt, &mut g);
-    same(&rt, g.s.as_slice(5, 4).err(), Some(Refusal::Bounds));
-}
-
-fn set_a_long<R: Abort>(rt: &R, g: &mut Ground) {
-    let long = value(rt, g.alloc(), ValueKind::Long, Order::Little);
-    g.sets_long(rt, &long, 0, &[], 1, Err(Refusal::ReadOnly));
-}
-
-#[test]
-fn a_long_is_not_set_where_it_is_read_only(rt: HostRuntime) {
-    let mut kept = Ground::new(&rt, rt.alloc(), 8).kept();
-    set_a_long(&rt, &mut kept);
+fn calls_are_refused_by_their_root(rt: HostRuntime) {
+    let mut m = Mono::make(rt.alloc(), 64);
+    let s = fresh(&rt, &mut m, Kind::Shared, 8);
+    let count = &handle(&rt, rt.alloc(), &accounts(&rt, rt.alloc()), ".count");
+    let long = &value(&rt, rt.alloc(), ValueKind::Long, Order::Little);
+    let int = &value(&rt, rt.alloc(), ValueKind::Int, Order::Little);
+    let short = &value(&rt, rt.alloc(), ValueKind::Short, Order::Little);
+    let none = [].as_slice();
+    let one = Call::Add(Value::Short(1));
+    let rows = [
+        (long, 0, none, Call::Get, Ok(Value::Long(0))),
+        (long, 1, none, Call::Get, Err(Refusal::Bounds)),
+        (int, 1, none, Call::Get, Err(Refusal::Misaligned)),
+        (count, 0, none, Call::Get, Err(Refusal::Bounds)),
+        (short, 0, none, one, Err(Refusal::Unsupported)),
+    ];
+    calls(&rt, &mut m, &s, &rows);
+    same(&rt, s.as_slice(5, 4).err(), Some(Refusal::Bounds));
+    let rows = [(long, 0, none, Call::SetLong(1), Err(Refusal::ReadOnly))];
+    calls(&rt, &mut m, &s.as_read_only(), &rows);
 }

@@ -1,130 +1,126 @@
-ghost use Rattle.std.specs.Prelude.{◌≡◌, None};
-ghost use Rattle.fm_mono.specs.Shown.{view_of};
-ghost use Rattle.fm_segment.specs.Access.{HasKind};
-ghost use Rattle.fm_segment.specs.Learnt.{CanSet, CanUse};
+ghost use Rattle.fm_segment.specs.Learnt.{CanUse};
 
 use crate::tests::compared::same;
-use crate::tests::segment_calls::{gets, gets_at_index, sets, sets_at_index};
-use crate::tests::segments::{OF_EACH_KIND, anywhere, fresh};
-use fm_base::{Memory, Refusal};
-use fm_lanes::{Order, Value, ValueKind};
-use fm_layout::Layout;
+use crate::tests::segment_calls::fresh;
+use crate::tests::segments::{OF_EACH_KIND, layout_of};
+use fm_base::{Kind, Memory, Refusal};
+use fm_lanes::{Order, Value};
 use fm_mono::Mono;
 use fm_segment::Segment;
 use std::process::Abort;
 use std::sync::Wait;
 
-/// Sets the value at the offset, and gets it again.
-fn set_and_get<R: Abort + Wait>(
-    rt: &R,
-    m: &mut Mono,
-    s: &Segment,
-    layout: &Layout,
-    offset: u64,
-    v: Value,
-)
-    requires { CanSet (view_of m.old) s.now layout.now v }
-    ensures { CanUse (view_of m.new) s.now }
-{
-    sets(rt, m, s, layout, offset, v, Ok(()));
-    same(rt, (s.get(m, layout, offset), offset), (Ok(v), offset));
+/// A call on the value at an offset, or at an index.
+#[derive(Clone, Copy)]
+enum Call {
+    Get(u64),
+    Set(u64),
+    GetAtIndex(u64),
+    SetAtIndex(u64),
 }
 
-/// The value at each place from a word's start to the next word's.
-fn at_each_place<R: Abort + Wait>(rt: &R, m: &mut Mono, s: &Segment, v: Value, order: Order)
-    requires { CanUse (view_of m.old) s.now }
-    ensures { CanUse (view_of m.new) s.now }
+/// A value by its order and alignment: it is put, or is wanted of a call that gets.
+type Form = (Value, Order, u64);
+
+/// The value that was got or put.
+fn answer<R: Abort + Wait, M: Memory>(
+    rt: &R,
+    m: &mut M,
+    s: &Segment,
+    call: Call,
+    form: Form,
+) -> Result<Value, Refusal>
+    requires { CanUse (M.view m.old) s.now }
+    ensures { CanUse (M.view m.new) s.now }
 {
-    let layout = anywhere(rt, v, order);
-    for offset in 0..9 {
-        set_and_get(rt, m, s, &layout, offset, v);
+    let (v, order, align) = form;
+    let layout = layout_of(rt, v, order, align);
+    match call {
+        Call::Get(offset) => s.get(m, &layout, offset),
+        Call::Set(offset) => s.set(rt, m, &layout, offset, v).and(Ok(v)),
+        Call::GetAtIndex(index) => s.get_at_index(m, &layout, index),
+        Call::SetAtIndex(index) => s.set_at_index(rt, m, &layout, index, v).and(Ok(v)),
     }
 }
 
+/// Stops where one of the calls isn't answered so.
+fn calls<R: Abort + Wait, M: Memory>(
+    rt: &R,
+    m: &mut M,
+    s: &Segment,
+    rows: &[(Call, Form, Result<(), Refusal>)],
+)
+    requires { CanUse (M.view m.old) s.now }
+    ensures { CanUse (M.view m.new) s.now }
+{
+    for (k, row) in rows.iter().enumerate() {
+        let (call, form, wanted) = *row;
+        let found = answer(rt, m, s, call, form);
+        same(rt, (k, found), (k, wanted.and(Ok(form.0))));
+    }
+}
+
+/// At each place from a word's start to the next word's.
 #[test]
 fn what_was_set_is_got(rt: HostRuntime) {
     let mut m = Mono::make(rt.alloc(), 64);
-    let s = fresh(&rt, &mut m, 16);
+    let s = fresh(&rt, &mut m, Kind::Shared, 16);
     for v in OF_EACH_KIND {
-        at_each_place(&rt, &mut m, &s, v, Order::Little);
-        at_each_place(&rt, &mut m, &s, v, Order::Big);
+        for order in [Order::Little, Order::Big] {
+            for offset in 0..9 {
+                let form = (v, order, 1);
+                let rows = [
+                    (Call::Set(offset), form, Ok(())),
+                    (Call::Get(offset), form, Ok(())),
+                ];
+                calls(&rt, &mut m, &s, &rows);
+            }
+        }
     }
 }
 
-/// An int in big order across two words, of which a long is the second.
-fn use_a_big_int<R: Abort + Wait>(rt: &R, m: &mut Mono, s: &Segment, int: &Layout, long: &Layout)
-    requires known { CanUse (view_of m.old) s.now }
-    requires int { HasKind int.now ValueKind.Int }
-    requires long { HasKind long.now ValueKind.Long }
-{
-    sets(rt, m, s, int, 6, Value::Int(0x0102_0304), Ok(()));
-    gets_at_index(rt, m, s, long, 0, Ok(Value::Long(0x0201 << 48)));
-    gets_at_index(rt, m, s, long, 1, Ok(Value::Long(0x0403)));
-    sets_at_index(rt, m, s, long, 1, Value::Long(5), Ok(()));
-    gets(rt, m, s, int, 6, Ok(Value::Int(0x0102_0500)));
+/// A long at its own places.
+fn long(n: i64) -> Form {
+    (Value::Long(n), Order::Little, 8)
 }
 
+/// An int in big order across two words, of which a long is the second.
 #[test]
 fn big_order_puts_the_highest_byte_first(rt: HostRuntime) {
     let mut m = Mono::make(rt.alloc(), 64);
-    let s = fresh(&rt, &mut m, 16);
-    let int = anywhere(&rt, Value::Int(0), Order::Big);
-    let long = Layout::value(ValueKind::Long);
-    use_a_big_int(&rt, &mut m, &s, &int, &long);
-}
-
-/// A segment of two words whose arena is closed.
-fn closed<R: Abort + Wait>(rt: &R, m: &mut Mono) -> Segment
-    requires { m.old.inside ≡ None }
-    ensures { CanUse (view_of m.new) result }
-{
-    let s = fresh(rt, m, 16);
-    let _ = m.close(rt, s.arena());
-    s
-}
-
-/// An int that is aligned to 8 bytes.
-fn sparse<R: Abort>(rt: &R) -> Layout
-    ensures { HasKind result ValueKind.Int }
-{
-    let int = Layout::value(ValueKind::Int);
-    int.with_alignment(8).expect(rt, "an alignment")
-}
-
-fn refuse_sparse<R: Abort + Wait>(rt: &R, m: &mut Mono, sparse: &Layout)
-    requires outside { m.old.inside ≡ None }
-    requires int { HasKind sparse.now ValueKind.Int }
-{
-    let s = closed(rt, m);
-    let (kept, refused) = (s.as_read_only(), Refusal::Unsupported);
-    gets_at_index(rt, m, &s, sparse, 0, Err(refused));
-    sets_at_index(rt, m, &kept, sparse, 0, Value::Int(1), Err(refused));
-    gets(rt, m, &s, sparse, 8, Err(Refusal::Closed));
-}
-
-#[test]
-fn accesses_of_sparse_values_are_refused(rt: HostRuntime) {
-    let mut m = Mono::make(rt.alloc(), 64);
-    refuse_sparse(&rt, &mut m, &sparse(&rt));
-}
-
-fn refuse_in_order<R: Abort + Wait>(rt: &R, m: &mut Mono, long: &Layout)
-    requires outside { m.old.inside ≡ None }
-    requires long { HasKind long.now ValueKind.Long }
-{
-    let s = closed(rt, m);
-    let (kept, v) = (s.as_read_only(), Value::Long(1));
-    sets_at_index(rt, m, &kept, long, u64::MAX, v, Err(Refusal::ReadOnly));
-    sets(rt, m, &kept, long, 9, v, Err(Refusal::ReadOnly));
-    sets(rt, m, &s, long, 9, v, Err(Refusal::Bounds));
-    gets_at_index(rt, m, &s, long, 1 << 61, Err(Refusal::Bounds));
-    gets(rt, m, &s, long, u64::MAX, Err(Refusal::Bounds));
-    gets(rt, m, &s, long, 4, Err(Refusal::Misaligned));
-    sets(rt, m, &s, long, 8, v, Err(Refusal::Closed));
+    let s = fresh(&rt, &mut m, Kind::Shared, 16);
+    let (before, after) = (Value::Int(0x0102_0304), Value::Int(0x0102_0500));
+    let rows = [
+        (Call::Set(6), (before, Order::Big, 1), Ok(())),
+        (Call::GetAtIndex(0), long(0x0201 << 48), Ok(())),
+        (Call::GetAtIndex(1), long(0x0403), Ok(())),
+        (Call::SetAtIndex(1), long(5), Ok(())),
+        (Call::Get(6), (after, Order::Big, 1), Ok(())),
+    ];
+    calls(&rt, &mut m, &s, &rows);
 }
 
 #[test]
 fn accesses_are_refused_in_order(rt: HostRuntime) {
     let mut m = Mono::make(rt.alloc(), 64);
-    refuse_in_order(&rt, &mut m, &Layout::value(ValueKind::Long));
+    let s = fresh(&rt, &mut m, Kind::Shared, 16);
+    same(&rt, m.close(&rt, s.arena()), Ok(()));
+    // an alignment above its size
+    let sparse = (Value::Int(1), Order::Little, 8);
+    let rows = [
+        (Call::GetAtIndex(0), sparse, Err(Refusal::Unsupported)),
+        (Call::Get(8), sparse, Err(Refusal::Closed)),
+        (Call::Set(9), long(1), Err(Refusal::Bounds)),
+        (Call::GetAtIndex(1 << 61), long(1), Err(Refusal::Bounds)),
+        (Call::Get(u64::MAX), long(1), Err(Refusal::Bounds)),
+        (Call::Get(4), long(1), Err(Refusal::Misaligned)),
+        (Call::Set(8), long(1), Err(Refusal::Closed)),
+    ];
+    calls(&rt, &mut m, &s, &rows);
+    let rows = [
+        (Call::SetAtIndex(0), sparse, Err(Refusal::Unsupported)),
+        (Call::SetAtIndex(u64::MAX), long(1), Err(Refusal::ReadOnly)),
+        (Call::Set(9), long(1), Err(Refusal::ReadOnly)),
+    ];
+    calls(&rt, &mut m, &s.as_read_only(), &rows);
 }

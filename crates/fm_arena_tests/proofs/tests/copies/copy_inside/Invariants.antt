@@ -1,5 +1,6 @@
+use Rattle.fm_mono.specs.Shown.{view_of}
 use Rattle.fm_segment_access.specs.Learnt.{CanTouch}
 use Rattle.fm_arena_tests.proofs.tests.copies.copy_inside.Given as goal
 
 abbrev pub invariant-loop-place : goal.invariant-loop-place
-invariant-loop-place g l = CanTouch (g.M.Memory.view l.m) l.a 0 48
+invariant-loop-place g l = CanTouch (view_of l.m) l.a 0 48

@@ -1,5 +1,5 @@
 use Rattle.std.proofs.Common.{refl}
-use Rattle.fm_arena_tests.proofs.tests.mono_segments.places_are_aligned.Goals as goal
+use Rattle.fm_arena_tests.proofs.tests.mono_segments.a_segment_has_its_parts.Goals as goal
 
 pub is_aligned-requires : goal.is_aligned-requires
 is_aligned-requires g c = (3, refl)

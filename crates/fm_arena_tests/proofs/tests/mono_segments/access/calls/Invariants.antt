@@ -1,0 +1,5 @@
+use Rattle.fm_segment.specs.Learnt.{CanUse}
+use Rattle.fm_arena_tests.proofs.tests.mono_segments.access.calls.Given as goal
+
+abbrev pub invariant-loop-k : goal.invariant-loop-k
+invariant-loop-k g l = CanUse (g.M.Memory.view l.m) l.s
