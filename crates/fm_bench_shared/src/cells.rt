@@ -78,7 +78,7 @@ fn handles<M: Memory>(
 }
 
 /// The handle of a table's values, whose layout the text stands for.
-fn handle_of(alloc: Global, text: &str) -> Result<VarHandle, Refusal>
+pub fn handle_of(alloc: Global, text: &str) -> Result<VarHandle, Refusal>
     ensures { IfOk result (λ handle. length handle.dims ≡ 2) }
 {
     let rows = rows_of(alloc, text)?;

@@ -3,16 +3,21 @@
 //!
 //! `known COUNT` of a segment by a layout that the compiler knows, `gets COUNT LAYOUT` and `handles COUNT LAYOUT` by a
 //! layout that is read as JSON, at offsets and by a path, `queries COUNT QUERY` of records, and `fills COUNT`, `copies
-//! COUNT` and `mismatches COUNT` of segments of 64 MiB are the loops. It prints what it found, so that they are run; the
-//! script that calls it takes the time.
+//! COUNT` and `mismatches COUNT` of segments of 64 MiB are the loops. With `visit-` in front `known`, `handles`, `fills`,
+//! `copies` and `mismatches` are made in one visit, and `visit-words COUNT` and `visit-bytes COUNT` read 64 KiB into a
+//! slice so often; of these `list`, a third memory, is what `known` and the two are measured against. It prints what it
+//! found, so that they are run; the script that calls it takes the time.
 #![tactic(auto)]
 
 mod cells;
+mod inside;
+mod lists;
 mod memories;
 mod queries;
 mod ranges;
 mod table;
 
+use crate::lists::over_list;
 use crate::memories::{Asked, over_mono, over_shared};
 use std::alloc::Global;
 use std::env;
@@ -47,6 +52,7 @@ fn run<R: Wait>(rt: &R, alloc: Global, memory: &str, asked: &Asked) -> Option<u6
     match memory {
         "mono" => over_mono(rt, alloc, asked),
         "shared" => over_shared(rt, alloc, asked),
+        "list" => over_list(alloc, asked),
         _ => None,
     }
 }

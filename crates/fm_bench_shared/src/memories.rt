@@ -2,8 +2,9 @@ ghost use Rattle.std.specs.Prelude.{◌≡◌, None};
 ghost use Rattle.fm_arena.specs.Shares.{CanShare};
 
 use crate::cells::cells;
+use crate::inside::visited;
 use crate::queries::queries;
-use crate::ranges::{SIZE, copies, fills, mismatches};
+use crate::ranges::{SIZE, ranges};
 use fm_arena::Shared;
 use fm_base::Memory;
 use fm_mono::Mono;
@@ -55,9 +56,9 @@ fn looped<R: Wait, M: Memory>(rt: &R, alloc: Global, m: &mut M, asked: &Asked) -
     match asked.what.as_str() {
         "known" | "gets" | "handles" => cells(rt, alloc, m, asked).ok(),
         "queries" => queries(rt, alloc, m, &asked.text, asked.count).ok(),
-        "fills" => fills(rt, m, asked.count).ok(),
-        "copies" => copies(rt, m, asked.count).ok(),
-        "mismatches" => mismatches(rt, m, asked.count).ok(),
-        _ => None,
+        "visit-known" | "visit-handles" | "visit-words" | "visit-bytes" => {
+            visited(rt, alloc, m, asked).ok()
+        }
+        _ => ranges(rt, m, asked),
     }
 }

@@ -1,6 +1,8 @@
 ghost use Rattle.std.specs.Prelude.{◌≡◌, None, IfOk};
 ghost use Rattle.fm_bench_shared.specs.Ready.{AreReady, CanAccess};
 
+use crate::inside::{visit_copies, visit_fills, visit_mismatches};
+use crate::memories::Asked;
 use fm_base::{Kind, Memory, Refusal};
 use fm_lanes::{Value, ValueKind, encode};
 use fm_layout::Layout;
@@ -10,8 +12,24 @@ use std::sync::Wait;
 /// The bytes of a segment.
 pub const SIZE: u64 = 67_108_864;
 
+/// Runs the loop of this name; none where there is no such loop, or it was refused.
+pub fn ranges<R: Wait, M: Memory>(rt: &R, m: &mut M, asked: &Asked) -> Option<u64>
+    requires { (M.view m.old).inside ≡ None }
+{
+    let count = asked.count;
+    match asked.what.as_str() {
+        "fills" => fills(rt, m, count).ok(),
+        "copies" => copies(rt, m, count).ok(),
+        "mismatches" => mismatches(rt, m, count).ok(),
+        "visit-fills" => visit_fills(rt, m, count).ok(),
+        "visit-copies" => visit_copies(rt, m, count).ok(),
+        "visit-mismatches" => visit_mismatches(rt, m, count).ok(),
+        _ => None,
+    }
+}
+
 /// Fills a segment so often, each time with another byte, and answers its last long.
-pub fn fills<R: Wait, M: Memory>(rt: &R, m: &mut M, count: u64) -> Result<u64, Refusal>
+fn fills<R: Wait, M: Memory>(rt: &R, m: &mut M, count: u64) -> Result<u64, Refusal>
     requires { (M.view m.old).inside ≡ None }
 {
     let (segment, _) = two(rt, m)?;
@@ -22,7 +40,7 @@ pub fn fills<R: Wait, M: Memory>(rt: &R, m: &mut M, count: u64) -> Result<u64, R
 }
 
 /// Copies a segment to another so often, each time with another last long, and answers what that is in the other.
-pub fn copies<R: Wait, M: Memory>(rt: &R, m: &mut M, count: u64) -> Result<u64, Refusal>
+fn copies<R: Wait, M: Memory>(rt: &R, m: &mut M, count: u64) -> Result<u64, Refusal>
     requires { (M.view m.old).inside ≡ None }
 {
     let (source, target) = two(rt, m)?;
@@ -36,7 +54,7 @@ pub fn copies<R: Wait, M: Memory>(rt: &R, m: &mut M, count: u64) -> Result<u64, 
 }
 
 /// Compares two segments so often that differ in their last byte alone, and answers the sum of the answers.
-pub fn mismatches<R: Wait, M: Memory>(rt: &R, m: &mut M, count: u64) -> Result<u64, Refusal>
+fn mismatches<R: Wait, M: Memory>(rt: &R, m: &mut M, count: u64) -> Result<u64, Refusal>
     requires { (M.view m.old).inside ≡ None }
 {
     let (first, second) = two(rt, m)?;
@@ -51,7 +69,7 @@ pub fn mismatches<R: Wait, M: Memory>(rt: &R, m: &mut M, count: u64) -> Result<u
 }
 
 /// Two segments of one arena.
-fn two<R: Wait, M: Memory>(rt: &R, m: &mut M) -> Result<(Segment, Segment), Refusal>
+pub fn two<R: Wait, M: Memory>(rt: &R, m: &mut M) -> Result<(Segment, Segment), Refusal>
     requires { (M.view m.old).inside ≡ None }
     ensures { IfOk result (λ made. AreReady (M.view m.new) made.0 made.1) }
 {
@@ -64,7 +82,7 @@ fn two<R: Wait, M: Memory>(rt: &R, m: &mut M) -> Result<(Segment, Segment), Refu
 }
 
 /// The last long of a segment.
-fn last<M: Memory>(m: &mut M, segment: &Segment) -> Result<u64, Refusal>
+pub fn last<M: Memory>(m: &mut M, segment: &Segment) -> Result<u64, Refusal>
     requires { CanAccess (M.view m.old) segment.now }
 {
     let long = Layout::value(ValueKind::Long);

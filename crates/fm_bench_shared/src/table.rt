@@ -1,4 +1,4 @@
-ghost use Rattle.std.specs.Prelude.{◌≡◌, None, IfOk};
+ghost use Rattle.std.specs.Prelude.{◌≡◌, ◌<◌, None, IfOk};
 ghost use Rattle.fm_layout.specs.Parts.{IsValue};
 ghost use Rattle.fm_bench_shared.specs.Ready.{CanAccess};
 
@@ -16,7 +16,14 @@ pub const ROWS: u64 = 512;
 /// The longs of a row.
 pub const COLUMNS: u64 = 16;
 
-/// A table in an arena of its own; cell c holds c times a number, modulo a prime.
+/// What a cell holds: its number times another, modulo a prime.
+pub fn number(cell: u64, times: u64) -> u64
+    ensures { result < 1_000_003 }
+{
+    cell.wrapping_mul(times) % 1_000_003
+}
+
+/// A table in an arena of its own.
 pub fn table<R: Wait, M: Memory>(rt: &R, m: &mut M, times: u64) -> Result<Segment, Refusal>
     requires { (M.view m.old).inside ≡ None }
     ensures { IfOk result (λ cells. CanAccess (M.view m.new) cells) }
@@ -26,7 +33,7 @@ pub fn table<R: Wait, M: Memory>(rt: &R, m: &mut M, times: u64) -> Result<Segmen
     let table = Segment::of(arena, first, 8 * ROWS * COLUMNS);
     let long = Layout::value(ValueKind::Long);
     for cell in 0..ROWS * COLUMNS {
-        let v = Value::Long((cell.wrapping_mul(times) % 1_000_003) as i64);
+        let v = Value::Long(number(cell, times) as i64);
         table.set(rt, m, &long, 8 * cell, v)?;
     }
     Ok(table)

@@ -1,5 +1,11 @@
-mod accesses;
 mod calls;
+mod closes;
+mod handles;
 mod memories;
+mod pools;
+mod rows;
+mod runs;
 mod story;
+mod threads;
+mod values;
 mod works;

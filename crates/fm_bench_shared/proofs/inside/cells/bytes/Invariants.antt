@@ -1,0 +1,5 @@
+use Rattle.fm_visit.specs.Learnt.{IsIn}
+use Rattle.fm_bench_shared.proofs.inside.cells.bytes.Given as goal
+
+abbrev pub invariant-loop-turn : goal.invariant-loop-turn
+invariant-loop-turn g l = IsIn (g.M.Memory.view l.m) l.visit.arena l.cells

@@ -1,0 +1,5 @@
+use Rattle.fm_visit.specs.Learnt.{IsIn}
+use Rattle.fm_visit_tests.proofs.tests.rows.answers_by.Given as goal
+
+abbrev pub invariant-loop-row : goal.invariant-loop-row
+invariant-loop-row g l = IsIn (g.M.Memory.view l.m) l.visit.arena l.s
