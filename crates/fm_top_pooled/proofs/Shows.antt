@@ -125,7 +125,7 @@ module _ {n : ℕ} {pool : Pool} {p q : View} {s : Region} {plan : Plan} {thread
       absurd (cc)
   wants (Err Closed) w even =
       let found = w.ends.1 in
-      absurd (not_stopped s.arena found.caller w.crew.more found.stops.before
+      absurd (not_stopped s.arena found.first.caller w.crew.more found.stops.before
       (stays_alive NoneMayAdd h w.crew sound (touch w) s.arena h.known.arena h.alive).1 found.stops.stops)
   wants (Err NoPass) w even = inr (refl, w.wanting (is_whole h) refl)
   wants (Err Memory) w even = inl refl

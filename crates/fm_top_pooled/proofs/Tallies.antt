@@ -185,7 +185,7 @@ module _ {pool : Pool} {p q : View} {s counts : Region} {plan : Plan} {threads :
   only_wants (Err WrongThread) w tally even passes = absurd (not_confined h b w.ends.2)
   only_wants (Err Closed) w tally even passes =
       let found = w.ends.1 in
-      absurd (not_stopped found.arena found.caller w.crew.more found.before (all_come w found.arena found.either) found.last)
+      absurd (not_stopped found.arena found.first.caller w.crew.more found.before (all_come w found.arena found.either) found.last)
   only_wants (Err NoPass) w tally even passes =
       absurd (never_wanting threads h passes (w.wanting (is_whole h) refl))
   only_wants (Err Memory) w tally even passes = refl

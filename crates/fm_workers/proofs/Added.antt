@@ -1,15 +1,14 @@
 -- What a crew adds to a word.
 use Rattle.std.proofs.Common.{◌≡◌, ◌≢◌, ℕ, ◌+◌, ◌/◌, ◌<◌, ◌≤◌, ◌==◌, ◌&&◌, Bool, true, false, if◌then◌else◌, List, [], ◌∷◌, ◌++◌, slice_index, refl, sym, ap, ◌∙◌, subst, inl, inr, ⊎_elim, arith, Ok}
-use Rattle.std.{specs.{Prelude.{◌⊎◌}, List.{AllByRecursion, AllZip, flat_map}}, proofs.lemmas.Bool.Decides.{nat_tests}}
+use Rattle.std.{specs.{Prelude.{◌⊎◌}, List.{AllByRecursion, flat_map}}, proofs.lemmas.Bool.Decides.{nat_tests}}
 use Rattle.fm_base_lists.{specs.Among.{AreApart, IsAmong}, proofs.Each.{all_both, all_weaker}}
 use Rattle.fm_base.specs.{declared.{arena_id.ArenaId.{ArenaId}, caller.Caller.{Caller}}, Arenas.{same_id}, Calls.{Entry}, Counting.{OnlyAdds, all_added, total}}
 use Rattle.fm_base.{specs.Histories.{made_by}, proofs.{Counting.{added_by}, Names.{same_id-self}}}
 use Rattle.fm_segment.specs.Region.{Region}
-use Rattle.fm_records_query.specs.Plan.{Plan}
-use Rattle.fm_workers_shares.specs.{declared.taker.Done.{Done}, Answered.{all_of}}
+use Rattle.fm_workers_shares.specs.{declared.answers.Done.{Done}, Answered.{all_of}, Shares.{Cut}, Taking.{HasMade}}
 use Rattle.fm_records.specs.Reads.{AreReads, read_visit}
 use Rattle.fm_workers.specs.{Adding.{AddsAt, AddsBelow, adds, count_word, none_yet, nothing, one_more}, Counts.{how_many, number_of}}
-use Rattle.fm_workers.{specs.{Tally.{IsCounted, LeavesWord}, Tallies.{TalliesShares, Tallying, all_numbers}}, proofs.Numbers.{how_many-append}}
+use Rattle.fm_workers.{specs.{Sharing.{AreMade}, Tally.{LeavesWord}, Tallies.{all_numbers, tallying}}, proofs.Numbers.{how_many-append}}
 use Rattle.fm_workers.proofs.{Reading.{each_read}, Talliers.{all_numbers-append}}
 
 pub added-append : (id : ArenaId) (word : ℕ) (es fs : List Entry) → all_added id word (es ++ fs) ≡ all_added id word es + all_added id word fs
@@ -84,47 +83,46 @@ below_only c counts ns k id word own none_yet = tt
 below_only c counts ns k id word own (one_more {k = i} before more h a) =
     all_both (λ e. OnlyAdds id word e.call) before more (below_only c counts ns i id word before h) (at_only c counts i (slice_index ns i) id word more a)
 
-module _ (p : Plan) (s counts : Region) (each : ℕ) (c : Caller) (ds : List Done) (ns : List ℕ) (own : List Entry)
-    (h : TalliesShares c p s counts each ds ns (Ok tt) own) where
-  reads : AreReads c s h.reads
-  reads = each_read p s each c ds h.reads h.counted.does
+module _ (k : Cut) (counts : Region) {c : Caller} {ds : List Done} {ns : List ℕ} (own : List Entry) (h : HasMade (tallying k counts) c ds ns (Ok tt) own) where
+  reads : AreReads c k.segment h.served
+  reads = each_read k.plan k.segment k.each c ds h.served h.does
 
   shares_only : (id : ArenaId) (word : ℕ) → AllByRecursion (λ e. OnlyAdds id word e.call) own
   shares_only id word = subst (λ (es : List Entry). AllByRecursion (λ e. OnlyAdds id word e.call) es) (sym h.parts)
-      (all_both (λ e. OnlyAdds id word e.call) h.reads h.adds
-      (subst (λ (es : List Entry). AllByRecursion (λ e. OnlyAdds id word e.call) es) (sym reads.visits) (visits_only c s.arena id word reads.reads))
-      (below_only c counts ns 256 id word h.adds h.added))
+      (all_both (λ e. OnlyAdds id word e.call) h.served h.last
+      (subst (λ (es : List Entry). AllByRecursion (λ e. OnlyAdds id word e.call) es) (sym reads.visits) (visits_only c k.segment.arena id word reads.reads))
+      (below_only c counts ns 256 id word h.last h.ends))
 
-  shares_added : (k : ℕ) → k < 256 → all_added counts.arena (count_word counts k) own ≡ slice_index ns k
-  shares_added k below =
-      let none = ap (all_added counts.arena (count_word counts k)) reads.visits
-      ∙ reads_added c s.arena counts.arena (count_word counts k) reads.reads in
-      let all = all_below c counts ns 256 k h.adds h.added below in
-      let both = added-append counts.arena (count_word counts k) h.reads h.adds in
-      ap (all_added counts.arena (count_word counts k)) h.parts ∙ omega (arith, none, all, both)
+  shares_added : (n : ℕ) → n < 256 → all_added counts.arena (count_word counts n) own ≡ slice_index ns n
+  shares_added n below =
+      let none = ap (all_added counts.arena (count_word counts n)) reads.visits
+      ∙ reads_added c k.segment.arena counts.arena (count_word counts n) reads.reads in
+      let all = all_below c counts ns 256 n h.last h.ends below in
+      let both = added-append counts.arena (count_word counts n) h.served h.last in
+      ap (all_added counts.arena (count_word counts n)) h.parts ∙ omega (arith, none, all, both)
 
 -- Each of the crew only adds, and what all of them added is how often numbers came in all shares.
-pub record CrewAdds (w : Tallying) (more : List Entry) (cs : List Caller) (taken : List (List Done)) : Type 0 where
+pub record CrewAdds (counts : Region) (more : List Entry) (cs : List Caller) (taken : List (List Done)) : Type 0 where
   pub only : (id : ArenaId) (word : ℕ) → AllByRecursion (λ c. AllByRecursion (λ e. OnlyAdds id word e.call) (made_by c more)) cs
-  pub sum : (k : ℕ) → k < 256
-      → total (λ c. all_added w.counts.arena (count_word w.counts k) (made_by c more)) cs ≡ how_many (number_of k) (all_numbers (all_of taken))
+  pub sum : (n : ℕ) → n < 256
+      → total (λ c. all_added counts.arena (count_word counts n) (made_by c more)) cs ≡ how_many (number_of n) (all_numbers (all_of taken))
 
-pub crew_adds : (w : Tallying) (more : List Entry) (cs : List Caller) (taken : List (List Done))
-    → AllZip (IsCounted w.plan w.segment w.counts w.each more) cs taken → CrewAdds w more cs taken
-crew_adds w more [] [] h = record { only = λ id word. tt; sum = λ k below. refl }
-crew_adds w more (c ∷ cs) (ds ∷ taken) h =
-    let rest = crew_adds w more cs taken h.1 in
+pub crew_adds : (k : Cut) (counts : Region) (more : List Entry) (cs : List Caller) (taken : List (List Done)) (parts : List (List ℕ))
+    → AreMade (tallying k counts) more cs taken parts → CrewAdds counts more cs taken
+crew_adds k counts more [] [] [] h = record { only = λ id word. tt; sum = λ n below. refl }
+crew_adds k counts more (c ∷ cs) (ds ∷ taken) (ns ∷ parts) h =
+    let rest = crew_adds k counts more cs taken parts h.1 in
     record {
-      only = λ id word. (shares_only w.plan w.segment w.counts w.each c ds h.0.0 (made_by c more) h.0.1 id word, rest.only id word);
-      sum = λ k below.
-          let a = shares_added w.plan w.segment w.counts w.each c ds h.0.0 (made_by c more) h.0.1 k below in
-          let b = rest.sum k below in
-          let n = h.0.1.counted.are.each k below in
-          let all = ap (how_many (number_of k)) (all_numbers-append ds (all_of taken)) in
-          let both = how_many-append (number_of k) (all_numbers ds) (all_numbers (all_of taken)) in
-          omega (arith, a, b, n, all, both);
+      only = λ id word. (shares_only k counts (made_by c more) h.0 id word, rest.only id word);
+      sum = λ n below.
+          let a = shares_added k counts (made_by c more) h.0 n below in
+          let b = rest.sum n below in
+          let is = h.0.holds.each n below in
+          let all = ap (how_many (number_of n)) (all_numbers-append ds (all_of taken)) in
+          let both = how_many-append (number_of n) (all_numbers ds) (all_numbers (all_of taken)) in
+          omega (arith, a, b, is, all, both);
     }
-crew_adds w more cs taken h = absurd h
+crew_adds k counts more cs taken parts h = absurd h
 
 -- ---- by callers, where others leave the word
 

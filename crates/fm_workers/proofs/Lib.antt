@@ -1,5 +1,7 @@
 pub mod Added
+pub mod Answering
 pub mod Asked
+pub mod Batches
 pub mod ByRuns
 pub mod Counted
 pub mod CountedShares
@@ -9,7 +11,6 @@ pub mod Numbers
 pub mod Queried
 pub mod Reading
 pub mod Sparing
-pub mod Taking
 pub mod Tallied
 pub mod Talliers
 pub mod Totals

@@ -1,29 +1,26 @@
 -- What a query by a crew comes to.
-use Rattle.fm_workers.specs.{Asking.{known_later}, Beside.{AskedBeside}, Query.{OnlyReads, HasAnswered, IsOpenToAll, EndsQuery, QueriedWith}}
-use Rattle.fm_workers.{specs.Taking.{Asking, CanTakeBatch, Takes}, proofs.Asked.{idle_reads}}
-use Rattle.fm_workers.proofs.Taking.{HaveStopped, crew_answered, each_took, none_refused, some_refused, takers_count, takers_read, takers_took}
-use Rattle.fm_workers.proofs.{Touching.{tasks_count}, Sparing.{is_answer}}
-use Rattle.fm_records.{proofs.{Few.{few_answer}, Sharing.{shares_join}}, specs.{declared.found.Found.{Found}, Few.{AreFew}}}
-use Rattle.fm_segment.specs.{Access.{IsKnown}, Region.{Region}}
-use Rattle.fm_rule_calls.specs.{Kept.{Lasts}, Told.{view_of_pass}}
-use Rattle.std.{proofs.Common.{◌≡◌, ℕ, ◌/◌, ◌%◌, ◌<◌, ◌≤◌, List, [], length, refl, sym, ap, ◌∙◌, subst, arith, inl, inr, Result, Ok, Err}, specs.Prelude.{⊤}}
-use Rattle.std.{specs.List.{AllByRecursion}, proofs.lemmas.List.{length-map}}
-use Rattle.fm_base.specs.declared.{arena_id.ArenaId.{ArenaId}, kind.Kind.TheVariants.{Confined}, refusal.Refusal.{Refusal}}
-use Rattle.fm_base.specs.{declared.{refusal.Refusal.TheVariants.{Ragged, WrongThread, Closed, NoPass, Memory}, caller.Caller.{Caller}}, Calls.{Entry}}
+use Rattle.std.proofs.Common.{◌≡◌, ℕ, ◌/◌, ◌%◌, ◌<◌, ◌≤◌, List, [], ◌∷◌, length, refl, sym, ap, ◌∙◌, subst, arith, inl, inr, Result, Ok, Err, IfOk}
+use Rattle.std.{specs.{Prelude.{◌⊎◌, IfErr, ⊤}, List.{AllByRecursion}}}
+use Rattle.fm_base.specs.declared.{arena_id.ArenaId.{ArenaId}, caller.Caller.{Caller}, kind.Kind.TheVariants.{Confined}, refusal.Refusal.{Refusal}}
+use Rattle.fm_base.specs.{declared.refusal.Refusal.TheVariants.{Ragged, WrongThread, Closed, NoPass, Memory}, Calls.{Entry}}
 use Rattle.fm_base.specs.{Finds.{Find, Gathered}, Histories.{made_by}}
-use Rattle.fm_rule.specs.declared.pool.Pool.{Pool}
-use Rattle.fm_rule_facts.specs.Views.{View, IsSound}
+use Rattle.fm_records.{proofs.{Few.{few_answer}, Sharing.{shares_join}}, specs.{declared.found.Found.{Found}, Few.{AreFew}}}
 use Rattle.fm_records_query.specs.Plan.{Plan}
-use Rattle.fm_workers_crew.specs.{Crew.{AreTooMany, CrewGathered, CrewWorked, IsWhole, by_caller, callers}, Beside.{WorkedBeside}}
-use Rattle.fm_workers_crew.proofs.{Callers.{AreDoneBy, done_by_crew, worked_by_callers}, Working.{nobody, lasts_none}}
-use Rattle.fm_workers_shares.specs.{declared.{batch.Batch.{Batch}, taker.Taker.{Taker}}, Answered.{AnsweredBy}, Batches.{begun, nones}}
-use Rattle.fm_workers_shares.specs.{Finishing.{CanFinish, Finishes, answers_of}, Placing.{all_done}, Shares.{each_of, many_of}}
-use Rattle.fm_workers_shares.{proofs.{Places.{all_placed, length-nones, length-placed}, Settling.{all_among, all_of_dones, dones}}, specs.Taking.{jobs_of}}
-use Rattle.fm_workers_shares.proofs.{Sharing.{IsAnsweredAt}, Standing.{answered_by}}
-use Rattle.fm_workers_jobs.specs.Turns.{HasAccount, times}
+use Rattle.fm_rule_calls.specs.{Kept.{Lasts}, Told.{view_of_pass}}
+use Rattle.fm_rule_facts.specs.Views.{View, IsSound}
+use Rattle.fm_segment.specs.{Access.{IsKnown}, Region.{Region}}
+use Rattle.fm_workers_crew.{specs.Crew.{AreTooMany, CrewGathered, IsWhole, callers}, proofs.Working.{nobody, lasts_none}}
+use Rattle.fm_workers_shares.specs.{declared.answers.Done.{Done}, Answered.{AnsweredBy, all_of}, Asking.{asking}, Batches.{nones}, Ends.{FirstStopped, HasDone}}
+use Rattle.fm_workers_shares.specs.{Joining.{CanJoinAll, joined_all}, Placing.{AreJoined, Slot, placed}, Shares.{Cut, IsCut, cut, each_of, shares_in}, Taking.{jobs_of}}
+use Rattle.fm_workers_shares.proofs.{Ends.{all_can_join}, Once.{once_among}, Places.{all_placed, length-nones, length-placed}, Sharing.{IsAnsweredAt}, Standing.{answered_by}}
+use Rattle.fm_workers.specs.{Asking.{known_later}, Beside.{AskedBeside, SharedBeside}, Query.{EndsQuery, IsOpenToAll, OnlyReads, QueriedWith}}
+use Rattle.fm_workers.specs.Sharing.{AllMade, AreMade, HaveEnded, NoneBegun, SharedOut}
+use Rattle.fm_workers.proofs.{Answering.{AskingStopped, all_answered, all_found, all_placed_by, all_read, asking_stopped, each_took, parts_are}}
+use Rattle.fm_workers.proofs.{Asked.{idle_reads}, Sparing.{is_answer}}
 
-pub many : (gs : List Gathered) → length (callers gs) ≡ length gs
-many gs = length-map gs (λ (g : Gathered). g.caller)
+-- what a part becomes of the places
+abbrev pub Places : List Slot → List Done → List Slot → Type 0
+Places behind part whole = whole ≡ placed behind part
 
 -- the refusals before the first draw
 abbrev pub IsEarly : Refusal → Type 0
@@ -67,163 +64,205 @@ unfolding nobody
 queried_none v p s threads r early known ends =
     refused r (nobody v) (omega arith) (λ is. absurd (early_not r early is)) tt ends (lasts_none v) known (λ h. h)
 
--- No share was taken.
-pub queried_refused : {pool : Pool} {old new : View} {k : Asking} {threads : ℕ} {b : Batch} {us : List Taker} (r : Refusal)
-    → CrewWorked (by_caller (Takes k)) old new b.takers.items us (Err r) → CanTakeBatch pool old k.plan k.segment threads k.each b
-    → QueriedWith threads old new k.plan k.segment (Err r)
-queried_refused {old = old} {k = k} NoPass w can =
-    let less = w.ends.1 in
-    let count = can.begun.count in
-    refused NoPass w.crew (omega (arith, count, less)) (λ is. (omega (arith, count, less), λ x. subst (AreTooMany old) count (w.wanting x refl)))
-    (idle_reads k.segment w.crew.more (callers w.crew.crew) w.ends.2) (can.open_to_all, w.ends.0) w.lasts can.query.known w.still_sound
-queried_refused {k = k} Memory w can =
-    let none : length w.crew.crew ≡ 0 = ap (λ (gs : List Gathered). length gs) w.ends.1 in
-    refused Memory w.crew (omega (arith, none)) (λ is. absurd (cc))
-    (subst (λ (gs : List Gathered). AllByRecursion (λ c. OnlyReads k.segment c (made_by c w.crew.more)) (callers gs)) (sym w.ends.1) tt)
-    (can.open_to_all, inr (subst (λ (gs : List Gathered). AllByRecursion (HasAnswered k.plan k.segment _ w.crew.more) (callers gs)) (sym w.ends.1) tt))
-    w.lasts can.query.known w.still_sound
-queried_refused r w can = absurd w.ends
+-- ---- shares that were taken
 
--- ---- takers that ended
+never_wanting : (k : Cut) (cs : List Caller) (more : List Entry) (e : Refusal) → AskingStopped k cs more e → ¬ (e ≡ NoPass)
+never_wanting k cs more e (inl m) q = let other : Memory ≡ NoPass = sym m.0 ∙ q in absurd (cc)
+never_wanting k cs more e (inr f) q = let other : Closed ≡ NoPass = sym f.0 ∙ q in absurd (cc)
 
-module _ (k : Asking) (b : Batch) (us : List Taker) {pool : Pool} {old : View} {threads : ℕ} (more : List Entry) (cs : List Caller)
-    (done : AreDoneBy (Takes k) more cs b.takers.items us) (can : CanTakeBatch pool old k.plan k.segment threads k.each b) where
-  pub callers_count : length cs ≡ threads
-  callers_count = tasks_count (Takes k) more cs b.takers.items us done ∙ can.begun.count
+-- Each did all that it had to do.
+made_done : (k : Cut) (more : List Entry) (cs : List Caller) (taken parts : List (List Done)) → AreMade (asking k) more cs taken parts
+    → AllByRecursion (HasDone (asking k) more) cs
+made_done k more [] [] [] h = tt
+made_done k more (c ∷ cs) (ds ∷ taken) (p ∷ parts) h = ((ds, p, h.0), made_done k more cs taken parts h.1)
+made_done k more cs taken parts h = absurd h
 
-  pub callers_read : AllByRecursion (λ c. OnlyReads k.segment c (made_by c more)) cs
-  callers_read = takers_read k more cs b.takers.items us done
+module _ (k : Cut) (is : IsCut k) (open_to_all : IsOpenToAll k.plan k.segment) where
+  module _ (more : List Entry) (cs : List Caller) (slots : List Slot) (all : AllMade (asking k) Places cs more (nones (shares_in k)) slots) where
+    slots_are : slots ≡ placed (nones (shares_in k)) (all_of all.taken)
+    slots_are = all_placed_by (nones (shares_in k)) slots all.taken
+        (subst (λ (ps : List (List Done)). AreJoined Places (nones (shares_in k)) ps slots) (parts_are k more cs all.taken all.parts all.made) all.joined)
 
-  -- The takers' ends can be gathered.
-  pub can_finish : b.jobs ≡ k.jobs → CanFinish k.plan k.segment k.each k.jobs b.giver us b.slots.items
-  can_finish same =
-      let so_many : length us ≡ threads = takers_count k more cs b.takers.items us done ∙ can.begun.count in
-      record {
-        plan = can.plan;
-        even = can.open_to_all.even;
-        some = can.some;
-        small = can.small;
-        giver = subst (λ j. HasAccount j b.giver (begun (many_of (k.segment.size / k.plan.size) k.each) (length us))) same
-            (subst (λ n. HasAccount b.jobs b.giver (begun (many_of (k.segment.size / k.plan.size) k.each) n)) (sym so_many) can.begun.giver);
-        any = (let n = so_many in let some = can.query.some in omega (arith, n, some));
-        taken = takers_took k more cs b.takers.items us done;
-        empty = can.begun.slots;
-      }
+    -- The answers can be joined.
+    pub can_join : CanJoinAll k.plan slots
+    can_join = subst (CanJoinAll k.plan) (sym slots_are)
+        (all_can_join k (all_of all.taken) is (all_found k more cs all.taken all.parts all.made) all.once)
 
-  never_wanting : (e : Refusal) → HaveStopped k.plan k.segment k.each cs more e → ¬ (e ≡ NoPass)
-  never_wanting e (inl m) q = let other : Memory ≡ NoPass = sym m.0 ∙ q in absurd (cc)
-  never_wanting e (inr f) q = let other : Closed ≡ NoPass = sym f.0 ∙ q in absurd (cc)
+    pub by_shares : (a : List Found) → a ≡ joined_all k.plan slots → AnsweredBy k.plan k.segment k.each cs more a
+    by_shares a joined =
+        let there = all_placed (IsAnsweredAt k.plan k.segment k.each cs more) (shares_in k) (all_of all.taken)
+        (all_answered k more cs all.taken all.parts all.made) (once_among (shares_in k) (jobs_of (all_of all.taken)) all.once) in
+        let long = length-placed (nones (shares_in k)) (all_of all.taken) ∙ length-nones (shares_in k) in
+        subst (AnsweredBy k.plan k.segment k.each cs more) (sym (joined ∙ ap (joined_all k.plan) slots_are))
+        (answered_by k.plan k.segment k.each cs more (placed (nones (shares_in k)) (all_of all.taken)) all.taken is.some is.even long there
+        (each_took k more cs all.taken all.parts all.made) all.once)
 
-  -- An answer is wanting for want of memory, or since the arena was found closed.
-  stopped : (e : Refusal) → Finishes k.plan k.segment k.each us (Err e) → HaveStopped k.plan k.segment k.each cs more e
-  stopped e (inl refused) = some_refused k more cs b.takers.items us e (λ c is. absurd (can.open_to_all.shared is)) done refused
-  stopped e (inr wanting) = inl (wanting.1, inr (none_refused k more cs b.takers.items us done wanting.0))
+    pub few_answered : (a : List Found) → AnsweredBy k.plan k.segment k.each cs more a → AreFew k.segment.size k.plan a
+    few_answered a by =
+        let small = is.small in
+        subst (AreFew k.segment.size k.plan) (sym by.joined)
+        (shares_join k.plan k.segment more by.all.shares is.plan by.all.cut by.all.done (omega (arith, small))).few
 
-  pub by_shares : (a : List Found) → Finishes k.plan k.segment k.each us (Ok a) → AnsweredBy k.plan k.segment k.each cs more a
-  by_shares a f =
-      let there = all_placed (IsAnsweredAt k.plan k.segment k.each cs more) (many_of (k.segment.size / k.plan.size) k.each)
-      (all_done us) (crew_answered k more cs b.takers.items us done) (all_among (many_of (k.segment.size / k.plan.size) k.each) us f.1) in
-      let long = length-placed (nones (many_of (k.segment.size / k.plan.size) k.each)) (all_done us) ∙ length-nones (many_of (k.segment.size / k.plan.size) k.each) in
-      subst (AnsweredBy k.plan k.segment k.each cs more) (sym f.2)
-      (answered_by k.plan k.segment k.each cs more (answers_of k.plan k.segment k.each us) (dones us) can.some can.open_to_all.even long there
-      (each_took k more cs b.takers.items us done f.0) (λ number. ap (λ ds. times number (jobs_of ds)) (all_of_dones us) ∙ f.1 number))
+  module _ (old new : View) (crew : List Gathered) (more : List Entry) (draws : List Find) where
+    ends_so : (e : Refusal) → AskingStopped k (callers crew) more e → EndsQuery k.each old new k.plan k.segment more crew draws (Err e)
+    ends_so e (inl m) = subst (λ (x : Refusal). EndsQuery k.each old new k.plan k.segment more crew draws (Err x)) (sym m.0) (open_to_all, m.1)
+    ends_so e (inr f) = subst (λ (x : Refusal). EndsQuery k.each old new k.plan k.segment more crew draws (Err x)) (sym f.0) (open_to_all, f.1)
 
-  pub few_answered : (a : List Found) → AnsweredBy k.plan k.segment k.each cs more a → AreFew k.segment.size k.plan a
-  few_answered a by =
-      let small = can.small in
-      subst (AreFew k.segment.size k.plan) (sym by.joined) (shares_join k.plan k.segment more by.all.shares can.plan by.all.cut by.all.done (omega (arith, small))).few
+    none_ends : (threads : ℕ) (e : Refusal) → NoneBegun threads old crew more draws e → EndsQuery k.each old new k.plan k.segment more crew draws (Err e)
+    none_ends threads Memory h =
+        (open_to_all, inr (subst (λ (gs : List Gathered). AllByRecursion (HasDone (asking k) more) (callers gs)) (sym h) tt))
+    none_ends threads NoPass h = (open_to_all, h.0)
+    none_ends threads e h = absurd h
 
-  module _ (crew : List Gathered) (draws : List Find) (new : View) (are : cs ≡ callers crew) where
-    ends_so : (e : Refusal) → HaveStopped k.plan k.segment k.each (callers crew) more e → EndsQuery k.each old new k.plan k.segment more crew draws (Err e)
-    ends_so e (inl m) = subst (λ (x : Refusal). EndsQuery k.each old new k.plan k.segment more crew draws (Err x)) (sym m.0) (can.open_to_all, m.1)
-    ends_so e (inr f) = subst (λ (x : Refusal). EndsQuery k.each old new k.plan k.segment more crew draws (Err x)) (sym f.0) (can.open_to_all, f.1)
+    -- A crew was refused.
+    refused_ends : (threads : ℕ) (e : Refusal)
+        → NoneBegun threads old crew more draws e ⊎ (HaveEnded (asking k) threads crew more × FirstStopped (asking k) (callers crew) more e)
+        → EndsQuery k.each old new k.plan k.segment more crew draws (Err e)
+    refused_ends threads e (inl h) = none_ends threads e h
+    refused_ends threads e (inr h) = ends_so e (asking_stopped k more (callers crew) open_to_all.shared e h.1)
 
-    -- All shares were taken, or a taker was refused.
-    pub ends_by : (r : Result (List Found) Refusal) → Finishes k.plan k.segment k.each us r
-        → EndsQuery (each_of (k.segment.size / k.plan.size) threads) old new k.plan k.segment more crew draws r
-    ends_by (Ok a) f =
-        subst (λ m. EndsQuery m old new k.plan k.segment more crew draws (Ok a)) can.cut
-        (can.open_to_all, subst (λ ds. AnsweredBy k.plan k.segment k.each ds more a) are (by_shares a f))
-    ends_by (Err e) f =
-        subst (λ m. EndsQuery m old new k.plan k.segment more crew draws (Err e)) can.cut
-        (ends_so e (subst (λ ds. HaveStopped k.plan k.segment k.each ds more e) are (stopped e f)))
+    -- All shares were answered, and memory was wanting to join the answers.
+    wanting_ends : (taken parts : List (List Done)) → AreMade (asking k) more (callers crew) taken parts → (e : Refusal) → e ≡ Memory
+        → EndsQuery k.each old new k.plan k.segment more crew draws (Err e)
+    wanting_ends taken parts made e memory =
+        subst (λ (x : Refusal). EndsQuery k.each old new k.plan k.segment more crew draws (Err x)) (sym memory)
+        (open_to_all, inr (made_done k more (callers crew) taken parts made))
 
-module _ {pool : Pool} {old new : View} {k : Asking} {threads : ℕ} {b : Batch} {us : List Taker} {u : Unit {0}}
-    (w : CrewWorked (by_caller (Takes k)) old new b.takers.items us (Ok u)) (can : CanTakeBatch pool old k.plan k.segment threads k.each b) where
-  pub all_done_by : AreDoneBy (Takes k) w.crew.more (callers w.crew.crew) b.takers.items us
-  all_done_by = worked_by_callers (Takes k) w
+  module _ (old new : View) (slots : List Slot) (threads : ℕ) (same : k.each ≡ each_of (k.segment.size / k.plan.size) threads)
+      (known : IsKnown (view_of_pass old) k.segment) where
+    -- No answer came.
+    pub queried_refused : (e : Refusal) → SharedOut (asking k) Places threads old new (nones (shares_in k)) slots (Err e)
+        → QueriedWith threads old new k.plan k.segment (Err e)
+    queried_refused e so = by so.ends
+      where
+        ends : EndsQuery (each_of (k.segment.size / k.plan.size) threads) old new k.plan k.segment so.crew.more so.crew.crew so.crew.draws (Err e)
+        ends = subst (λ n. EndsQuery n old new k.plan k.segment so.crew.more so.crew.crew so.crew.draws (Err e)) same
+            (refused_ends old new so.crew.crew so.crew.more so.crew.draws threads e so.ends)
 
-  pub can_finish_batch : b.jobs ≡ k.jobs → CanFinish k.plan k.segment k.each k.jobs b.giver us b.slots.items
-  can_finish_batch same = can_finish k b us w.crew.more (callers w.crew.crew) all_done_by can same
+        none : (r : Refusal) → r ≡ e → NoneBegun threads old so.crew.crew so.crew.more so.crew.draws r → QueriedWith threads old new k.plan k.segment (Err e)
+        none Memory q h =
+            let empty : length so.crew.crew ≡ 0 = ap (λ (gs : List Gathered). length gs) h in
+            refused e so.crew (omega (arith, empty)) (λ n. let apart : Memory ≡ NoPass = q ∙ n in absurd (cc))
+            (subst (λ (gs : List Gathered). AllByRecursion (λ c. OnlyReads k.segment c (made_by c so.crew.more)) (callers gs)) (sym h) tt)
+            ends so.lasts known so.still_sound
+        none NoPass q h =
+            let less = h.1 in
+            refused e so.crew (omega (arith, less)) (λ n. (h.1, h.3)) (idle_reads k.segment so.crew.more (callers so.crew.crew) h.2) ends so.lasts known
+            so.still_sound
+        none r q h = absurd h
 
-  as_many : length w.crew.crew ≡ threads
-  as_many = sym (many w.crew.crew) ∙ callers_count k b us w.crew.more (callers w.crew.crew) all_done_by can
+        by : NoneBegun threads old so.crew.crew so.crew.more so.crew.draws e
+            ⊎ (HaveEnded (asking k) threads so.crew.crew so.crew.more × FirstStopped (asking k) (callers so.crew.crew) so.crew.more e)
+            → QueriedWith threads old new k.plan k.segment (Err e)
+        by (inl h) = none e refl h
+        by (inr h) =
+            let n = h.0.count in
+            refused e so.crew (omega (arith, n))
+            (λ q. absurd (never_wanting k (callers so.crew.crew) so.crew.more e (asking_stopped k so.crew.more (callers so.crew.crew) open_to_all.shared e h.1) q))
+            (all_read k so.crew.more (callers so.crew.crew) h.0.each) ends so.lasts known so.still_sound
 
-  pub queried : (r : Result (List Found) Refusal) → Finishes k.plan k.segment k.each us r → QueriedWith threads old new k.plan k.segment r
-  queried (Err e) f =
-      let cs = callers w.crew.crew in
-      let n = as_many in
-      refused e w.crew (omega (arith, n)) (λ is. absurd (never_wanting k b us w.crew.more cs all_done_by can e (stopped k b us w.crew.more cs all_done_by can e f) is))
-      (callers_read k b us w.crew.more cs all_done_by can) (ends_by k b us w.crew.more cs all_done_by can w.crew.crew w.crew.draws new refl (Err e) f) w.lasts can.query.known w.still_sound
-  queried (Ok a) f =
-      let cs = callers w.crew.crew in
-      let by = by_shares k b us w.crew.more cs all_done_by can a f in
-      let visits = callers_read k b us w.crew.more cs all_done_by can in
-      let few = few_answered k b us w.crew.more cs all_done_by can a by in
-      let sound : IsSound new = w.sound (λ e. absurd (cc)) in
-      let n = as_many in
-      record {
-        crew = w.crew;
-        one_each = omega (arith, n);
-        one_less = λ e. absurd (cc);
-        visits = visits;
-        ends = ends_by k b us w.crew.more cs all_done_by can w.crew.crew w.crew.draws new refl (Ok a) f;
-        value = is_answer w.crew.more cs w.crew.seen (ap (λ (v : View). v.shape) w.crew.is) can.plan sound by visits;
-        answer = few_answer k.segment.size k.plan.items a few;
-        few = few;
-        wanting = λ v e. absurd (cc);
-        lasts = w.lasts;
-        known = known_later w.lasts can.query.known;
-        sound = sound;
-        still_sound = w.still_sound;
-      }
+    -- The answers were joined, or memory was wanting for that.
+    pub queried : {u : Unit {0}} (so : SharedOut (asking k) Places threads old new (nones (shares_in k)) slots (Ok u)) (r : Result (List Found) Refusal)
+        → IfOk r (λ a. a ≡ joined_all k.plan slots) → IfErr r (λ e. e ≡ Memory) → QueriedWith threads old new k.plan k.segment r
+    queried so (Err e) joined memory =
+        let n = so.ends.0.count in
+        refused e so.crew (omega (arith, n)) (λ q. let apart : Memory ≡ NoPass = sym memory ∙ q in absurd (cc))
+        (all_read k so.crew.more (callers so.crew.crew) so.ends.0.each)
+        (subst (λ n. EndsQuery n old new k.plan k.segment so.crew.more so.crew.crew so.crew.draws (Err e)) same
+        (wanting_ends old new so.crew.crew so.crew.more so.crew.draws so.ends.1.taken so.ends.1.parts so.ends.1.made e memory))
+        so.lasts known so.still_sound
+    queried so (Ok a) joined memory =
+        let cs = callers so.crew.crew in
+        let by = by_shares so.crew.more (callers so.crew.crew) slots so.ends.1 a joined in
+        let visits = all_read k so.crew.more cs so.ends.0.each in
+        let few = few_answered so.crew.more (callers so.crew.crew) slots so.ends.1 a by in
+        let n = so.ends.0.count in
+        record {
+          crew = so.crew;
+          one_each = omega (arith, n);
+          one_less = λ e. absurd (cc);
+          visits = visits;
+          ends = subst (λ n. EndsQuery n old new k.plan k.segment so.crew.more so.crew.crew so.crew.draws (Ok a)) same (open_to_all, by);
+          value = is_answer so.crew.more cs so.crew.seen (ap (λ (v : View). v.shape) so.crew.is) is.plan so.sound by visits;
+          answer = few_answer k.segment.size k.plan.items a few;
+          few = few;
+          wanting = λ v e. absurd (cc);
+          lasts = so.lasts;
+          known = known_later so.lasts known;
+          sound = so.sound;
+          still_sound = so.still_sound;
+        }
 
--- ---- takers that ended beside other work
+    -- ---- beside other work
 
-module _ {pool : Pool} {Acts : List Entry → Type 0} {old new : View} {k : Asking} {threads : ℕ} {b : Batch} {us : List Taker}
-    (w : WorkedBeside (by_caller (Takes k)) Acts old new b.takers.items us) (can : CanTakeBatch pool old k.plan k.segment threads k.each b) where
-  pub done_beside : AreDoneBy (Takes k) w.crew.more (callers w.crew.crew) b.takers.items us
-  done_beside = done_by_crew (Takes k) w.crew.more w.crew.passes b.takers.items us w.crew.are_passes w.each
+    ended_read : (e : Refusal) (crew : List Gathered) (more : List Entry)
+        → NoneBegun threads old crew more [] e ⊎ (HaveEnded (asking k) threads crew more × FirstStopped (asking k) (callers crew) more e)
+        → AllByRecursion (λ c. OnlyReads k.segment c (made_by c more)) (callers crew)
+    ended_read Memory crew more (inl h) =
+        subst (λ (gs : List Gathered). AllByRecursion (λ c. OnlyReads k.segment c (made_by c more)) (callers gs)) (sym h) tt
+    ended_read NoPass crew more (inl h) = idle_reads k.segment more (callers crew) h.2
+    ended_read e crew more (inl h) = absurd h
+    ended_read e crew more (inr h) = all_read k more (callers crew) h.0.each
 
-  pub can_finish_beside : b.jobs ≡ k.jobs → CanFinish k.plan k.segment k.each k.jobs b.giver us b.slots.items
-  can_finish_beside same = can_finish k b us w.crew.more (callers w.crew.crew) done_beside can same
+    pub asked_refused : {Acts : List Entry → Type 0} (e : Refusal) → SharedBeside (asking k) Places Acts threads old new (nones (shares_in k)) slots (Err e)
+        → AskedBeside Acts threads old new k.plan k.segment (Err e)
+    asked_refused e so = record {
+      crew = so.crew;
+      visits = ended_read e so.crew.crew so.crew.more so.ends;
+      ends = subst (λ n. EndsQuery n old new k.plan k.segment so.crew.more so.crew.crew [] (Err e)) same
+          (refused_ends old new so.crew.crew so.crew.more [] threads e so.ends);
+      value = tt;
+      answer = tt;
+      few = tt;
+      known = known_later so.crew.lasts known;
+    }
 
-  pub asked_beside : (r : Result (List Found) Refusal) → Finishes k.plan k.segment k.each us r → AskedBeside Acts threads old new k.plan k.segment r
-  asked_beside (Err e) f =
-      let cs = callers w.crew.crew in
-      record {
-        crew = w.crew;
-        visits = callers_read k b us w.crew.more cs done_beside can;
-        ends = ends_by k b us w.crew.more cs done_beside can w.crew.crew [] new refl (Err e) f;
-        value = tt;
-        answer = tt;
-        few = tt;
-        known = known_later w.crew.lasts can.query.known;
-      }
-  asked_beside (Ok a) f =
-      let cs = callers w.crew.crew in
-      let by = by_shares k b us w.crew.more cs done_beside can a f in
-      let visits = callers_read k b us w.crew.more cs done_beside can in
-      let few = few_answered k b us w.crew.more cs done_beside can a by in
-      record {
-        crew = w.crew;
-        visits = visits;
-        ends = ends_by k b us w.crew.more cs done_beside can w.crew.crew [] new refl (Ok a) f;
-        value = is_answer w.crew.more cs w.crew.seen w.crew.shape can.plan w.crew.sound by visits;
-        answer = few_answer k.segment.size k.plan.items a few;
-        few = few;
-        known = known_later w.crew.lasts can.query.known;
-      }
+    pub asked_beside : {Acts : List Entry → Type 0} {u : Unit {0}} (so : SharedBeside (asking k) Places Acts threads old new (nones (shares_in k)) slots (Ok u))
+        (r : Result (List Found) Refusal) → IfOk r (λ a. a ≡ joined_all k.plan slots) → IfErr r (λ e. e ≡ Memory)
+        → AskedBeside Acts threads old new k.plan k.segment r
+    asked_beside so (Err e) joined memory = record {
+      crew = so.crew;
+      visits = all_read k so.crew.more (callers so.crew.crew) so.ends.0.each;
+      ends = subst (λ n. EndsQuery n old new k.plan k.segment so.crew.more so.crew.crew [] (Err e)) same
+          (wanting_ends old new so.crew.crew so.crew.more [] so.ends.1.taken so.ends.1.parts so.ends.1.made e memory);
+      value = tt;
+      answer = tt;
+      few = tt;
+      known = known_later so.crew.lasts known;
+    }
+    asked_beside so (Ok a) joined memory =
+        let cs = callers so.crew.crew in
+        let by = by_shares so.crew.more (callers so.crew.crew) slots so.ends.1 a joined in
+        let visits = all_read k so.crew.more cs so.ends.0.each in
+        let few = few_answered so.crew.more (callers so.crew.crew) slots so.ends.1 a by in
+        record {
+          crew = so.crew;
+          visits = visits;
+          ends = subst (λ n. EndsQuery n old new k.plan k.segment so.crew.more so.crew.crew [] (Ok a)) same (open_to_all, by);
+          value = is_answer so.crew.more cs so.crew.seen so.crew.shape is.plan so.crew.sound by visits;
+          answer = few_answer k.segment.size k.plan.items a few;
+          few = few;
+          known = known_later so.crew.lasts known;
+        }
+
+-- ---- what a call cut
+
+abbrev pub asked : Plan → Region → ℕ → Cut
+asked p s threads = cut p s (each_of (s.size / p.size) threads)
+
+module _ (p : Plan) (s : Region) (threads : ℕ) (k : Cut) (n : ℕ) (is : k ≡ asked p s threads) (count : n ≡ shares_in k) (start : List Slot) (none : start ≡ nones n)
+    (old new : View) (slots : List Slot) (r : Result (Unit {0}) Refusal) where
+  pub shared_asked : SharedOut (asking k) Places threads old new start slots r
+      → SharedOut (asking (asked p s threads)) Places threads old new (nones (shares_in (asked p s threads))) slots r
+  shared_asked so =
+      subst (λ x. SharedOut (asking x) Places threads old new (nones (shares_in x)) slots r) is
+      (subst (λ xs. SharedOut (asking k) Places threads old new xs slots r) (none ∙ ap nones count) so)
+
+  pub beside_asked : (Acts : List Entry → Type 0) → SharedBeside (asking k) Places Acts threads old new start slots r
+      → SharedBeside (asking (asked p s threads)) Places Acts threads old new (nones (shares_in (asked p s threads))) slots r
+  beside_asked Acts so =
+      subst (λ x. SharedBeside (asking x) Places Acts threads old new (nones (shares_in x)) slots r) is
+      (subst (λ xs. SharedBeside (asking k) Places Acts threads old new xs slots r) (none ∙ ap nones count) so)
 
 -- Whole records of an arena that isn't confined.
 pub even_of : (p : Plan) (s : Region) (n m : ℕ) → n ≡ s.size → m ≡ p.size → n % m ≡ 0 → s.size % p.size ≡ 0

@@ -4,7 +4,7 @@ use Rattle.fm_base.specs.{declared.caller.Caller.{Caller}, Calls.{Entry}}
 use Rattle.fm_segment.specs.Region.{Region}
 use Rattle.fm_records_query.specs.Plan.{Plan}
 use Rattle.fm_records.{specs.Reads.{AreReads}, proofs.Visiting.{AreReads-append, AreReads-none, StopsReading-after}}
-use Rattle.fm_workers_shares.specs.{declared.taker.Done.{Done}, Shares.{share_of, start_of}, Taking.{DoesEach}}
+use Rattle.fm_workers_shares.specs.{declared.answers.Done.{Done}, Shares.{share_of, start_of}, Taking.{DoesEach}}
 use Rattle.fm_workers_shares.proofs.Numbers.{run_fits, start_order, start_within}
 use Rattle.fm_workers.{specs.Query.{OnlyReads, reads, stops}, proofs.Asked.{IsWithin, reads_wider}}
 

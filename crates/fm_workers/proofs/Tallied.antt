@@ -1,29 +1,25 @@
 -- What a tally by a crew comes to.
-use Rattle.std.proofs.Common.{◌≡◌, ℕ, ◌/◌, ◌%◌, ◌^◌, ◌<◌, ◌≤◌, List, [], length, refl, sym, ap, ◌∙◌, subst, arith, inl, inr, ⊎_elim, Result, Ok, Err}
-use Rattle.std.specs.{Prelude.{◌⊎◌, ⊤, ℤ}, List.{AllByRecursion, range_with_len}}
+use Rattle.std.proofs.Common.{◌≡◌, ◌≢◌, ℕ, ◌/◌, ◌%◌, ◌^◌, ◌<◌, ◌≤◌, List, [], length, refl, sym, ap, ◌∙◌, subst, arith, inl, inr, ⊎_elim, Result, Ok, Err}
+use Rattle.std.specs.{Prelude.{◌⊎◌, ⊤, ℤ}, List.{AllByRecursion, AllZip}}
 use Rattle.fm_base_lists.{specs.Among.{IsAmong}, proofs.Each.{all_among, all_weaker}}
-use Rattle.fm_base.specs.declared.{arena_id.ArenaId.{ArenaId}, kind.Kind.TheVariants.{Confined}, refusal.Refusal.{Refusal}}
+use Rattle.fm_base.specs.declared.{arena_id.ArenaId.{ArenaId}, caller.Caller.{Caller}, kind.Kind.TheVariants.{Confined}, refusal.Refusal.{Refusal}}
 use Rattle.fm_base.specs.{declared.refusal.Refusal.TheVariants.{Unsupported, Ragged, WrongThread, Closed, NoPass, Memory}, Arenas.{word_in}, Calls.{Entry}}
 use Rattle.fm_base.{specs.{Counting.{OnlyAdds}, Finds.{Gathered}, Histories.{made_by}, Untouched.{Spares}}, proofs.Counting.{counted as word_counted}}
-use Rattle.fm_rule.specs.declared.pool.Pool.{Pool}
 use Rattle.fm_rule_facts.specs.Views.{IsSound, View, limit_of, state_in}
 use Rattle.fm_rule_calls.{proofs.Going.{reached_by}, specs.{Kept.{Lasts}, Told.{view_of_pass}}}
 use Rattle.fm_segment.specs.{Access.{IsKnown}, Region.{Region}}
 use Rattle.fm_records_query.specs.Plan.{Plan}
 use Rattle.fm_records.{specs.Shares.{IsSpared, Share}, proofs.Sharing.{shares_answer, shares_read}}
-use Rattle.fm_workers_jobs.specs.{declared.account.Account.{Account}, Turns.{IsOf, account_of, times}}
-use Rattle.fm_workers_shares.specs.{Answered.{all_of}, Batches.{begun, nones}, Placing.{placed}, Shares.{each_of, many_of}, Taking.{jobs_of}}
+use Rattle.fm_workers_shares.specs.{Answered.{all_of}, Batches.{nones}, Ends.{FirstStopped}, Placing.{placed}, Shares.{Cut, IsCut, each_of, many_of}}
 use Rattle.fm_workers_shares.proofs.Standing.{HasShares}
-use Rattle.fm_workers_crew.{specs.Crew.{AreTooMany, CrewGathered, CrewWorked, IsWhole, by_caller, callers}, proofs.Callers.{AreDoneBy, worked_by_callers}}
-use Rattle.fm_workers_crew.proofs.Working.{lasts_none, nobody}
-use Rattle.fm_workers.specs.{declared.{tallier.Tallier.{Tallier}, tally_batch.TallyBatch.{TallyBatch}}, Adding.{count_word}, Asking.{known_later}}
-use Rattle.fm_workers.specs.{Counts.{AreCounts, IsTally, how_many, listed, number_of}, Query.{NobodyElseWrites}}
-use Rattle.fm_workers.specs.{Summing.{AreTotals, CanTallyBatch, CanTotal, HaveEnded, PassTotals, Totals}, Tallies.{Tallies, Tallying, all_numbers}}
-use Rattle.fm_workers.specs.Tally.{AreAllRead, AreHeld, AreTheCounts, CanBeTallied, EndsTally, LeavesWord, OnlyTallies, TalliedBy, TalliedWith}
-use Rattle.fm_workers.proofs.{Added.{by_crew, crew_adds}, Counted.{listed_joined}}
-use Rattle.fm_workers.proofs.{CountedShares.{HaveCounted, counted_shares, have_counted, same_numbers, tallied_by}, FewCounted.{shares_list}}
-use Rattle.fm_workers.proofs.{Queried.{even_of, many}, Sparing.{by_either, tallies_spare}, Totals.{passes_counted, taken_once, totals_counted}}
-use Rattle.fm_workers.proofs.Touching.{HaveStopped, are_takers, crew_stops, crew_tallies, idle_tallies, talliers_count, tasks_count}
+use Rattle.fm_workers_crew.{specs.Crew.{AreTooMany, CrewGathered, IsWhole, callers}, proofs.Working.{lasts_none, nobody}}
+use Rattle.fm_workers.specs.{declared.tally.Total.{Total}, Adding.{HasCounts, count_word}, Asking.{known_later}, Counts.{AreCounts, IsTally, how_many, listed, number_of}}
+use Rattle.fm_workers.specs.{Query.{NobodyElseWrites}, Sharing.{HaveEnded, NoneBegun, SharedOut}, Tallies.{all_numbers, tallying}}
+use Rattle.fm_workers.specs.Tally.{AreAllRead, AreHeld, AreTheCounts, CanBeTallied, EndsTally, IsCounted, LeavesWord, OnlyTallies, TalliedBy, TalliedWith}
+use Rattle.fm_workers.proofs.{Added.{by_crew, crew_adds}, Counted.{listed_joined}, CountedShares.{counted_shares, each_counted, same_numbers, tallied_by}}
+use Rattle.fm_workers.proofs.{FewCounted.{shares_list}, Queried.{asked, even_of}, Sparing.{by_either, tallies_spare}}
+use Rattle.fm_workers.proofs.Totals.{AreTotals, PassTotals, Sums, SumsTo, passes_counted, totals_counted}
+use Rattle.fm_workers.proofs.Touching.{TallyStopped, crew_stops, crew_tallies, idle_tallies}
 
 -- the refusals before the first draw
 abbrev pub IsFirst : Refusal → Type 0
@@ -71,174 +67,162 @@ unfolding nobody
 tallied_none v p s counts threads r first known counts_known ends =
     refused r (nobody v) (omega arith) (λ is. absurd (first_not r first is)) tt ends (lasts_none v) known counts_known (λ h. h)
 
--- No share was taken.
-pub tallied_refused : {pool : Pool} {old new : View} {k : Tallying} {threads : ℕ} {b : TallyBatch} {us : List Tallier} (r : Refusal)
-    → CrewWorked (by_caller (Tallies k)) old new b.talliers.items us (Err r) → CanTallyBatch pool old k.plan k.segment k.counts threads k.each b
-    → TalliedWith threads old new k.plan k.segment k.counts (Err r)
-tallied_refused {old = old} {k = k} NoPass w can =
-    let less = w.ends.1 in
-    let count = can.begun.count in
-    refused NoPass w.crew (omega (arith, count, less))
-    (λ e. (omega (arith, count, less), λ x. subst (AreTooMany old) count (w.wanting x refl)))
-    (idle_tallies k.segment k.counts w.crew.more (callers w.crew.crew) w.ends.2) (can.can, w.ends.0) w.lasts can.asked.query.known can.asked.known
-    w.still_sound
-tallied_refused {k = k} Memory w can =
-    let none : length w.crew.crew ≡ 0 = ap (λ (gs : List Gathered). length gs) w.ends.1 in
-    refused Memory w.crew (omega (arith, none)) (λ e. absurd (cc))
-    (subst (λ (gs : List Gathered). AllByRecursion (λ c. OnlyTallies k.segment k.counts c (made_by c w.crew.more)) (callers gs)) (sym w.ends.1) tt)
-    (can.can, inr (ap callers w.ends.1)) w.lasts can.asked.query.known can.asked.known w.still_sound
-tallied_refused r w can = absurd w.ends
+-- ---- shares that were taken
 
-module _ {pool : Pool} {old new : View} {k : Tallying} {threads : ℕ} {b : TallyBatch} {us : List Tallier} {u : Unit {0}}
-    (w : CrewWorked (by_caller (Tallies k)) old new b.talliers.items us (Ok u))
-    (can : CanTallyBatch pool old k.plan k.segment k.counts threads k.each b) where
-  done : AreDoneBy (Tallies k) w.crew.more (callers w.crew.crew) b.talliers.items us
-  done = worked_by_callers (Tallies k) w
+stop_not : (k : Cut) (counts : Region) (cs : List Caller) (more : List Entry) (e : Refusal) → TallyStopped k counts more cs e → ¬ (e ≡ NoPass)
+stop_not k counts cs more e (inl m) q = let apart : Memory ≡ NoPass = sym m.0 ∙ q in absurd (cc)
+stop_not k counts cs more e (inr f) q = let apart : Closed ≡ NoPass = sym f.0 ∙ q in absurd (cc)
 
-  as_many : length w.crew.crew ≡ threads
-  as_many = sym (many w.crew.crew) ∙ (tasks_count (Tallies k) w.crew.more (callers w.crew.crew) b.talliers.items us done ∙ can.begun.count)
-
-  so_many : length us ≡ threads
-  so_many = talliers_count k w.crew.more (callers w.crew.crew) b.talliers.items us done ∙ can.begun.count
-
-  visits : AllByRecursion (λ c. OnlyTallies k.segment k.counts c (made_by c w.crew.more)) (callers w.crew.crew)
-  visits = crew_tallies k w.crew.more (callers w.crew.crew) b.talliers.items us can.asked.longs done
-
-  is_sound : IsSound new
-  is_sound = w.sound (λ e. absurd (cc))
-
-  -- The talliers' turns can be taken back.
-  pub can_total : b.jobs ≡ k.jobs → CanTotal k.jobs b.giver us
-  can_total same = record {
-    giver = record { is_of = subst (λ j. IsOf j b.giver) same can.begun.giver.is_of; role = ap (λ (v : Account). v.role) can.begun.giver.is };
-    out = (let out = ap (λ (v : Account). v.out) can.begun.giver.is in let n = so_many in omega (arith, out, n));
-    talliers = are_takers k w.crew.more (callers w.crew.crew) b.talliers.items us done;
-  }
-
-  spared : NobodyElseWrites k.segment (callers w.crew.crew) w.crew.more → IsSpared (limit_of old.shape) (state_in old) w.crew.more k.segment
-  spared nobody =
-      let r = reached_by {p = old} {q = new} w.crew.more w.crew.seen (ap (λ (v : View). v.shape) w.crew.is) is_sound in
-      record {
-        legal = r.legal;
-        spared = λ place from below. by_either (λ e. Spares k.segment.arena place e.call) (callers w.crew.crew) w.crew.more
-            (nobody place from below) (tallies_spare k.segment k.counts place w.crew.more (callers w.crew.crew) can.asked.other visits);
-      }
-
+module _ (k : Cut) (counts : Region) (is : IsCut k) (can : CanBeTallied k.plan k.segment counts) (longs : HasCounts counts)
+    (other : counts.arena ≢ k.segment.arena) (threads : ℕ) (same : k.each ≡ each_of (k.segment.size / k.plan.size) threads) (old new : View)
+    (start whole : Total) where
   -- ---- all was counted
 
-  module _ (ended : HaveEnded (account_of b.giver) us) where
-    counted : HaveCounted k w.crew.more (callers w.crew.crew) us
-    counted = have_counted k w.crew.more (callers w.crew.crew) b.talliers.items us done ended.end
+  module _ {u : Unit {0}} (so : SharedOut (tallying k counts) Sums threads old new start whole (Ok u)) where
+    by_each : AllZip (IsCounted k.plan k.segment counts k.each so.crew.more) (callers so.crew.crew) so.ends.1.taken
+    by_each = each_counted k counts so.crew.more (callers so.crew.crew) so.ends.1.taken so.ends.1.parts so.ends.1.made
 
-    once : (n : ℕ) → times n (jobs_of (all_of counted.taken)) ≡ times n (range_with_len 0 (many_of (k.segment.size / k.plan.size) k.each))
-    once =
-        let n = so_many in
-        let any = can.asked.query.some in
-        taken_once k.jobs (many_of (k.segment.size / k.plan.size) k.each) (account_of b.giver) us counted.taken
-        (can.begun.giver.is ∙ ap (λ m. begun (many_of (k.segment.size / k.plan.size) k.each) m) (sym so_many)) ended.settled (omega (arith, n, any)) counted.took
+    visits : AllByRecursion (λ c. OnlyTallies k.segment counts c (made_by c so.crew.more)) (callers so.crew.crew)
+    visits = crew_tallies k counts longs so.crew.more (callers so.crew.crew) so.ends.0.each
 
-    abbrev shares : HasShares k.plan k.segment k.each (callers w.crew.crew) w.crew.more k.segment 0
-        (placed (nones (many_of (k.segment.size / k.plan.size) k.each)) (all_of counted.taken))
-    shares = counted_shares k w.crew.more (callers w.crew.crew) counted.taken can.some can.can.even counted.by_each once
+    spared : NobodyElseWrites k.segment (callers so.crew.crew) so.crew.more → IsSpared (limit_of old.shape) (state_in old) so.crew.more k.segment
+    spared nobody =
+        let r = reached_by {p = old} {q = new} so.crew.more so.crew.seen (ap (λ (v : View). v.shape) so.crew.is) so.sound in
+        record {
+          legal = r.legal;
+          spared = λ place from below. by_either (λ e. Spares k.segment.arena place e.call) (callers so.crew.crew) so.crew.more
+              (nobody place from below) (tallies_spare k.segment counts place so.crew.more (callers so.crew.crew) other visits);
+        }
 
-    few : (n : ℤ) → how_many n (all_numbers (all_of counted.taken)) ≤ k.segment.size
+    abbrev shares : HasShares k.plan k.segment k.each (callers so.crew.crew) so.crew.more k.segment 0
+        (placed (nones (many_of (k.segment.size / k.plan.size) k.each)) (all_of so.ends.1.taken))
+    shares = counted_shares k counts so.crew.more (callers so.crew.crew) so.ends.1.taken is.some is.even by_each so.ends.1.once
+
+    few : (n : ℤ) → how_many n (all_numbers (all_of so.ends.1.taken)) ≤ k.segment.size
     few n =
-        let same = same_numbers k w.crew.more (callers w.crew.crew) counted.taken can.some can.can.even counted.by_each once n in
-        let most = shares_list k.plan k.segment w.crew.more shares.all.shares n can.plan can.can.tally shares.all.cut shares.all.done in
+        let same = same_numbers k counts so.crew.more (callers so.crew.crew) so.ends.1.taken is.some is.even by_each so.ends.1.once n in
+        let most = shares_list k.plan k.segment so.crew.more shares.all.shares n is.plan can.tally shares.all.cut shares.all.done in
         omega (arith, same, most)
 
     -- So no sum passes 64 bits.
-    never_passes : PassTotals us → ⊥
+    never_passes : PassTotals so.ends.1.parts → ⊥
     never_passes passes =
-        let often = passes_counted k.jobs us counted.taken counted.took passes in
+        let often = passes_counted k counts so.crew.more (callers so.crew.crew) so.ends.1.taken so.ends.1.parts so.ends.1.made passes in
         let most = few (number_of often.0) in
         let over = often.1 in
-        let small = can.small in
+        let small = is.small in
         omega (arith, most, over, small)
 
-    module _ (ns : List ℕ) (totals : AreTotals us ns) where
-      are_counts : AreCounts (all_numbers (all_of counted.taken)) ns
-      are_counts = totals_counted k.jobs us counted.taken ns counted.took totals
+    module _ (ns : List ℕ) (totals : AreTotals so.ends.1.parts ns) where
+      are_counts : AreCounts (all_numbers (all_of so.ends.1.taken)) ns
+      are_counts = totals_counted k counts so.crew.more (callers so.crew.crew) so.ends.1.taken so.ends.1.parts ns so.ends.1.made totals
 
-      by_shares : TalliedBy k.plan k.segment k.counts k.each (callers w.crew.crew) w.crew.more ns
-      by_shares = tallied_by k w.crew.more (callers w.crew.crew) counted.taken can.some can.can.even counted.by_each once ns are_counts
+      by_shares : TalliedBy k.plan k.segment counts k.each (callers so.crew.crew) so.crew.more ns
+      by_shares = tallied_by k counts so.crew.more (callers so.crew.crew) so.ends.1.taken is.some is.even by_each so.ends.1.once ns are_counts
 
-      the_counts : AreTheCounts old k.plan k.segment (callers w.crew.crew) w.crew.more ns
+      the_counts : AreTheCounts old k.plan k.segment (callers so.crew.crew) so.crew.more ns
       the_counts nobody =
-          let is = shares_answer (limit_of old.shape) (state_in old) w.crew.more k.plan k.segment by_shares.all.shares can.plan (spared nobody) by_shares.all.cut
-          by_shares.all.done in
-          subst (λ ms. AreCounts ms ns) (listed_joined k.plan w.crew.more by_shares.all.shares can.plan can.can.tally by_shares.all.done ∙ ap listed is) by_shares.are
+          let answers = shares_answer (limit_of old.shape) (state_in old) so.crew.more k.plan k.segment by_shares.all.shares is.plan (spared nobody)
+          by_shares.all.cut by_shares.all.done in
+          subst (λ ms. AreCounts ms ns) (listed_joined k.plan so.crew.more by_shares.all.shares is.plan can.tally by_shares.all.done ∙ ap listed answers)
+          by_shares.are
 
-      all_read : AreAllRead old k.plan k.segment (callers w.crew.crew) w.crew.more
-      all_read nobody index path is word asked of =
-          let x = shares_read (limit_of old.shape) (state_in old) w.crew.more k.plan k.segment by_shares.all.shares index path is word can.plan (spared nobody)
-          by_shares.all.cut by_shares.all.done asked of in
+      all_read : AreAllRead old k.plan k.segment (callers so.crew.crew) so.crew.more
+      all_read nobody index path steps word asked of =
+          let x = shares_read (limit_of old.shape) (state_in old) so.crew.more k.plan k.segment by_shares.all.shares index path steps word is.plan
+          (spared nobody) by_shares.all.cut by_shares.all.done asked of in
           record {
             caller = x.share.caller;
-            among = all_among (λ (v : Share). IsAmong v.caller (callers w.crew.crew)) x.share by_shares.all.shares by_shares.all.callers x.among;
+            among = all_among (λ (v : Share). IsAmong v.caller (callers so.crew.crew)) x.share by_shares.all.shares by_shares.all.callers x.among;
             read = x.read;
           }
 
-      are_held : AreHeld old new k.counts (callers w.crew.crew) w.crew.more ns
-      are_held i below zero_there leaves =
-          let r = reached_by {p = old} {q = new} w.crew.more w.crew.seen (ap (λ (v : View). v.shape) w.crew.is) is_sound in
-          let adds = crew_adds k w.crew.more (callers w.crew.crew) counted.taken counted.by_each in
-          let others = all_weaker (λ (e : Entry). IsAmong e.caller (callers w.crew.crew) ⊎ LeavesWord k.counts.arena (count_word k.counts i) e.call)
-          (λ (e : Entry). IsAmong e.caller (callers w.crew.crew) ⊎ OnlyAdds k.counts.arena (count_word k.counts i) e.call)
-          (λ e h. ⊎_elim (λ a. inl a) (λ (l : LeavesWord k.counts.arena (count_word k.counts i) e.call). inr l.0) h) w.crew.more leaves in
-          let only = by_either (λ e. OnlyAdds k.counts.arena (count_word k.counts i) e.call) (callers w.crew.crew) w.crew.more others
-          (adds.only k.counts.arena (count_word k.counts i)) in
-          let low : word_in (state_in old) k.counts.arena (count_word k.counts i) < 2 ^ 64 = omega (arith, zero_there) in
-          let now = word_counted (limit_of old.shape) (state_in old) w.crew.more k.counts.arena (count_word k.counts i) r.legal low only in
-          let all = by_crew k.counts.arena (count_word k.counts i) w.crew.more (callers w.crew.crew) w.crew.distinct leaves in
-          let sum = adds.sum i below in
-          let mine = are_counts.each i below in
-          let most = few (number_of i) in
-          let small = can.small in
-          ap (λ x. word_in x k.counts.arena (count_word k.counts i)) r.state ∙ omega (arith, zero_there, now, all, sum, mine, most, small)
+      are_held : AreHeld old new counts (callers so.crew.crew) so.crew.more ns
+      are_held n below zero_there leaves =
+          let r = reached_by {p = old} {q = new} so.crew.more so.crew.seen (ap (λ (v : View). v.shape) so.crew.is) so.sound in
+          let adds = crew_adds k counts so.crew.more (callers so.crew.crew) so.ends.1.taken so.ends.1.parts so.ends.1.made in
+          let others = all_weaker (λ (e : Entry). IsAmong e.caller (callers so.crew.crew) ⊎ LeavesWord counts.arena (count_word counts n) e.call)
+          (λ (e : Entry). IsAmong e.caller (callers so.crew.crew) ⊎ OnlyAdds counts.arena (count_word counts n) e.call)
+          (λ e h. ⊎_elim (λ a. inl a) (λ (l : LeavesWord counts.arena (count_word counts n) e.call). inr l.0) h) so.crew.more leaves in
+          let only = by_either (λ e. OnlyAdds counts.arena (count_word counts n) e.call) (callers so.crew.crew) so.crew.more others
+          (adds.only counts.arena (count_word counts n)) in
+          let low : word_in (state_in old) counts.arena (count_word counts n) < 2 ^ 64 = omega (arith, zero_there) in
+          let now = word_counted (limit_of old.shape) (state_in old) so.crew.more counts.arena (count_word counts n) r.legal low only in
+          let added = by_crew counts.arena (count_word counts n) so.crew.more (callers so.crew.crew) so.crew.distinct leaves in
+          let sum = adds.sum n below in
+          let mine = are_counts.each n below in
+          let most = few (number_of n) in
+          let small = is.small in
+          ap (λ x. word_in x counts.arena (count_word counts n)) r.state ∙ omega (arith, zero_there, now, added, sum, mine, most, small)
 
   -- ---- what comes of it
 
-  stop_not : (e : Refusal) → HaveStopped k.plan k.segment k.counts k.each (callers w.crew.crew) w.crew.more e → ¬ (e ≡ NoPass)
-  stop_not e (inl m) q = let apart : Memory ≡ NoPass = sym m.0 ∙ q in absurd (cc)
-  stop_not e (inr f) q = let apart : Closed ≡ NoPass = sym f.0 ∙ q in absurd (cc)
+  module _ (known : IsKnown (view_of_pass old) k.segment) (counts_known : IsKnown (view_of_pass old) counts) where
+    -- No share was taken, or one that took shares was refused.
+    pub tallied_refused : (e : Refusal) → SharedOut (tallying k counts) Sums threads old new start whole (Err e)
+        → TalliedWith threads old new k.plan k.segment counts (Err e)
+    tallied_refused e so = by so.ends
+      where
+        none : (r : Refusal) → r ≡ e → NoneBegun threads old so.crew.crew so.crew.more so.crew.draws r
+            → TalliedWith threads old new k.plan k.segment counts (Err e)
+        none Memory q h =
+            let empty : length so.crew.crew ≡ 0 = ap (λ (gs : List Gathered). length gs) h in
+            refused e so.crew (omega (arith, empty)) (λ n. let apart : Memory ≡ NoPass = q ∙ n in absurd (cc))
+            (subst (λ (gs : List Gathered). AllByRecursion (λ c. OnlyTallies k.segment counts c (made_by c so.crew.more)) (callers gs)) (sym h) tt)
+            (subst (λ x. EndsTally (each_of (k.segment.size / k.plan.size) threads) old new k.plan k.segment counts so.crew.more so.crew.crew so.crew.draws (Err x)) q
+            (can, inr (ap callers h))) so.lasts known counts_known so.still_sound
+        none NoPass q h =
+            let less = h.1 in
+            refused e so.crew (omega (arith, less)) (λ n. (h.1, h.3)) (idle_tallies k.segment counts so.crew.more (callers so.crew.crew) h.2)
+            (subst (λ x. EndsTally (each_of (k.segment.size / k.plan.size) threads) old new k.plan k.segment counts so.crew.more so.crew.crew so.crew.draws (Err x)) q
+            (can, h.0)) so.lasts known counts_known so.still_sound
+        none r q h = absurd h
 
-  stop_ends : (e : Refusal) → HaveStopped k.plan k.segment k.counts k.each (callers w.crew.crew) w.crew.more e
-      → EndsTally k.each old new k.plan k.segment k.counts w.crew.more w.crew.crew w.crew.draws (Err e)
-  stop_ends e (inl m) =
-      subst (λ (x : Refusal). EndsTally k.each old new k.plan k.segment k.counts w.crew.more w.crew.crew w.crew.draws (Err x)) (sym m.0) (can.can, inl m.1)
-  stop_ends e (inr f) =
-      subst (λ (x : Refusal). EndsTally k.each old new k.plan k.segment k.counts w.crew.more w.crew.crew w.crew.draws (Err x)) (sym f.0) (can.can, f.1)
+        stop_ends : TallyStopped k counts so.crew.more (callers so.crew.crew) e
+            → EndsTally (each_of (k.segment.size / k.plan.size) threads) old new k.plan k.segment counts so.crew.more so.crew.crew so.crew.draws (Err e)
+        stop_ends (inl m) =
+            subst (λ n. EndsTally n old new k.plan k.segment counts so.crew.more so.crew.crew so.crew.draws (Err e)) same
+            (subst (λ (x : Refusal). EndsTally k.each old new k.plan k.segment counts so.crew.more so.crew.crew so.crew.draws (Err x)) (sym m.0) (can, inl m.1))
+        stop_ends (inr f) =
+            subst (λ n. EndsTally n old new k.plan k.segment counts so.crew.more so.crew.crew so.crew.draws (Err e)) same
+            (subst (λ (x : Refusal). EndsTally k.each old new k.plan k.segment counts so.crew.more so.crew.crew so.crew.draws (Err x)) (sym f.0) (can, f.1))
 
-  stopped : (e : Refusal) → Totals (account_of b.giver) us (Err e)
-      → HaveStopped k.plan k.segment k.counts k.each (callers w.crew.crew) w.crew.more e
-  stopped e (inl refused) = crew_stops k w.crew.more (callers w.crew.crew) b.talliers.items us e done refused
-  stopped e (inr passes) = absurd (never_passes passes.0 passes.1.1)
+        by : NoneBegun threads old so.crew.crew so.crew.more so.crew.draws e
+            ⊎ (HaveEnded (tallying k counts) threads so.crew.crew so.crew.more × FirstStopped (tallying k counts) (callers so.crew.crew) so.crew.more e)
+            → TalliedWith threads old new k.plan k.segment counts (Err e)
+        by (inl h) = none e refl h
+        by (inr h) =
+            let n = h.0.count in
+            let stops = crew_stops k counts so.crew.more (callers so.crew.crew) e h.1 in
+            refused e so.crew (omega (arith, n)) (λ q. absurd (stop_not k counts (callers so.crew.crew) so.crew.more e stops q))
+            (crew_tallies k counts longs so.crew.more (callers so.crew.crew) h.0.each) (stop_ends stops) so.lasts known counts_known so.still_sound
 
-  -- All shares were taken, or a tallier was refused.
-  pub tallied : (r : Result (List ℕ) Refusal) → Totals (account_of b.giver) us r → TalliedWith threads old new k.plan k.segment k.counts r
-  tallied (Err e) h =
-      let n = as_many in
-      refused e w.crew (omega (arith, n)) (λ is. absurd (stop_not e (stopped e h) is)) visits
-      (subst (λ m. EndsTally m old new k.plan k.segment k.counts w.crew.more w.crew.crew w.crew.draws (Err e)) can.cut (stop_ends e (stopped e h)))
-      w.lasts can.asked.query.known can.asked.known w.still_sound
-  tallied (Ok ns) h = record {
-    crew = w.crew;
-    one_each = (let n = as_many in omega (arith, n));
-    one_less = λ e. absurd (cc);
-    visits = visits;
-    ends = subst (λ n. EndsTally n old new k.plan k.segment k.counts w.crew.more w.crew.crew w.crew.draws (Ok ns)) can.cut
-        (can.can, by_shares h.0 ns h.1);
-    value = the_counts h.0 ns h.1;
-    read = all_read h.0 ns h.1;
-    held = are_held h.0 ns h.1;
-    wanting = λ v e. absurd (cc);
-    lasts = w.lasts;
-    known = known_later w.lasts can.asked.query.known;
-    counts_known = known_later w.lasts can.asked.known;
-    sound = is_sound;
-    still_sound = w.still_sound;
-  }
+    -- All shares were counted.
+    pub tallied : {u : Unit {0}} (so : SharedOut (tallying k counts) Sums threads old new start whole (Ok u)) (r : Result (List ℕ) Refusal)
+        → SumsTo so.ends.1.parts r → TalliedWith threads old new k.plan k.segment counts r
+    tallied so (Err e) sums = absurd (never_passes so sums.1)
+    tallied so (Ok ns) sums = record {
+      crew = so.crew;
+      one_each = (let n = so.ends.0.count in omega (arith, n));
+      one_less = λ e. absurd (cc);
+      visits = visits so;
+      ends = subst (λ n. EndsTally n old new k.plan k.segment counts so.crew.more so.crew.crew so.crew.draws (Ok ns)) same (can, by_shares so ns sums);
+      value = the_counts so ns sums;
+      read = all_read so ns sums;
+      held = are_held so ns sums;
+      wanting = λ v e. absurd (cc);
+      lasts = so.lasts;
+      known = known_later so.lasts known;
+      counts_known = known_later so.lasts counts_known;
+      sound = so.sound;
+      still_sound = so.still_sound;
+    }
+
+-- What a call cut.
+pub shared_tallied : (p : Plan) (s counts : Region) (threads : ℕ) (k : Cut) → k ≡ asked p s threads → (old new : View) (start whole : Total)
+    (r : Result (Unit {0}) Refusal) → SharedOut (tallying k counts) Sums threads old new start whole r
+    → SharedOut (tallying (asked p s threads) counts) Sums threads old new start whole r
+shared_tallied p s counts threads k is old new start whole r so = subst (λ x. SharedOut (tallying x counts) Sums threads old new start whole r) is so
 
 -- What the tests found.
 pub can_be_tallied : (p : Plan) (s counts : Region) (n m : ℕ) (a b : ArenaId) → IsTally p → n ≡ s.size → m ≡ p.size → n % m ≡ 0 → a ≡ s.arena

@@ -1,25 +1,16 @@
 -- What the passes of a tally did.
-use Rattle.std.proofs.Common.{◌≡◌, ℕ, ◌<◌, ◌≤◌, List, [], ◌∷◌, ◌++◌, length, refl, sym, ap, ◌∙◌, subst, arith, append_assoc, inl, inr, ⊎_elim, Result, Ok, Err}
+use Rattle.std.proofs.Common.{◌≡◌, ℕ, ◌<◌, ◌≤◌, List, [], ◌∷◌, ◌++◌, refl, sym, ap, ◌∙◌, subst, arith, append_assoc, inl, inr, ⊎_elim, Result, Ok, Err}
 use Rattle.std.{specs.{Prelude.{◌⊎◌}, List.{AllByRecursion}}, proofs.lemmas.List.{append-nil}}
 use Rattle.fm_base.specs.{declared.{arena_id.ArenaId.{ArenaId}, caller.Caller.{Caller}, refusal.Refusal.{Refusal, TheVariants.{Closed, Memory}}}, Calls.{Entry}}
 use Rattle.fm_base.specs.{Histories.{made_by}, Visits.{refused_visit}}
 use Rattle.fm_segment.specs.Region.{Region}
 use Rattle.fm_records_query.specs.Plan.{Plan}
 use Rattle.fm_records.specs.Reads.{IsWordOf}
-use Rattle.fm_workers_jobs.specs.Turns.{HasAccount, IsTaker, Turn}
-use Rattle.fm_workers_shares.{specs.{declared.taker.Done.{Done}, Shares.{share_of}}, proofs.Ends.{either_refused}}
-use Rattle.fm_workers.specs.{declared.tallier.Tallier.{Tallier}, Adding.{AddsAt, AddsBelow, DoesAdd, HasCounts, adds, count_word, none_yet, nothing, one_more}}
-use Rattle.fm_workers.specs.{Query.{OnlyReads, reads}, Summing.{end_of}}
-use Rattle.fm_workers.specs.Tallies.{DoesCount, EndsTallying, StopsTally, Tallies, TalliesShares, Tallying, took_before, unadded, uncounted}
-use Rattle.fm_workers.specs.Tally.{FoundEitherClosed, HasCounted, IsFirstUncounted, OnlyAddsTo, OnlyTallies, closed, no_more, one_add}
-use Rattle.fm_workers.proofs.{Asked.{no_reads, stops_count}, Reading.{each_read, reads_after, share_lies}, Talliers.{is_taker}}
-use Rattle.fm_workers_crew.proofs.Callers.{AreDoneBy}
-
-pub tasks_count : {T : Type 0} (Does : Caller → T → T → List Entry → Type 0) (more : List Entry) (cs : List Caller) (ts us : List T)
-    → AreDoneBy Does more cs ts us → length cs ≡ length ts
-tasks_count Does more [] [] [] d = refl
-tasks_count Does more (c ∷ cs) (t ∷ ts) (u ∷ us) d = let e = tasks_count Does more cs ts us d.1 in omega (arith, e)
-tasks_count Does more cs ts us d = absurd d
+use Rattle.fm_workers_shares.specs.{declared.answers.Done.{Done}, Ends.{FirstStopped, HasStopped, at_a_share, behind_all}, Shares.{Cut, share_of}, Taking.{HasMade}}
+use Rattle.fm_workers.specs.Adding.{AddsAt, AddsBelow, DoesAdd, HasCounts, adds, count_word, none_yet, nothing, one_more}
+use Rattle.fm_workers.specs.{Query.{OnlyReads, reads}, Sharing.{HasEnded}, Tallies.{DoesCount, tallying}}
+use Rattle.fm_workers.specs.Tally.{FoundEitherClosed, OnlyAddsTo, OnlyTallies, closed, no_more, one_add}
+use Rattle.fm_workers.proofs.{Asked.{no_reads, stops_count}, Reading.{each_read, reads_after, share_lies}}
 
 -- ---- adds
 
@@ -50,40 +41,37 @@ add_adds c counts ns (Err r) own longs d = absurd d
 
 -- ---- shares
 
-shares_tally : (c : Caller) (p : Plan) (s counts : Region) (each : ℕ) (ds : List Done) (ns : List ℕ) (end : Result (Unit {0}) Refusal) (own : List Entry)
-    → HasCounts counts → TalliesShares c p s counts each ds ns end own → OnlyTallies s counts c own
-shares_tally c p s counts each ds ns end own longs h = record {
-  reads = h.reads;
-  adds = h.adds;
-  parts = h.parts;
-  are_reads = reads (each_read p s each c ds h.reads h.counted.does);
-  are_adds = add_adds c counts ns end h.adds longs h.added;
-}
+module _ (k : Cut) (counts : Region) (longs : HasCounts counts) where
+  made_tally : {c : Caller} {ds : List Done} {ns : List ℕ} {end : Result (Unit {0}) Refusal} (own : List Entry) → HasMade (tallying k counts) c ds ns end own
+      → OnlyTallies k.segment counts c own
+  made_tally {c} {ds} {ns} {end} own h = record {
+    reads = h.served;
+    adds = h.last;
+    parts = h.parts;
+    are_reads = reads (each_read k.plan k.segment k.each c ds h.served h.does);
+    are_adds = add_adds c counts ns end h.last longs h.ends;
+  }
 
-stops_tally : (c : Caller) (p : Plan) (s counts : Region) (each : ℕ) (r : Refusal) (own : List Entry) → HasCounts counts
-    → StopsTally c p s counts each r own → OnlyTallies s counts c own
-stops_tally c p s counts each r own longs (uncounted h) = record {
-  reads = own;
-  adds = [];
-  parts = sym (append-nil own);
-  are_reads = subst (OnlyReads s c) (sym h.parts)
-      (reads_after c s h.served h.last (each_read p s each c h.done h.served h.does)
-      (stops_count c p (share_of p s each h.number) s r h.last (share_lies p s each h.number) h.uncounted));
-  are_adds = no_more;
-}
-stops_tally c p s counts each r own longs (unadded ds ns h) = shares_tally c p s counts each ds ns (Err r) own longs h
+  stopped_tally : {c : Caller} {r : Refusal} (own : List Entry) → HasStopped (tallying k counts) r c own → OnlyTallies k.segment counts c own
+  stopped_tally {c} {r} own (at_a_share ds number h) = record {
+    reads = own;
+    adds = [];
+    parts = sym (append-nil own);
+    are_reads = subst (OnlyReads k.segment c) (sym h.parts)
+        (reads_after c k.segment h.served h.last (each_read k.plan k.segment k.each c ds h.served h.does)
+        (stops_count c k.plan (share_of k.plan k.segment k.each number) k.segment r h.last (share_lies k.plan k.segment k.each number) h.refuses));
+    are_adds = no_more;
+  }
+  stopped_tally own (behind_all ds ns h) = made_tally own h
 
-ends_tally : (w : Tallying) (c : Caller) (t : Tallier) (r : Result (Unit {0}) Refusal) (own : List Entry) → HasCounts w.counts
-    → EndsTallying w.jobs c w.plan w.segment w.counts w.each t r own → OnlyTallies w.segment w.counts c own
-ends_tally w c t (Ok u) own longs d = shares_tally c w.plan w.segment w.counts w.each d.0 t.counts (Ok tt) own longs d.1
-ends_tally w c t (Err r) own longs d = stops_tally c w.plan w.segment w.counts w.each r own longs d.0
+  ended_tally : (more : List Entry) (c : Caller) → HasEnded (tallying k counts) more c → OnlyTallies k.segment counts c (made_by c more)
+  ended_tally more c (inl h) = made_tally (made_by c more) h.2
+  ended_tally more c (inr h) = stopped_tally (made_by c more) h.1
 
-pub crew_tallies : (w : Tallying) (more : List Entry) (cs : List Caller) (ts us : List Tallier) → HasCounts w.counts
-    → AreDoneBy (Tallies w) more cs ts us → AllByRecursion (λ c. OnlyTallies w.segment w.counts c (made_by c more)) cs
-crew_tallies w more [] [] [] longs d = tt
-crew_tallies w more (c ∷ cs) (t ∷ ts) (u ∷ us) longs d =
-    (ends_tally w c u u.end (made_by c more) longs d.0, crew_tallies w more cs ts us longs d.1)
-crew_tallies w more cs ts us longs d = absurd d
+  pub crew_tallies : (more : List Entry) (cs : List Caller) → AllByRecursion (HasEnded (tallying k counts) more) cs
+      → AllByRecursion (λ c. OnlyTallies k.segment counts c (made_by c more)) cs
+  crew_tallies more [] h = tt
+  crew_tallies more (c ∷ cs) h = (ended_tally more c h.0, crew_tallies more cs h.1)
 
 pub idle_tallies : (s counts : Region) (more : List Entry) (cs : List Caller) → AllByRecursion (λ c. made_by c more ≡ []) cs
     → AllByRecursion (λ c. OnlyTallies s counts c (made_by c more)) cs
@@ -101,12 +89,6 @@ add_stopped : (c : Caller) (counts : Region) (ns : List ℕ) (r : Refusal) (more
 add_stopped c counts ns Closed more first own parts d =
     (refl, (first ++ d.before, parts ∙ ap (λ es. first ++ es) d.stops ∙ sym (append_assoc first d.before (refused_visit c counts.arena))))
 add_stopped c counts ns r more first own parts d = absurd d
-
--- the first that didn't count and add all wanted memory, or found an arena closed
-abbrev pub HaveStopped : Plan → (s counts : Region) → (each : ℕ) → List Caller → List Entry → Refusal → Type 0
-HaveStopped p s counts each cs more r =
-    ((r ≡ Memory) × ((c : Caller) × IsFirstUncounted p s counts each cs more Memory c))
-    ⊎ ((r ≡ Closed) × FoundEitherClosed p s counts each cs more)
 
 -- the caller's entries end where an arena was found closed
 record EndsAs (c : Caller) (s counts : Region) (own : List Entry) : Type 0 where
@@ -129,87 +111,31 @@ count_stopped c p part s counts Closed own served last same parts d = inr (
 count_stopped c p part s counts Memory own served last same parts d = inl refl
 count_stopped c p part s counts r own served last same parts d = absurd d
 
-tally_stopped : (c : Caller) (p : Plan) (s counts : Region) (each : ℕ) (r : Refusal) (own : List Entry) → StopsTally c p s counts each r own
-    → (r ≡ Memory) ⊎ ((r ≡ Closed) × EndsAs c s counts own)
-tally_stopped c p s counts each r own (uncounted h) =
-    count_stopped c p (share_of p s each h.number) s counts r own h.served h.last refl h.parts h.uncounted
-tally_stopped c p s counts each r own (unadded ds ns h) =
-    let e = add_stopped c counts ns r h.adds h.reads own h.parts h.added in
-    inr (e.0, record { arena = counts.arena; either = inr refl; before = e.1.0; last = e.1.1 })
+module _ (k : Cut) (counts : Region) where
+  tally_stopped : {c : Caller} {r : Refusal} (own : List Entry) → HasStopped (tallying k counts) r c own
+      → (r ≡ Memory) ⊎ ((r ≡ Closed) × EndsAs c k.segment counts own)
+  tally_stopped {c} {r} own (at_a_share ds number h) =
+      count_stopped c k.plan (share_of k.plan k.segment k.each number) k.segment counts r own h.served h.last refl h.parts h.refuses
+  tally_stopped {c} {r} own (behind_all ds ns h) =
+      let e = add_stopped c counts ns r h.last h.served own h.parts h.ends in
+      inr (e.0, record { arena = counts.arena; either = inr refl; before = e.1.0; last = e.1.1 })
 
-module _ (w : Tallying) (more : List Entry) where
-  -- One that counted all stands before them.
-  stopped_later : {c : Caller} {cs : List Caller} (r : Refusal) → HasCounted w.plan w.segment w.counts w.each more c
-      → HaveStopped w.plan w.segment w.counts w.each cs more r → HaveStopped w.plan w.segment w.counts w.each (c ∷ cs) more r
-  stopped_later {c} {cs} r mine h = ⊎_elim
-      (λ (m : (r ≡ Memory) × ((x : Caller) × IsFirstUncounted w.plan w.segment w.counts w.each cs more Memory x)). inl (m.0, (m.1.0, first_later m.1.1)))
-      (λ (f : (r ≡ Closed) × FoundEitherClosed w.plan w.segment w.counts w.each cs more).
-      let x = f.1 in
-      inr (f.0, record { caller = x.caller; first = first_later x.first; arena = x.arena; either = x.either; before = x.before; last = x.last }))
-      h
-    where
-      first_later : {q : Refusal} {x : Caller} → IsFirstUncounted w.plan w.segment w.counts w.each cs more q x
-          → IsFirstUncounted w.plan w.segment w.counts w.each (c ∷ cs) more q x
-      first_later f = record {
-        before = c ∷ f.before;
-        after = f.after;
-        parts = ap (λ (ys : List Caller). c ∷ ys) f.parts;
-        counted = (mine, f.counted);
-        refused = f.refused;
-      }
+  module _ (more : List Entry) (cs : List Caller) where
+    -- the first that didn't count and add all wanted memory, or found an arena closed
+    abbrev pub TallyStopped : Refusal → Type 0
+    TallyStopped r =
+        ((r ≡ Memory) × FirstStopped (tallying k counts) cs more Memory)
+        ⊎ ((r ≡ Closed) × FoundEitherClosed k.plan k.segment counts k.each cs more)
 
-  -- The first of them was refused.
-  first_stopped : (c : Caller) (cs : List Caller) (r : Refusal) → StopsTally c w.plan w.segment w.counts w.each r (made_by c more)
-      → HaveStopped w.plan w.segment w.counts w.each (c ∷ cs) more r
-  first_stopped c cs r d =
-      let first : IsFirstUncounted w.plan w.segment w.counts w.each (c ∷ cs) more r c =
-      record { before = []; after = cs; parts = refl; counted = tt; refused = d } in
-      ⊎_elim (λ (m : r ≡ Memory). inl (m, (c, subst (λ (x : Refusal). IsFirstUncounted w.plan w.segment w.counts w.each (c ∷ cs) more x c) m first)))
-      (λ (f : (r ≡ Closed) × EndsAs c w.segment w.counts (made_by c more)). inr (
-        f.0,
-        record {
-          caller = c;
-          first = subst (λ (x : Refusal). IsFirstUncounted w.plan w.segment w.counts w.each (c ∷ cs) more x c) f.0 first;
-          arena = f.1.arena;
-          either = f.1.either;
-          before = f.1.before;
-          last = f.1.last;
-        },
-      ))
-      (tally_stopped c w.plan w.segment w.counts w.each r (made_by c more) d)
+    found_closed : (r : Refusal) (f : FirstStopped (tallying k counts) cs more r) → r ≡ Closed → EndsAs f.caller k.segment counts (made_by f.caller more)
+        → FoundEitherClosed k.plan k.segment counts k.each cs more
+    found_closed r f e ends =
+        subst (λ (x : Refusal). (y : FirstStopped (tallying k counts) cs more x) → EndsAs y.caller k.segment counts (made_by y.caller more)
+        → FoundEitherClosed k.plan k.segment counts k.each cs more) (sym e)
+        (λ y h. record { first = y; arena = h.arena; either = h.either; before = h.before; last = h.last }) f ends
 
-  pub crew_stops : (cs : List Caller) (ts us : List Tallier) (r : Refusal) → AreDoneBy (Tallies w) more cs ts us → end_of us ≡ Err r
-      → HaveStopped w.plan w.segment w.counts w.each cs more r
-  crew_stops [] [] [] r d e = absurd (cc)
-  crew_stops (c ∷ cs) (t ∷ ts) (u ∷ us) r d e =
-      ⊎_elim
-      (λ (mine : u.end ≡ Err r).
-      first_stopped c cs r (subst (λ q. EndsTallying w.jobs c w.plan w.segment w.counts w.each u q (made_by c more)) mine d.0).0)
-      (λ (later : (u.end ≡ Ok tt) × (end_of us ≡ Err r)).
-      let mine = subst (λ q. EndsTallying w.jobs c w.plan w.segment w.counts w.each u q (made_by c more)) later.0 d.0 in
-      stopped_later r (mine.0, (u.counts, mine.1)) (crew_stops cs ts us r d.1 later.1))
-      (either_refused u.end (end_of us) r e)
-  crew_stops cs ts us r d e = absurd d
-
-  -- ---- turns
-
-  stopped_taker : {c : Caller} {p : Plan} {s counts : Region} {each : ℕ} {r : Refusal} {own : List Entry} {turn : Turn}
-      → (stops : StopsTally c p s counts each r own) → HasAccount w.jobs turn (took_before stops) → IsTaker w.jobs turn
-  stopped_taker (uncounted stops) h = is_taker h
-  stopped_taker (unadded ds ns tallied) h = is_taker h
-
-  ends_taker : (c : Caller) (t : Tallier) (r : Result (Unit {0}) Refusal) (own : List Entry)
-      → EndsTallying w.jobs c w.plan w.segment w.counts w.each t r own → IsTaker w.jobs t.turn
-  ends_taker c t (Ok u) own d = is_taker d.2
-  ends_taker c t (Err r) own d = stopped_taker d.0 d.1
-
-  -- All have their turns still.
-  pub are_takers : (cs : List Caller) (ts us : List Tallier) → AreDoneBy (Tallies w) more cs ts us → AllByRecursion (λ t. IsTaker w.jobs t.turn) us
-  are_takers [] [] [] d = tt
-  are_takers (c ∷ cs) (t ∷ ts) (u ∷ us) d = (ends_taker c u u.end (made_by c more) d.0, are_takers cs ts us d.1)
-  are_takers cs ts us d = absurd d
-
-  pub talliers_count : (cs : List Caller) (ts us : List Tallier) → AreDoneBy (Tallies w) more cs ts us → length us ≡ length ts
-  talliers_count [] [] [] d = refl
-  talliers_count (c ∷ cs) (t ∷ ts) (u ∷ us) d = let e = talliers_count cs ts us d.1 in omega (arith, e)
-  talliers_count cs ts us d = absurd d
+    pub crew_stops : (r : Refusal) → FirstStopped (tallying k counts) cs more r → TallyStopped r
+    crew_stops r f =
+        ⊎_elim (λ (m : r ≡ Memory). inl (m, subst (FirstStopped (tallying k counts) cs more) m f))
+        (λ (c : (r ≡ Closed) × EndsAs f.caller k.segment counts (made_by f.caller more)). inr (c.0, found_closed r f c.0 c.1))
+        (tally_stopped (made_by f.caller more) f.stopped)

@@ -4,7 +4,6 @@ pub mod Asking
 pub mod Counts
 pub mod Printed
 pub mod Query
-pub mod Summing
-pub mod Taking
+pub mod Sharing
 pub mod Tallies
 pub mod Tally

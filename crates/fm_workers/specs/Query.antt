@@ -1,8 +1,8 @@
 -- What a query by a crew asks for, and what its caller learns.
 use Rattle.fm_records.specs.{Texts.{IsAnswerOf}, declared.found.Found.{Found}, Alone.{bytes_at_places}, Answers.{answer}, Bytes.{HasRead}, Few.{AreFew}}
-use Rattle.fm_records.specs.{Laws.{IsAsked, value_in}, Query.{DoesQuery}, Reads.{AreReads, StopsReading, IsWordOf}}
+use Rattle.fm_records.specs.{Laws.{IsAsked, value_in}, Reads.{AreReads, StopsReading, IsWordOf}}
 use Rattle.fm_rule_calls.specs.{Kept.{Lasts}, Told.{view_of_pass}}
-use Rattle.std.specs.{Prelude.{◌≡◌, ◌≢◌, ◌⊎◌, ◌+◌, ◌/◌, ◌<◌, ◌≤◌, ◌%◌, ℕ, List, ◌∷◌, ◌++◌, length, Result, Ok, Err, IfOk}, List.{AllByRecursion}}
+use Rattle.std.specs.{Prelude.{◌≡◌, ◌≢◌, ◌⊎◌, ◌+◌, ◌/◌, ◌<◌, ◌≤◌, ◌%◌, ℕ, List, length, Result, Ok, Err, IfOk}, List.{AllByRecursion}}
 use Rattle.fm_base.specs.declared.{caller.Caller.{Caller}, kind.Kind.TheVariants.{Confined}, refusal.Refusal.{Refusal}}
 use Rattle.fm_base.specs.{declared.refusal.Refusal.TheVariants.{Ragged, WrongThread, Closed, NoPass, Memory}, Calls.{Entry}, Finds.{Find, Gathered}}
 use Rattle.fm_base.specs.{Histories.{made_by}, Untouched.{Spares}}
@@ -13,7 +13,7 @@ use Rattle.fm_rule.specs.declared.pool.Pool.{Pool}
 use Rattle.fm_gate.specs.Needs.{IsOutside}
 use Rattle.fm_segment.specs.{Access.{IsKnown}, Region.{Region}}
 use Rattle.fm_records_query.specs.Plan.{Plan}
-use Rattle.fm_workers_shares.specs.{declared.taker.Done.{Done}, Answered.{AnsweredBy}, Shares.{each_of, share_of}, Taking.{DoesEach}}
+use Rattle.fm_workers_shares.specs.{Answered.{AnsweredBy}, Asking.{asking}, Ends.{FirstStopped, HasDone}, Shares.{cut, each_of}}
 use Rattle.fm_workers_crew.specs.Crew.{AreTooMany, CrewGathered, FoundNoNumber, IsWhole, callers}
 
 -- outside; the segment is known and its first record aligned; and there are 1 to 16 workers
@@ -29,39 +29,15 @@ pub data OnlyReads (s : Region) (c : Caller) (own : List Entry) : Type 0 where
   reads : AreReads c s own → OnlyReads s c own
   stops : StopsReading c s own → OnlyReads s c own
 
--- among these entries the caller's are the query over some of the segment's shares, one after the other, and each is answered
-pub record HasAnswered (p : Plan) (s : Region) (each : ℕ) (es : List Entry) (c : Caller) : Type 0 where
-  pub done : List Done
-  pub does : DoesEach p s each c done (made_by c es)
-
--- each but the last, which is refused so
-pub record IsRefused (p : Plan) (s : Region) (each : ℕ) (es : List Entry) (r : Refusal) (c : Caller) : Type 0 where
-  pub done : List Done
-  pub served : List Entry
-  pub last : List Entry
-  pub parts : made_by c es ≡ served ++ last
-  pub does : DoesEach p s each c done served
-  pub number : ℕ
-  pub refused : DoesQuery c p (share_of p s each number) (Err r) last
-
--- the first of the crew, in the order of the draws, that was refused: those before it answered all that they took
-pub record IsFirstRefused (p : Plan) (s : Region) (each : ℕ) (crew : List Caller) (more : List Entry) (r : Refusal) (c : Caller) : Type 0 where
-  pub before : List Caller
-  pub after : List Caller
-  pub parts : crew ≡ before ++ c ∷ after
-  pub answered : AllByRecursion (HasAnswered p s each more) before
-  pub refused : IsRefused p s each more r c
-
 -- the first that was refused found the arena closed
 pub record FoundClosed (p : Plan) (s : Region) (each : ℕ) (crew : List Caller) (more : List Entry) : Type 0 where
-  pub caller : Caller
-  pub first : IsFirstRefused p s each crew more Closed caller
-  pub stops : StopsReading caller s (made_by caller more)
+  pub first : FirstStopped (asking (cut p s each)) crew more Closed
+  pub stops : StopsReading first.caller s (made_by first.caller more)
 
 -- the first that was refused wanted memory; or none was, if any was drawn, and memory was wanting before that or to join the answers
 abbrev pub WantedMemory : Plan → Region → (each : ℕ) → List Caller → List Entry → Type 0
 WantedMemory p s each crew more =
-    ((c : Caller) × IsFirstRefused p s each crew more Memory c) ⊎ AllByRecursion (HasAnswered p s each more) crew
+    FirstStopped (asking (cut p s each)) crew more Memory ⊎ AllByRecursion (HasDone (asking (cut p s each)) more) crew
 
 -- whole records of an arena that isn't confined
 pub record IsOpenToAll (p : Plan) (s : Region) : Type 0 where

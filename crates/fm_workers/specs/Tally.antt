@@ -14,8 +14,9 @@ use Rattle.fm_segment.specs.{Access.{IsKnown}, Region.{Region}}
 use Rattle.fm_records_query.specs.Plan.{Plan}
 use Rattle.fm_records.specs.{Alone.{bytes_at_places}, Answers.{answer}, Laws.{IsAsked, value_in}, Reads.{IsWordOf}, Shares.{Share}}
 use Rattle.fm_workers_jobs.specs.Turns.{times}
-use Rattle.fm_workers_shares.specs.{declared.taker.Done.{Done}, Answered.{AnsweredShares, all_of}, Shares.{each_of, many_of}, Taking.{jobs_of}}
-use Rattle.fm_workers.specs.{Adding.{HasCounts, count_word}, Counts.{AreCounts, IsTally, listed}, Tallies.{StopsTally, TalliesShares}}
+use Rattle.fm_workers_shares.specs.{declared.answers.Done.{Done}, Answered.{AnsweredShares, all_of}, Ends.{FirstStopped}, Shares.{cut, each_of, many_of}}
+use Rattle.fm_workers_shares.specs.Taking.{HasMade, jobs_of}
+use Rattle.fm_workers.specs.{Adding.{HasCounts, count_word}, Counts.{AreCounts, IsTally, listed}, Tallies.{tallying}}
 use Rattle.fm_workers.specs.Query.{CanQueryWith, IsReadByCrew, NobodyElseWrites, OnlyReads}
 use Rattle.fm_workers_crew.specs.Crew.{AreTooMany, CrewGathered, FoundNoNumber, IsWhole, callers}
 
@@ -56,7 +57,7 @@ pub record CanBeTallied (p : Plan) (s counts : Region) : Type 0 where
 -- among these entries the caller's are the queries over these shares, one after the other, of which each listed numbers, and behind them
 -- the Adds of how often each number came in all of them
 abbrev pub IsCounted : Plan → (s counts : Region) → (each : ℕ) → List Entry → Caller → List Done → Type 0
-IsCounted p s counts each es c ds = (ns : List ℕ) × TalliesShares c p s counts each ds ns (Ok tt) (made_by c es)
+IsCounted p s counts each es c ds = (ns : List ℕ) × HasMade (tallying (cut p s each) counts) c ds ns (Ok tt) (made_by c es)
 
 -- the numbers that were listed over all shares
 abbrev pub all_listed : List Share → List ℤ
@@ -72,31 +73,17 @@ pub record TalliedBy (p : Plan) (s counts : Region) (each : ℕ) (crew : List Ca
   pub by_each : AllZip (IsCounted p s counts each more) crew taken
   pub once : (number : ℕ) → times number (jobs_of (all_of taken)) ≡ times number (range_with_len 0 (many_of (s.size / p.size) each))
 
--- it counted all shares that it took, and added their counts
-abbrev pub HasCounted : Plan → (s counts : Region) → (each : ℕ) → List Entry → Caller → Type 0
-HasCounted p s counts each es c = (ds : List Done) × IsCounted p s counts each es c ds
-
--- the first of the crew, in the order of the draws, that didn't count and add all that it took: those before it did
-pub record IsFirstUncounted (p : Plan) (s counts : Region) (each : ℕ) (crew : List Caller) (more : List Entry) (r : Refusal) (c : Caller)
-    : Type 0 where
-  pub before : List Caller
-  pub after : List Caller
-  pub parts : crew ≡ before ++ c ∷ after
-  pub counted : AllByRecursion (HasCounted p s counts each more) before
-  pub refused : StopsTally c p s counts each r (made_by c more)
-
--- the first that didn't found an arena closed, at its last entry
+-- the first that was refused found an arena closed, at its last entry
 pub record FoundEitherClosed (p : Plan) (s counts : Region) (each : ℕ) (crew : List Caller) (more : List Entry) : Type 0 where
-  pub caller : Caller
-  pub first : IsFirstUncounted p s counts each crew more Closed caller
+  pub first : FirstStopped (tallying (cut p s each) counts) crew more Closed
   pub arena : ArenaId
   pub either : (arena ≡ s.arena) ⊎ (arena ≡ counts.arena)
   pub before : List Entry
-  pub last : made_by caller more ≡ before ++ refused_visit caller arena
+  pub last : made_by first.caller more ≡ before ++ refused_visit first.caller arena
 
--- the first that didn't wanted memory; or nobody was drawn
+-- the first that was refused wanted memory; or nobody was drawn
 abbrev pub WantedMemory : Plan → (s counts : Region) → (each : ℕ) → List Caller → List Entry → Type 0
-WantedMemory p s counts each crew more = ((c : Caller) × IsFirstUncounted p s counts each crew more Memory c) ⊎ (crew ≡ [])
+WantedMemory p s counts each crew more = FirstStopped (tallying (cut p s each) counts) crew more Memory ⊎ (crew ≡ [])
 
 -- what comes of it, the refusals in the order of the checks
 abbrev pub EndsTally : (each : ℕ) → View → View → Plan → Region → Region → List Entry → List Gathered → List Find → Result (List ℕ) Refusal → Type 0

@@ -25,19 +25,15 @@
 #![tactic(auto)]
 
 mod adding;
-mod beside;
 mod counting;
 mod counts;
+mod crew;
 mod printing;
 mod query;
-mod summing;
-mod tallier;
+mod sharing;
 mod tally;
-mod tally_batch;
-mod tallying;
 
-pub use beside::query_beside;
 pub use counts::Counts;
 pub use printing::print_counts;
-pub use query::query_with;
+pub use query::{query_beside, query_with};
 pub use tally::{is_tally, tally_with};

@@ -1,62 +1,21 @@
+ghost use Rattle.std.specs.Prelude.{◌≡◌, IfErr};
 ghost use Rattle.fm_gate.specs.Needs.{IsOutside};
+ghost use Rattle.fm_workers.specs.Beside.{AsksBeside, CanQueryBeside};
 ghost use Rattle.fm_workers.specs.Query.{CanQueryWith, QueriedWith};
-ghost use Rattle.fm_workers.specs.Taking.{CanTakeBatch, takers_in};
 
-use fm_arena::Shared;
+use crate::crew::Crew;
+use crate::sharing::{share_out, share_out_beside};
 use fm_base::Refusal;
 use fm_io::Gate;
 use fm_records::Answer;
 use fm_records_query::Query;
 use fm_rule::{Pass, Pool};
 use fm_segment::Segment;
-use fm_workers_crew::{Work, work_crew};
-use fm_workers_jobs::Jobs;
-use fm_workers_shares::{AtGate, Batch, Taker, count_shares, finish, records_each, take_shares};
+use fm_workers_crew::Beside;
+use fm_workers_shares::{Job, Shares, Slots};
 use std::alloc::Global;
 use std::sync::Wait;
 use std::thread::Threads;
-
-/// What a crew takes: the shares of a segment's records, of which the query is asked.
-#[derive(Drop)]
-pub(crate) struct Asking<'a, R, G> {
-    pub(crate) rt: &'a R,
-    pub(crate) gate: &'a G,
-    pub(crate) jobs: &'a Jobs,
-    pub(crate) query: &'a Query,
-    pub(crate) segment: Segment,
-    /// How many records a share has.
-    pub(crate) each: u64,
-}
-
-/// Each pass takes shares up to its stop, and answers the query over them.
-impl<'a, R: Wait + Sync, G: Gate> Work<Taker> for Asking<'a, R, G> {
-    ghost use Rattle.fm_workers_crew.specs.Crew.{by_caller};
-    ghost use Rattle.fm_workers.specs.Taking.{CanTakeShares, Takes, asking, can_take_later};
-
-    ghost can = { λ w. CanTakeShares (asking w.jobs.now w.query.now w.segment w.each) };
-
-    ghost does = { λ w. by_caller (Takes (asking w.jobs.now w.query.now w.segment w.each)) };
-
-    fn work(&self, alloc: Global, memory: &mut Shared, taker: &mut Taker) {
-        let calls = AtGate {
-            gate: self.gate,
-            number: taker.number,
-        };
-        take_shares(
-            self.rt,
-            alloc,
-            &calls,
-            self.jobs,
-            memory,
-            self.query,
-            &self.segment,
-            self.each,
-            taker,
-        );
-    }
-
-    ghost stays = { λ w. can_take_later (asking w.jobs.now w.query.now w.segment w.each) };
-}
 
 /// What a query answers over the records of a segment, by so many passes that are drawn for it, each in a thread of its
 /// own where one can be started. The records are cut into at most four shares a pass, and the passes take them from one
@@ -89,46 +48,63 @@ pub fn query_with<R: Threads + Wait + Sync, G: Gate>(
     if s.arena().is_confined() {
         return Err(Refusal::WrongThread);
     }
-    let count = s.size() / q.record_size();
-    let each = records_each(count, threads);
-    match Batch::new(rt, alloc, count_shares(count, threads), threads) {
-        Ok(batch) => take_batch(rt, alloc, pool, pass, q, s, each, batch, gate),
-        Err(_) => Err(Refusal::Memory),
+    let shares = Shares::of(q, s, threads);
+    let Ok(mut slots) = Slots::new(alloc, shares.count()) else {
+        return Err(Refusal::Memory);
+    };
+    let crew = Crew {
+        rt,
+        alloc,
+        threads,
+        gate,
+    };
+    match share_out(&crew, pool, pass, &shares, &mut slots) {
+        Ok(()) => slots.join_all(alloc, q),
+        Err(refusal) => Err(refusal),
     }
 }
 
-/// The answer over a batch's shares, which a crew takes, a pass for each taker.
-fn take_batch<R: Threads + Wait + Sync, G: Gate>(
+/// As `query_with`, over whole records of an arena that isn't confined, and the pass does something of its own while the
+/// crew takes the shares, in the caller's thread.
+///
+/// Not begun, in this order: `Memory`, `NoPass`; then nothing was done beside it. Refused: `Closed` or `Memory`, as by
+/// `query_with`.
+pub fn query_beside<R: Threads + Wait + Sync, G: Gate, S, B: Beside<S>>(
     rt: &R,
     alloc: Global,
     pool: &Pool,
-    pass: &mut Pass,
+    pass: Pass,
     q: &Query,
     s: &Segment,
-    each: u64,
-    batch: Batch,
+    threads: u32,
     gate: &G,
-) -> Result<Answer, Refusal>
-    requires { CanTakeBatch pool.now pass.old q.now s.now (takers_in batch) each batch }
-    ensures queried { QueriedWith (takers_in batch) pass.old pass.new q.now s.now result }
-    ensures outside { IsOutside pool.now pass.new }
+    beside: &mut B,
+    with: &mut S,
+) -> (Pass, Result<Result<Answer, Refusal>, Refusal>)
+    requires can { CanQueryBeside pool.now pass q.now s.now threads }
+    requires beside { B.can beside.old pass with.old }
+    ensures asks { AsksBeside (B.does beside.old beside.new with.old with.new pass.caller) threads pass
+        result.0 q.now s.now result.1 }
+    ensures untouched { IfErr result.1 (λ _. (beside.new ≡ beside.old) × (with.new ≡ with.old)) }
+    ensures outside { IsOutside pool.now result.0 }
 {
-    let Batch {
-        jobs,
-        giver,
-        mut takers,
-        slots,
-    } = batch;
-    let work = Asking {
-        rt,
-        gate,
-        jobs: &jobs,
-        query: q,
-        segment: *s,
-        each,
+    let shares = Shares::of(q, s, threads);
+    let Ok(mut slots) = Slots::new(alloc, shares.count()) else {
+        return (pass, Err(Refusal::Memory));
     };
-    match work_crew(rt, alloc, pool, pass, &work, &mut takers) {
-        Ok(()) => finish(alloc, q, s, each, &jobs, giver, takers, slots),
-        Err(refusal) => Err(refusal),
+    let crew = Crew {
+        rt,
+        alloc,
+        threads,
+        gate,
+    };
+    let (pass, shared) = share_out_beside(&crew, pool, pass, &shares, &mut slots, beside, with);
+    let ended = match shared {
+        Ok(ended) => ended,
+        Err(refusal) => return (pass, Err(refusal)),
+    };
+    match ended {
+        Ok(()) => (pass, Ok(slots.join_all(alloc, q))),
+        Err(refusal) => (pass, Ok(Err(refusal))),
     }
 }

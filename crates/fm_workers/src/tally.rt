@@ -1,72 +1,84 @@
 ghost use Rattle.std.specs.Prelude.{◌≡◌, MatchBool};
 ghost use Rattle.fm_gate.specs.Needs.{IsOutside};
 ghost use Rattle.fm_workers.specs.Counts.{IsTally, IsByteKind, ListsBytes};
-ghost use Rattle.fm_workers.specs.Summing.{CanTallyBatch, talliers_in};
 ghost use Rattle.fm_workers.specs.Tally.{CanTallyWith, TalliedWith};
 
+use crate::adding::add_counts;
+use crate::counting::count_records;
 use crate::counts::Counts;
-use crate::summing::total_of;
-use crate::tallier::Tallier;
-use crate::tally_batch::TallyBatch;
-use crate::tallying::tally_shares;
-use fm_arena::Shared;
-use fm_base::Refusal;
+use crate::crew::Crew;
+use crate::sharing::share_out;
+use fm_base::{Memory, Refusal};
 use fm_io::Gate;
 use fm_lanes::ValueKind;
 use fm_records_query::{Asked, Fold, Query};
 use fm_rule::{Pass, Pool};
 use fm_segment::Segment;
-use fm_workers_crew::{Work, work_crew};
-use fm_workers_jobs::Jobs;
-use fm_workers_shares::{AtGate, count_shares, records_each};
+use fm_workers_shares::{Job, Shares, Whole};
 use std::alloc::Global;
 use std::sync::Wait;
 use std::thread::Threads;
 
-/// What a crew counts: the numbers that a query lists over shares of a segment, into counts that all passes share.
+/// What a crew counts: the numbers that a query lists over shares, into counts that all passes share.
 #[derive(Drop)]
-struct Tally<'a, R, G> {
-    rt: &'a R,
-    gate: &'a G,
-    jobs: &'a Jobs,
-    query: &'a Query,
-    segment: Segment,
-    /// How many records a share has.
-    each: u64,
-    counts: Segment,
+struct Tally<'a> {
+    shares: Shares<'a>,
+    counts: &'a Segment,
 }
 
-/// Each pass takes shares up to its stop and counts their numbers, and then adds its counts to the shared ones.
-impl<'a, R: Wait + Sync, G: Gate> Work<Tallier> for Tally<'a, R, G> {
-    ghost use Rattle.fm_workers_crew.specs.Crew.{by_caller};
-    ghost use Rattle.fm_workers.specs.Asking.{can_tally_later};
-    ghost use Rattle.fm_workers.specs.Tallies.{CanTally, Tallies, tallying};
+/// Each pass counts the numbers of its shares, and behind its stop adds its counts to the shared ones.
+impl<'a> Job<Counts> for Tally<'a> {
+    ghost use Rattle.fm_workers.specs.Tallies.{CanTally, can_tally_later, tallying};
 
-    ghost can = { λ w. CanTally (tallying w.jobs.now w.query.now w.segment w.each w.counts) };
+    ghost can = { λ j. CanTally j.shares j.counts.now };
 
-    ghost does = { λ w. by_caller
-        (Tallies (tallying w.jobs.now w.query.now w.segment w.each w.counts)) };
+    ghost making = { λ j. tallying j.shares j.counts.now };
 
-    fn work(&self, alloc: Global, memory: &mut Shared, tallier: &mut Tallier) {
-        let calls = AtGate {
-            gate: self.gate,
-            number: tallier.number,
-        };
-        tally_shares(
-            self.rt,
-            alloc,
-            &calls,
-            self.jobs,
-            memory,
-            self.query,
-            &self.segment,
-            self.each,
-            &self.counts,
-            tallier,
-        );
+    fn count(&self) -> u32 {
+        self.shares.count()
     }
 
-    ghost stays = { λ w. can_tally_later (tallying w.jobs.now w.query.now w.segment w.each w.counts) };
+    fn none(&self, _alloc: Global) -> Counts {
+        Counts::none()
+    }
+
+    /// Refused: `Closed` or `Memory`, also where a sum passes 64 bits.
+    fn share<M: Memory>(
+        &self,
+        alloc: Global,
+        m: &mut M,
+        number: u32,
+        part: &mut Counts,
+    ) -> Result<(), Refusal> {
+        let share = self.shares.numbered(number);
+        let more = count_records(alloc, m, self.shares.query(), &share)?;
+        *part = part.sum(&more)?;
+        Ok(())
+    }
+
+    fn end<M: Memory>(&self, m: &mut M, part: &Counts) -> Result<(), Refusal> {
+        add_counts(m, self.counts, part)
+    }
+
+    ghost stays = { λ j v u. can_tally_later j.shares j.counts.now };
+}
+
+/// The sum of what the passes counted, or `Memory`, where it passes 64 bits.
+#[derive(Drop)]
+struct Total {
+    counts: Result<Counts, Refusal>,
+}
+
+impl Whole<Counts> for Total {
+    ghost use Rattle.fm_workers.specs.Tallies.{SumsWith};
+
+    ghost joins = { λ behind part whole. SumsWith part behind.counts whole.counts };
+
+    fn join(&mut self, part: Counts) {
+        if let Ok(behind) = &self.counts {
+            self.counts = part.sum(behind);
+        }
+    }
 }
 
 /// How often each number comes that a query lists over the records of a segment, by so many passes that are drawn for
@@ -110,49 +122,21 @@ pub fn tally_with<R: Threads + Wait + Sync, G: Gate>(
     if counts.arena().is_confined() {
         return Err(Refusal::WrongThread);
     }
-    let count = s.size() / q.record_size();
-    let each = records_each(count, threads);
-    match TallyBatch::new(rt, alloc, count_shares(count, threads), threads) {
-        Ok(batch) => take_batch(rt, alloc, pool, pass, q, s, counts, each, batch, gate),
-        Err(_) => Err(Refusal::Memory),
-    }
-}
-
-/// The counts over a batch's shares, which a crew takes, a pass for each tallier.
-fn take_batch<R: Threads + Wait + Sync, G: Gate>(
-    rt: &R,
-    alloc: Global,
-    pool: &Pool,
-    pass: &mut Pass,
-    q: &Query,
-    s: &Segment,
-    counts: &Segment,
-    each: u64,
-    batch: TallyBatch,
-    gate: &G,
-) -> Result<Counts, Refusal>
-    requires { CanTallyBatch pool.now pass.old
-        q.now s.now counts.now (talliers_in batch) each batch }
-    ensures tallied { TalliedWith (talliers_in batch) pass.old pass.new
-        q.now s.now counts.now result }
-    ensures outside { IsOutside pool.now pass.new }
-{
-    let TallyBatch {
-        jobs,
-        giver,
-        mut talliers,
-    } = batch;
-    let work = Tally {
-        rt,
-        gate,
-        jobs: &jobs,
-        query: q,
-        segment: *s,
-        each,
-        counts: *counts,
+    let tally = Tally {
+        shares: Shares::of(q, s, threads),
+        counts,
     };
-    match work_crew(rt, alloc, pool, pass, &work, &mut talliers) {
-        Ok(()) => total_of(&jobs, giver, talliers),
+    let crew = Crew {
+        rt,
+        alloc,
+        threads,
+        gate,
+    };
+    let mut total = Total {
+        counts: Ok(Counts::none()),
+    };
+    match share_out(&crew, pool, pass, &tally, &mut total) {
+        Ok(()) => total.counts,
         Err(refusal) => Err(refusal),
     }
 }

@@ -3,7 +3,7 @@ use Rattle.std.{proofs.Common.{◌≡◌, ℕ, ◌+◌, ◌-◌, ◌<◌, List, 
 use Rattle.std.proofs.lemmas.List.{map-append}
 use Rattle.fm_workers_jobs.specs.{declared.{account.Account.{Account}, jobs.Jobs.{Jobs}}, Accounts.{after_absorb}}
 use Rattle.fm_workers_jobs.specs.Turns.{CanSettle, HasAccount, IsGiver, IsSettled, Turn, account_of, times}
-use Rattle.fm_workers_shares.specs.{declared.taker.Done.{Done}, Answered.{all_of}, Batches.{begun}, Placing.{absorbed}, Taking.{jobs_of, took}}
+use Rattle.fm_workers_shares.specs.{declared.answers.Done.{Done}, Answered.{all_of}, Batches.{begun}, Placing.{absorbed}, Taking.{jobs_of, took}}
 use Rattle.fm_workers_shares.proofs.Once.{times-append}
 
 role_absorbed : (v : Account) (us : List Turn) → (absorbed v us).role ≡ v.role

@@ -4,7 +4,7 @@ use Rattle.fm_base.specs.{declared.caller.Caller.{Caller}, Calls.{Entry}, Histor
 use Rattle.fm_base_lists.specs.Among.{IsAmong}
 use Rattle.fm_segment.specs.Region.{Region}
 use Rattle.fm_records_query.specs.Plan.{Plan}
-use Rattle.fm_workers_shares.{specs.{declared.taker.Done.{Done}, Taking.{DoesEach, DoesShare}}, proofs.Sharing.{IsAnsweredAt}}
+use Rattle.fm_workers_shares.{specs.{declared.answers.Done.{Done}, Taking.{DoesEach, DoesShare}}, proofs.Sharing.{IsAnsweredAt}}
 
 -- It answers one more.
 pub DoesEach-more : (p : Plan) (s : Region) (each : ℕ) (c : Caller) (ds : List Done) (d : Done) (own one : List Entry) → DoesEach p s each c ds own

@@ -7,7 +7,6 @@ pub mod Once
 pub mod Places
 pub mod Popping
 pub mod Serving
-pub mod Settling
 pub mod Sharing
 pub mod Standing
 pub mod Weighing

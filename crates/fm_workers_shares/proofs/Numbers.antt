@@ -1,8 +1,8 @@
 -- Where shares begin and end, and how many there are.
-use Rattle.std.{proofs.Common.{◌≡◌, ℕ, suc, ◌+◌, ◌-◌, ◌*◌, ◌/◌, ◌<◌, ◌≤◌, List, [], ◌∷◌, ◌++◌, map, sym, ap, ◌∙◌, subst, arith}, specs.List.{range_with_len}}
-use Rattle.std.proofs.{Math.Nat.{add-mul, mul-le-mul_right, div-mul-le_self}, lemmas.{Grind.{div_ceil_times}, List.{map-append}}}
+use Rattle.std.{proofs.Common.{◌≡◌, ℕ, suc, ◌+◌, ◌-◌, ◌*◌, ◌/◌, ◌<◌, ◌≤◌, List, [], ◌∷◌, ◌++◌, map, sym, ap, ◌∙◌, subst, arith}, specs.{List.{range_with_len}, Int.{div_ceil}}}
+use Rattle.std.proofs.{Math.Nat.{add-mul, mul_comm, mul-le-mul_right, div-mul-le_self, lt_of_mul-lt-mul_right}, lemmas.{Grind.{div_ceil_times}, List.{map-append}}}
 use Rattle.fm_workers_jobs.proofs.Batches.{range_with_len-more}
-use Rattle.fm_workers_shares.specs.Shares.{many_of, start_of}
+use Rattle.fm_workers_shares.specs.Shares.{each_of, many_of, start_of}
 
 -- A run's bytes and those before it are all up to its end.
 pub run_ends : (from to size : ℕ) → from ≤ to → from * size + (to - from) * size ≡ to * size
@@ -25,6 +25,22 @@ run_within from to size {n} {total} is order within = subst (λ k. from * k + (t
 -- So many shares are enough.
 pub all_in : (count each : ℕ) → 0 < each → count ≤ many_of count each * each
 all_in count each some = (div_ceil_times count each some).0
+
+-- By sixteen threads there are at most 64.
+pub few_shares : (count threads : ℕ) → 0 < threads → threads ≤ 16 → many_of count (each_of count threads) ≤ 64
+few_shares count threads some few =
+    let each : count ≤ div_ceil count (4 * threads) * (4 * threads) = (div_ceil_times count (4 * threads) (omega (arith, some))).0 in
+    let most : div_ceil count (4 * threads) ≤ each_of count threads = omega arith in
+    let room : div_ceil count (4 * threads) * (4 * threads) ≤ each_of count threads * (4 * threads) = mul-le-mul_right (4 * threads) most in
+    let last : many_of count (each_of count threads) * each_of count threads < count + each_of count threads =
+    (div_ceil_times count (each_of count threads) (omega arith)).1 in
+    let turned : each_of count threads * (4 * threads) ≡ 4 * threads * each_of count threads = mul_comm (each_of count threads) (4 * threads) in
+    let sum : (4 * threads + 1) * each_of count threads ≡ 4 * threads * each_of count threads + 1 * each_of count threads =
+    add-mul (4 * threads) 1 (each_of count threads) in
+    let below : many_of count (each_of count threads) * each_of count threads < (4 * threads + 1) * each_of count threads =
+    omega (arith, each, room, last, turned, sum) in
+    let fewer = lt_of_mul-lt-mul_right (each_of count threads) below in
+    omega (arith, fewer, few)
 
 -- ---- where they begin
 

@@ -3,7 +3,7 @@ use Rattle.std.proofs.Common.{◌≡◌, ℕ, zero, suc, ◌+◌, ◌<◌, ◌�
 use Rattle.std.{specs.{Prelude.{⊤}, List.{AllByRecursion}}, proofs.lemmas.List.{length-set}}
 use Rattle.fm_base_lists.specs.Among.{IsAmong}
 use Rattle.fm_records.specs.declared.found.Found.{Found}
-use Rattle.fm_workers_shares.specs.{declared.taker.Done.{Done}, Batches.{nones}, Joining.{IsAnswered}, Placing.{Slot, placed}, Taking.{jobs_of}}
+use Rattle.fm_workers_shares.specs.{declared.answers.Done.{Done}, Batches.{nones}, Joining.{IsAnswered}, Placing.{Slot, placed}, Taking.{jobs_of}}
 
 pub placed-append : (slots : List Slot) (ds es : List Done) → placed slots (ds ++ es) ≡ placed (placed slots es) ds
 placed-append slots [] es = refl

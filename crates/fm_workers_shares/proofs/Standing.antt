@@ -6,7 +6,7 @@ use Rattle.fm_workers_jobs.specs.Turns.{times}
 use Rattle.fm_segment.specs.Region.{Region}
 use Rattle.fm_records_query.specs.Plan.{Plan}
 use Rattle.fm_records.specs.{Joined.{joined}, Shares.{AreCut, Share, all_joined}}
-use Rattle.fm_workers_shares.specs.{declared.taker.Done.{Done}, Answered.{AnsweredBy, AnsweredShares, all_of}, Joining.{joined_all}, Placing.{Slot}}
+use Rattle.fm_workers_shares.specs.{declared.answers.Done.{Done}, Answered.{AnsweredBy, AnsweredShares, all_of}, Joining.{joined_all}, Placing.{Slot}}
 use Rattle.fm_workers_shares.specs.{Shares.{many_of, piece, share_of, start_of}, Taking.{DoesEach, jobs_of}}
 use Rattle.fm_workers_shares.proofs.{Numbers.{start_first, start_last, start_order, start_within}, Places.{AreAll}}
 use Rattle.fm_workers_shares.proofs.Sharing.{IsAnsweredAt, behind_piece, first_of_piece, whole_piece}

@@ -4,7 +4,7 @@ use Rattle.std.{specs.{Prelude.{sum_by}, List.{range_with_len}}, proofs.lemmas.{
 use Rattle.std.proofs.lemmas.List.Sums.{sum_by-cons, sum_by-set}
 use Rattle.fm_records.specs.declared.found.Found.{Found}
 use Rattle.fm_workers_jobs.specs.Turns.{times}
-use Rattle.fm_workers_shares.specs.{declared.taker.Done.{Done}, Batches.{nones}, Placing.{Slot, placed}, Taking.{jobs_of}}
+use Rattle.fm_workers_shares.specs.{declared.answers.Done.{Done}, Batches.{nones}, Placing.{Slot, placed}, Taking.{jobs_of}}
 use Rattle.fm_workers_shares.proofs.{Once.{range_above, range_once, times-cons, times-other, times-same}, Places.{length-nones, length-placed}}
 
 -- ---- places with no answer

@@ -6,7 +6,7 @@ use Rattle.fm_base_lists.specs.Among.{IsAmong}
 use Rattle.fm_segment.specs.Region.{Region}
 use Rattle.fm_records_query.specs.Plan.{Plan}
 use Rattle.fm_records.specs.{declared.found.Found.{Found}, Shares.{AreCut, AreDone, Share, all_joined}}
-use Rattle.fm_workers_shares.specs.{declared.taker.Done.{Done}, Shares.{many_of, share_of}, Taking.{DoesEach, jobs_of}}
+use Rattle.fm_workers_shares.specs.{declared.answers.Done.{Done}, Shares.{many_of, share_of}, Taking.{DoesEach, jobs_of}}
 
 -- they are the shares from this number on, up to the last
 abbrev pub AreNumbered : Plan → Region → (each number : ℕ) → List Share → Type 0

@@ -1,5 +1,7 @@
 pub mod Answered
+pub mod Asking
 pub mod Batches
+pub mod Ends
 pub mod Finishing
 pub mod Joining
 pub mod Placing

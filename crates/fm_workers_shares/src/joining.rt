@@ -7,7 +7,7 @@ use fm_records_query::Query;
 use std::alloc::Global;
 
 /// All answers joined, in their order. Refused: `Memory`.
-pub(crate) fn join_all(
+pub(crate) fn join_slots(
     alloc: Global,
     q: &Query,
     mut slots: Vec<Option<Answer>>,

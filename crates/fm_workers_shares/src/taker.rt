@@ -1,22 +1,14 @@
 use fm_base::Refusal;
-use fm_records::Answer;
 use fm_workers_jobs::Turn;
-
-/// A share, and what it answers.
-#[derive(Drop)]
-pub struct Done {
-    pub job: u32,
-    pub answer: Answer,
-}
 
 /// Who takes shares, up to its stop or a refusal.
 #[derive(Drop)]
-pub struct Taker {
+pub struct Taker<P> {
     /// Its number at the gate, from 1 on.
     pub number: u32,
     pub turn: Turn,
-    /// In the order in which it took them.
-    pub done: Vec<Done>,
-    /// The refusal of the share that it took last, and didn't answer.
+    /// What it made of its shares.
+    pub part: P,
+    /// The refusal at which it ended, if it was refused.
     pub end: Result<(), Refusal>,
 }

@@ -1,7 +1,8 @@
-use Rattle.std.proofs.Common.{◌≡◌, ◌%◌, ◌/◌, arith, refl, sym, ap, ◌∙◌, subst, inl, inr}
-use Rattle.fm_base.specs.declared.{arena_id.ArenaId.{ArenaId}, refusal.Refusal.TheVariants.{Memory, Ragged, Unsupported, WrongThread}}
-use Rattle.fm_workers_shares.specs.Shares.{each_of, many_of}
-use Rattle.fm_workers.{specs.{Summing.{CanTallyBatch, IsBegun}, Tally.{TalliedWith}}, proofs.{Queried.{even_of}, Tallied.{can_be_tallied, tallied_none}}}
+use Rattle.std.proofs.Common.{◌≡◌, ◌%◌, arith, refl, sym, ap, ◌∙◌, subst, inl, inr, Ok, Err}
+use Rattle.fm_base.specs.declared.{arena_id.ArenaId.{ArenaId}, refusal.Refusal.TheVariants.{Ragged, Unsupported, WrongThread}}
+use Rattle.fm_workers_shares.specs.Shares.{IsCut}
+use Rattle.fm_workers.specs.declared.tally.Total.{Total}
+use Rattle.fm_workers.proofs.{Queried.{asked, even_of}, Tallied.{can_be_tallied, shared_tallied, tallied, tallied_none, tallied_refused}, Totals.{sums_to}}
 use Rattle.fm_workers.proofs.tally.tally_with.Goals as goal
 
 pub returns-then-not-is_tally-clause-tallied : goal.returns-then-not-is_tally-clause-tallied
@@ -30,34 +31,26 @@ returns-then-is_confined-2-clause-tallied g c =
     tallied_none c.args.pass.now c.args.q.now c.args.s.now c.args.counts.now c.args.threads WrongThread tt c.requires.query.known c.requires.known
     (c.if-not-is_tally.ensures, even, inr kind, refl)
 
+pub returns-in-Ok-clause-tallied : goal.returns-in-Ok-clause-tallied
+returns-in-Ok-clause-tallied g c =
+    let can = can_be_tallied c.args.q.now c.args.s.now c.args.counts.now c.size.result c.record_size.result c.arena.result c.arena-2.result
+    c.if-not-is_tally.ensures c.size.ensures.size c.record_size.ensures.size c.if-rest-ne0.false c.arena.ensures
+    (c.is_confined.ensures.no c.if-is_confined.false) c.arena-2.ensures (c.is_confined-2.ensures.no c.if-is_confined-2.false) in
+    let start : Total = record { counts = Ok c.none.result } in
+    let so = shared_tallied c.args.q.now c.args.s.now c.args.counts.now c.args.threads c.of.result c.of.ensures.cut c.args.pass.now c.share_out.new.pass
+    start c.share_out.new.whole (Ok tt) c.in-Ok.ensures.shared in
+    tallied (asked c.args.q.now c.args.s.now c.args.threads) c.args.counts.now (subst IsCut c.of.ensures.cut c.of.ensures.whole) can c.requires.longs
+    c.requires.other c.args.threads refl c.args.pass.now c.share_out.new.pass start c.share_out.new.whole c.requires.query.known c.requires.known so
+    c.share_out.new.whole.counts (sums_to start c.share_out.new.whole so.ends.1.parts c.none.result refl c.none.ensures so.ends.1.joined)
+
 pub returns-in-Err-clause-tallied : goal.returns-in-Err-clause-tallied
 returns-in-Err-clause-tallied g c =
     let can = can_be_tallied c.args.q.now c.args.s.now c.args.counts.now c.size.result c.record_size.result c.arena.result c.arena-2.result
     c.if-not-is_tally.ensures c.size.ensures.size c.record_size.ensures.size c.if-rest-ne0.false c.arena.ensures
     (c.is_confined.ensures.no c.if-is_confined.false) c.arena-2.ensures (c.is_confined-2.ensures.no c.if-is_confined-2.false) in
-    tallied_none c.args.pass.now c.args.q.now c.args.s.now c.args.counts.now c.args.threads Memory tt c.requires.query.known c.requires.known (can, inr refl)
-
-pub take_batch-requires-after_bounds : goal.take_batch-requires-after_bounds
-take_batch-requires-after_bounds g c κs within =
-    let can = can_be_tallied c.args.q.now c.args.s.now c.args.counts.now c.size.result c.record_size.result c.arena.result c.arena-2.result
-    c.if-not-is_tally.ensures c.size.ensures.size c.record_size.ensures.size c.if-rest-ne0.false c.arena.ensures
-    (c.is_confined.ensures.no c.if-is_confined.false) c.arena-2.ensures (c.is_confined-2.ensures.no c.if-is_confined-2.false) in
-    let count : c.size-2.result / c.record_size-2.result ≡ c.args.s.now.size / c.args.q.now.size =
-    (λ i. c.size-2.ensures.size i / c.record_size-2.ensures.size i) in
-    let many : c.count_shares.result ≡ many_of (c.args.s.now.size / c.args.q.now.size) c.records_each-each.result =
-    c.count_shares.ensures.many ∙ (λ i. many_of (count i) (sym c.records_each-each.ensures.each i)) in
-    subst (λ n. CanTallyBatch c.args.pool.now c.args.pass.now c.args.q.now c.args.s.now c.args.counts.now n c.records_each-each.result c.in-Ok.batch)
-    (sym c.in-Ok.ensures.count) (record {
-      asked = c.requires;
-      can = can;
-      plan = c.record_size.ensures.plan;
-      small = (let ends = c.size.ensures.ends in omega (arith, ends));
-      cut = c.records_each-each.ensures.each ∙ ap (λ n. each_of n c.args.threads) count;
-      some = c.records_each-each.ensures.some;
-      begun = subst (λ n. IsBegun n c.args.threads c.in-Ok.batch) many c.in-Ok.ensures;
-    })
-
-pub returns-in-Ok-clause-tallied : goal.returns-in-Ok-clause-tallied
-returns-in-Ok-clause-tallied g c =
-    subst (λ n. TalliedWith n c.args.pass.now c.take_batch.new.pass c.args.q.now c.args.s.now c.args.counts.now c.take_batch.result)
-    c.in-Ok.ensures.count c.take_batch.ensures.tallied
+    let start : Total = record { counts = Ok c.none.result } in
+    let so = shared_tallied c.args.q.now c.args.s.now c.args.counts.now c.args.threads c.of.result c.of.ensures.cut c.args.pass.now c.share_out.new.pass
+    start c.share_out.new.whole (Err c.in-Err.refusal) c.in-Err.ensures.shared in
+    tallied_refused (asked c.args.q.now c.args.s.now c.args.threads) c.args.counts.now (subst IsCut c.of.ensures.cut c.of.ensures.whole) can c.requires.longs
+    c.requires.other c.args.threads refl c.args.pass.now c.share_out.new.pass start c.share_out.new.whole c.requires.query.known c.requires.known
+    c.in-Err.refusal so

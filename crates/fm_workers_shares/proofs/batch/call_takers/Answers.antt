@@ -4,15 +4,15 @@ use Rattle.fm_workers_shares.{specs.{declared.taker.Taker.{Taker}, Taking.{IsRea
 use Rattle.fm_workers_shares.proofs.batch.call_takers.Goals as goal
 
 pub loop-k-preserved : goal.loop-k-preserved
-loop-k-preserved c =
-    let ready = IsReady c.args.jobs.now in
-    let one : ready _ = record { turn = c.another.ensures.taker; none = c.new.ensures.items; end = refl } in
+loop-k-preserved g c =
+    let ready = IsReady (g.J.Job.making c.args.job.now) c.args.jobs.now in
+    let one : ready _ = record { turn = c.another.ensures.taker; none = c.none.ensures } in
     record {
       ready = subst (AllByRecursion ready) (sym c.push_reserved.ensures.items)
           (all_both ready c.loop-k.takers.items (_ ∷ []) c.loop-k.invariant.ready (one, tt));
       count = search rules;
-      numbers = ap (λ (ts : List Taker). map (λ t. t.number) ts) c.push_reserved.ensures.items
-          ∙ numbered_more (λ (t : Taker). t.number) c.loop-k.takers.items _ c.loop-k.k c.loop-k.invariant.numbers refl;
+      numbers = ap (λ (ts : List (Taker _)). map (λ t. t.number) ts) c.push_reserved.ensures.items
+          ∙ numbered_more (λ (t : Taker _). t.number) c.loop-k.takers.items _ c.loop-k.k c.loop-k.invariant.numbers refl;
       giver = search rules;
       room = search rules;
     }

@@ -4,8 +4,8 @@ use Rattle.fm_workers_shares.specs.{Batches.{after_turns}, Taking.{IsReady}}
 use Rattle.fm_workers_shares.proofs.batch.call_takers.Given as goal
 
 abbrev pub invariant-loop-k : goal.invariant-loop-k
-invariant-loop-k l = record {
-  ready : AllByRecursion (IsReady l.jobs) l.takers.items;
+invariant-loop-k g l = record {
+  ready : AllByRecursion (IsReady (g.J.Job.making l.job) l.jobs) l.takers.items;
   count : length l.takers.items ≡ l.k;
   numbers : map (λ t. t.number) l.takers.items ≡ range_with_len 1 l.k;
   giver : HasAccount l.jobs l.giver (after_turns (account_of l.fn.giver) l.k);

@@ -1,9 +1,0 @@
-use Rattle.std.proofs.Common.{◌≡◌}
-use Rattle.fm_workers_shares.{specs.Placing.{placed}, proofs.Popping.{TakenApart}}
-use Rattle.fm_workers_shares.proofs.placing.put_all.Given as goal
-
-abbrev pub invariant-loop-one : goal.invariant-loop-one
-invariant-loop-one l = TakenApart l.fn.done.items l.done.items (λ gone. l.slots ≡ placed l.fn.slots gone)
-
-abbrev pub decreases-loop-one : goal.decreases-loop-one
-decreases-loop-one l = goal.left-loop-one l
