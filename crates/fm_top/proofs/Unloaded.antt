@@ -5,7 +5,7 @@ use Rattle.fm_io.specs.{Count.{Rose}, Files.{Contents, IsAbsent}, declared.fault
 use Rattle.fm_io.specs.declared.fault.Fault.TheVariants as fault
 use Rattle.fm_top.specs.{Ending.{EndsUnloaded, IsUnloaded, shown, TellsMisses}, Ends.{EndsFile}, Found.{OfFound}, Outcome.{Outcome, missing, too_long}}
 use Rattle.fm_top.{specs.declared.outcome.ending.Ending.{Ending}, proofs.{Ends.{shows_found, shows_wanting}, Outcomes.{long_found}, ReadFor.{read_for}}}
-use Rattle.fm_top_load.{specs.{Reading.{ReadsSome}, Whole.{IsOver, IsWhole, TellsLoad}}, proofs.Telling.{read_quietly}}
+use Rattle.fm_top_load.{specs.{Reading.{ReadsSome}, Whole.{ByReads, IsOver, IsWhole, TellsLoad}}, proofs.Telling.{read_quietly}}
 use Rattle.fm_top_load.specs.declared.load_fault.LoadFault.{LoadFault, TheVariants.{Missing, TooLong}}
 use Rattle.fm_top.specs.declared.outcome.status.Status.TheVariants as status
 
@@ -36,7 +36,7 @@ tells before now name fault (Err stop) rose same ends told = same (λ e. absurd 
 -- what the load of a file tells, whatever it came to
 module _ {old new : FilesView} {name : List ℕ} {limit : ℕ} {Has : Option (List ℕ) → Outcome → Type 0} (reads : ReadsSome old.reads new.reads name limit) where
   -- it was loaded, and an end is known
-  pub found_ends : TellsLoad ⊥ limit old new name None → (bytes : List ℕ) {ending : Ending} → IsWhole old.holds name bytes → Has (Some bytes) (shown ending)
+  pub found_ends : TellsLoad ByReads limit old new name None → (bytes : List ℕ) {ending : Ending} → IsWhole old.holds name bytes → Has (Some bytes) (shown ending)
       → (ending.status ≡ status.Missing → ⊥) → EndsFile name limit ⊤ Has old new (Ok ending)
   found_ends load bytes whole ends there = record {
     outcome = (Some bytes, whole, ends);
@@ -45,11 +45,11 @@ module _ {old new : FilesView} {name : List ℕ} {limit : ℕ} {Has : Option (Li
   }
 
   -- it was loaded, and memory ran out
-  pub wanting_ends : TellsLoad ⊥ limit old new name None → {end : Result Ending Fault} → end ≡ Err fault.Memory → EndsFile name limit ⊤ Has old new end
+  pub wanting_ends : TellsLoad ByReads limit old new name None → {end : Result Ending Fault} → end ≡ Err fault.Memory → EndsFile name limit ⊤ Has old new end
   wanting_ends load is = rw is (record { outcome = tt; reads = read_for reads tt; files = shows_wanting (read_quietly load) })
 
   -- it wasn't loaded
-  pub unloaded_ends : {why : LoadFault} → TellsLoad ⊥ limit old new name (Some why) → {end : Result Ending Fault}
+  pub unloaded_ends : {why : LoadFault} → TellsLoad ByReads limit old new name (Some why) → {end : Result Ending Fault}
       → IsUnloaded why name end → Has None (missing name) → ((bytes : List ℕ) → limit < length bytes → Has (Some bytes) too_long) → EndsFile name limit ⊤ Has old new end
   unloaded_ends {why} load {end} is none long = record {
     outcome = IfOk-weaker end _ _ (λ ending ends. unloaded old.holds name limit Has why (shown ending) none long

@@ -1,7 +1,7 @@
 -- What is read for a request, and in which order.
 use Rattle.std.specs.Prelude.{◌≡◌, ◌≢◌, ℕ, ◌+◌, List, [], ◌++◌, Option, None, Some}
 use Rattle.fm_io.specs.{Files.{Contents}, Reads.{Read, ReadsOn, At, Ended, Follow, next_after}}
-use Rattle.fm_top_load.specs.{Limits.{record_file_limit}, Reading.{piece_limit}}
+use Rattle.fm_top_load.specs.{Limits.{record_file_limit}, Reading.{portion_limit}}
 use Rattle.fm_top.specs.{Causes.{IsAsked}, Found.{OfFile}, Outcome.{layout_file_limit, script_file_limit}, Queries.{PlanOf, records_limit}}
 use Rattle.fm_top.specs.Words.{Request, Sum, Layout, Ask, Demo, Run, first_file, last_file}
 
@@ -9,13 +9,13 @@ use Rattle.fm_top.specs.Words.{Request, Sum, Layout, Ask, Demo, Run, first_file,
 pub record ReadsIf (old new : Option (List Read)) (name : List ℕ) (limit : ℕ) (P : Type 0) : Type 0 where
   pub reads : List Read
   pub noted : ReadsOn old new reads
-  pub follow : Follow name piece_limit (limit + 1) (At 0) reads
+  pub follow : Follow name portion_limit (limit + 1) (At 0) reads
   pub needed : reads ≢ [] → P
 
 -- the reads are of the file of this name, from its beginning, in pieces, and up to the first byte past the limit; of no name there are none
 abbrev pub AreReadsOf : Option (List ℕ) → ℕ → List Read → Type 0
 AreReadsOf None limit reads = reads ≡ []
-AreReadsOf (Some name) limit reads = Follow name piece_limit (limit + 1) (At 0) reads
+AreReadsOf (Some name) limit reads = Follow name portion_limit (limit + 1) (At 0) reads
 
 -- the most bytes of the file that is read first
 abbrev pub first_limit : Request → ℕ

@@ -1,7 +1,7 @@
 -- The bytes that an arena has given, and those that are put behind them.
 use Rattle.std.proofs.Common.{◌≡◌, ℕ, ◌+◌, ◌%◌, ◌≤◌, List, ◌++◌, length, take, drop, refl, ap, sym, ◌∙◌, arith, append_assoc, length-append}
 use Rattle.std.proofs.{lemmas.List.{length-take-le}, Math.Seq.{take-append_seam}}
-use Rattle.fm_base.specs.{declared.arena_id.ArenaId.{ArenaId}, Machine.{rounded_up}, View.{View, given_in}}
+use Rattle.fm_base.specs.{Machine.{rounded_up}, View.{View}}
 use Rattle.fm_base_bytes.proofs.Words.{length-bytes_in}
 use Rattle.fm_segment_access.specs.Alone.{bytes_of_arena, with_bytes}
 use Rattle.fm_segment.specs.{Alone.{bytes_of_region}, Region.{Region}}
@@ -39,9 +39,3 @@ put_behind all bytes n h =
 -- a whole number of words is rounded up to itself
 pub rounded_whole : (n : ℕ) → n % 8 ≡ 0 → rounded_up n 8 ≡ n
 rounded_whole n whole = omega arith
-
--- where the next bytes are given
-pub next_place : {v : View} {s : Region} {a : ArenaId} → IsReady v s → a ≡ s.arena → length (loaded_in v s) % 8 ≡ 0 → rounded_up (given_in v a) 8 ≡ s.size
-next_place {v} {s} {a} r is whole =
-    let counted : given_in v a ≡ s.size = ap (given_in v) is ∙ r.counted in
-    rounded_whole (given_in v a) (ap (λ n. n % 8) (counted ∙ sym (length-loaded r)) ∙ whole) ∙ counted

@@ -1,12 +1,16 @@
-pub mod Bringing
-pub mod Chunks
-pub mod Filling
+pub mod Alone
+pub mod FileBytes
 pub mod Following
-pub mod Further
 pub mod GivenBytes
+pub mod Grown
+pub mod Growing
 pub mod Holding
+pub mod Loads
 pub mod Lone
+pub mod Machine
 pub mod Placing
-pub mod Putting
+pub mod Portions
+pub mod Puts
+pub mod Rest
 pub mod Telling
 mod Texts

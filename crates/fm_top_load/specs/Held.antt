@@ -1,7 +1,7 @@
 -- An arena that a caller by itself holds, and the bytes that were loaded into it.
-use Rattle.std.specs.Prelude.{◌≡◌, ◌≢◌, ℕ, ◌+◌, ◌≤◌, ◌^◌, true, List, ◌++◌, None, Result, IfOk, OnOk, OnErr, length, map, IsTrue}
+use Rattle.std.specs.Prelude.{◌≡◌, ◌≢◌, ℕ, ◌≤◌, ◌^◌, true, List, None, length, map, IsTrue}
 use Rattle.fm_base.specs.declared.{arena_id.ArenaId.{ArenaId}, refusal.Refusal.{Refusal, TheVariants.{Memory, PoolFull}}}
-use Rattle.fm_base.specs.{Arenas.{Arena, State, Alive, arena_of, has_arena, MayUse}, Machine.{rounded_up, words_within}, Finds.{is_page}}
+use Rattle.fm_base.specs.{Arenas.{Arena, State, Alive, arena_of, has_arena, MayUse}, Machine.{words_within}, Finds.{is_page}}
 use Rattle.fm_base.specs.{Outcomes.{Nature, FoundNoneFree}, View.{View, IsByItself, given_in}}
 use Rattle.fm_segment_access.specs.Alone.{bytes_of_arena, with_bytes}
 use Rattle.fm_segment.specs.{Alone.{bytes_of_region}, Region.{Region}}
@@ -67,23 +67,9 @@ Wants nature old new Memory = IsTrue nature.memory
 Wants nature old new PoolFull = FoundFull nature old new
 Wants nature old new r = ⊥
 
--- The arena gave so many bytes at the next multiple of 8, or it was refused and all is as it was. Nothing else changed.
-pub record AllocatesHeld (old new : View) (a : ArenaId) (size : ℕ) (result : Result ℕ Refusal) : Type 0 where
-  pub place : IfOk result (λ at. at ≡ rounded_up (given_in old a) 8)
-  pub given : IfOk result (λ at. HoldsThen new a (at + size) (words_at old a))
-  pub same : OnErr result (HoldsThen new a (given_in old a) (words_at old a))
-  pub elsewhere : OnlyIn a old.state new.state
-
 -- The bytes stand at the place, in an arena that is held still and has given as much. Nothing else changed.
 pub record PutsHeld (old new : View) (a : ArenaId) (place : ℕ) (bytes : List ℕ) : Type 0 where
   pub held : IsHeld new a
   pub given : given_in new a ≡ given_in old a
   pub stand : bytes_of_arena new.state a ≡ with_bytes (bytes_of_arena old.state a) place bytes
   pub elsewhere : OnlyIn a old.state new.state
-
--- The bytes were put behind those of the segment, or they weren't given, and it has what it had.
-pub record PushesHeld (old new : View) (s t : Region) (bytes : List ℕ) (result : Result (Unit {0}) Refusal) : Type 0 where
-  pub ready : IsReady new t
-  pub arena : t.arena ≡ s.arena
-  pub ok : OnOk result (loaded_in new t ≡ loaded_in old s ++ bytes)
-  pub err : OnErr result (loaded_in new t ≡ loaded_in old s)

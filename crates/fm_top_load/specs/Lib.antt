@@ -1,9 +1,12 @@
-pub mod Filling
+pub mod Buffered
+pub mod Filled
 pub mod Held
 pub mod Limits
 pub mod Loaded
 pub mod Loading
+pub mod Portions
 pub mod Putting
-pub mod Reached
 pub mod Reading
+pub mod Rest
+pub mod Stretches
 pub mod Whole

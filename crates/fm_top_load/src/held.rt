@@ -1,15 +1,11 @@
-ghost use Rattle.std.specs.Prelude.{◌≡◌, ◌+◌, ◌%◌, ◌≤◌, [], length, Ok, IfOk, IfErr};
+ghost use Rattle.std.specs.Prelude.{◌≡◌, ◌+◌, ◌≤◌, length, Ok, IfOk};
 ghost use Rattle.fm_segment_access.specs.Runs.{DoesPutAll};
 ghost use Rattle.fm_base_bytes.specs.Bytes.{AreBytes};
-ghost use Rattle.fm_base.specs.Does.{DidAllocate};
 ghost use Rattle.fm_base.specs.Learnt.{CanOpen};
-ghost use Rattle.fm_base.specs.Machine.{rounded_up};
 ghost use Rattle.fm_base.specs.View.{Did, IsByItself, given_in};
-ghost use Rattle.fm_top_load.specs.Filling.{DoesPush};
-ghost use Rattle.fm_top_load.specs.Held.{AllocatesHeld, IsHeld, IsEmpty, IsReady, PushesHeld, PutsHeld, Wants, loaded_in};
+ghost use Rattle.fm_top_load.specs.Held.{IsHeld, IsEmpty, PutsHeld};
 
-use fm_base::{ArenaId, Kind, Memory, Refusal};
-use fm_segment::Segment;
+use fm_base::{ArenaId, Kind, Memory};
 use fm_segment_access::put_bytes;
 use std::alloc::AllocError;
 use std::sync::Wait;
@@ -30,25 +26,6 @@ pub fn open_held<R: Wait, M: Memory>(rt: &R, m: &mut M, kind: Kind) -> Result<Ar
     }
 }
 
-/// Has the arena give `size` bytes more, at a multiple of 8.
-pub fn allocate_held<R: Wait, M: Memory>(
-    rt: &R,
-    m: &mut M,
-    arena: ArenaId,
-    size: u64,
-) -> Result<u64, Refusal>
-    requires held { IsHeld (M.view m.old) arena }
-    requires room { rounded_up (given_in (M.view m.old) arena) 8 + size ≤ (M.view m.old).limit }
-    ensures did { DidAllocate (M.view m.old) (M.view m.new) arena size 8 result }
-    ensures wants { IfErr result (Wants M.nature (M.view m.old) (M.view m.new)) }
-    ensures gives { AllocatesHeld (M.view m.old) (M.view m.new) arena size result }
-{
-    match m.allocate(rt, arena, size, 8) {
-        Ok(place) => Ok(place),
-        Err(refusal) => Err(refusal),
-    }
-}
-
 /// Puts bytes that the arena has given.
 pub fn put_held<R: Wait, M: Memory>(rt: &R, m: &mut M, arena: ArenaId, place: u64, bytes: &[u8])
     requires held { IsHeld (M.view m.old) arena }
@@ -64,50 +41,4 @@ pub fn put_held<R: Wait, M: Memory>(rt: &R, m: &mut M, arena: ArenaId, place: u6
         // The arena is alive, and the caller may use it.
         Err(_) => unreachable!(),
     }
-}
-
-/// Where nothing was loaded yet.
-pub fn none_loaded<M: Memory>(m: &M, arena: ArenaId) -> Segment
-    requires { IsEmpty (M.view m.now) arena }
-    ensures ready { IsReady (M.view m.now) result }
-    ensures arena { result.arena ≡ arena }
-    ensures none { loaded_in (M.view m.now) result ≡ [] }
-{
-    Segment::of(arena, 0, 0)
-}
-
-/// How many bytes were loaded.
-pub fn loaded_size<M: Memory>(m: &M, segment: &Segment) -> u64
-    requires { IsReady (M.view m.now) segment.now }
-    ensures { result ≡ length (loaded_in (M.view m.now) segment.now) }
-{
-    segment.size()
-}
-
-/// Puts bytes behind those that were loaded, whose number is a multiple of 8.
-pub fn push_held<R: Wait, M: Memory>(
-    rt: &R,
-    m: &mut M,
-    segment: &mut Segment,
-    bytes: &[u8],
-) -> Result<(), Refusal>
-    requires ready { IsReady (M.view m.old) segment.old }
-    requires whole { length (loaded_in (M.view m.old) segment.old) % 8 ≡ 0 }
-    requires room { length (loaded_in (M.view m.old) segment.old) + length bytes.now ≤
-        (M.view m.old).limit }
-    ensures did { Did (M.view m.old) (M.view m.new) (DoesPush (M.view m.old).caller segment.old.arena
-        (length (loaded_in (M.view m.old) segment.old)) bytes.now result) }
-    ensures wants { IfErr result (Wants M.nature (M.view m.old) (M.view m.new)) }
-    ensures pushes { PushesHeld (M.view m.old) (M.view m.new) segment.old segment.new bytes.now
-        result }
-{
-    let size = bytes.len() as u64;
-    let arena = segment.arena();
-    let place = match allocate_held(rt, m, arena, size) {
-        Ok(place) => place,
-        Err(refusal) => return Err(refusal),
-    };
-    put_held(rt, m, arena, place, bytes);
-    *segment = Segment::of(arena, 0, place + size);
-    Ok(())
 }

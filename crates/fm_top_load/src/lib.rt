@@ -1,26 +1,24 @@
-//! Files read whole: into a list of bytes, or into an arena of any memory whose caller is by itself.
+//! Files read whole: into a list of bytes, or into an arena of any memory.
 #![tactic(auto)]
 
-mod buffers;
-mod chunk;
-mod chunk_loading;
 mod held;
 mod load_fault;
 mod loaded;
 mod loading;
-mod part_putting;
-mod put_fault;
-mod reaching;
+mod portion;
+mod putting;
+mod reached;
+mod room;
+mod stretch;
 mod whole_file;
 
-pub use buffers::zero_bytes;
-pub use chunk::{CHUNK, Chunk, Part, read_piece};
-pub use chunk_loading::load_chunk;
-pub use held::{RECORD_FILE_LIMIT, allocate_held, open_held, put_held};
+pub use held::{RECORD_FILE_LIMIT, open_held, put_held};
 pub use load_fault::LoadFault;
 pub use loaded::{Loaded, load};
 pub use loading::load_into;
-pub use part_putting::put_part;
-pub use put_fault::PutFault;
-pub use reaching::{Reached, load_within};
-pub use whole_file::{LAYOUT_FILE_LIMIT, read_behind, read_whole};
+pub use portion::Portion;
+pub use putting::put_stretch;
+pub use reached::Reached;
+pub use room::Room;
+pub use stretch::Stretch;
+pub use whole_file::{LAYOUT_FILE_LIMIT, read_rest, read_whole};

@@ -1,3 +1,5 @@
+use fm_base::Refusal;
+
 /// Why a file wasn't loaded.
 #[derive(Clone, Copy, Debug, PartialEq, Eq)]
 pub enum LoadFault {
@@ -9,6 +11,6 @@ pub enum LoadFault {
     TooLong,
     /// Memory ran out.
     Memory,
-    /// A step found no free page for the arena. It comes only of loads into an arena.
-    PoolFull,
+    /// The arena refused room for the file, or was closed.
+    Refused(Refusal),
 }

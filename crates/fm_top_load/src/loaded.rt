@@ -8,7 +8,7 @@ ghost use Rattle.fm_segment.specs.Alone.{Means};
 ghost use Rattle.fm_text.specs.Texts.{IsTextOf, text_bytes};
 ghost use Rattle.fm_top_load.specs.Held.{IsReady, loaded_in};
 ghost use Rattle.fm_top_load.specs.Reading.{ReadsSome};
-ghost use Rattle.fm_top_load.specs.Whole.{IsWhole, TellsLoad};
+ghost use Rattle.fm_top_load.specs.Whole.{ByReads, IsWhole, TellsLoad};
 
 use crate::held::{RECORD_FILE_LIMIT, open_held};
 use crate::load_fault::LoadFault;
@@ -104,10 +104,10 @@ pub fn load<R: Wait, F: Files>(
 ) -> Result<Loaded, LoadFault>
     ensures whole { IfOk result (IsWhole (F.view files.old).holds name.now) }
     ensures short { IfOk result (λ bytes. length bytes ≤ RECORD_FILE_LIMIT) }
-    // It reads on where the bytes of its last read end, in pieces, and up to the first byte past the limit at most.
+    // It reads on where the bytes of its last read end, in portions, and up to the first byte past the limit at most.
     ensures reads { ReadsSome (F.view files.old).reads (F.view files.new).reads name.now
         RECORD_FILE_LIMIT }
-    ensures tells { TellsLoad ⊥ RECORD_FILE_LIMIT (F.view files.old) (F.view files.new) name.now
+    ensures tells { TellsLoad ByReads RECORD_FILE_LIMIT (F.view files.old) (F.view files.new) name.now
         (result_err result) }
 {
     let mut memory = Mono::make(alloc, RECORD_FILE_LIMIT);
@@ -116,6 +116,8 @@ pub fn load<R: Wait, F: Files>(
     };
     match load_into(rt, alloc, files, name, &mut memory, arena) {
         Ok(segment) => Ok(Loaded::of(memory, segment)),
+        // An arena of one thread refuses room for want of memory alone.
+        Err(LoadFault::Refused(_)) => Err(LoadFault::Memory),
         Err(fault) => Err(fault),
     }
 }

@@ -1,17 +1,17 @@
-ghost use Rattle.std.specs.Prelude.{◌≡◌, ◌≢◌, ◌↔◌, ◌+◌, length, IfOk, IfErr};
+ghost use Rattle.std.specs.Prelude.{IfOk, IfErr};
 ghost use Rattle.std.specs.Result.{result_err};
-ghost use Rattle.fm_io.specs.Files.{AreBytesFrom};
-ghost use Rattle.fm_io.specs.Reads.{ReadsFile};
-ghost use Rattle.fm_top_load.specs.Held.{FoundFull, HasRoom, loaded_in};
-ghost use Rattle.fm_top_load.specs.Loading.{CanLoadOn, HasBegun, HasLoaded, LoadsOn};
-ghost use Rattle.fm_top_load.specs.Reading.{GoesBy, ReadsSome, piece_limit};
-ghost use Rattle.fm_top_load.specs.Whole.{IsWhole, TakesChunk, TellsLoad};
+ghost use Rattle.fm_top_load.specs.Held.{HasRoom};
+ghost use Rattle.fm_top_load.specs.Loading.{HasBegun, HasLoaded, Stops};
+ghost use Rattle.fm_top_load.specs.Reading.{ReadsSome};
+ghost use Rattle.fm_top_load.specs.Whole.{TellsLoad};
 
-use crate::buffers::zero_bytes;
-use crate::chunk::{CHUNK, read_chunk};
-use crate::held::{RECORD_FILE_LIMIT, loaded_size, none_loaded, push_held};
+use crate::held::RECORD_FILE_LIMIT;
 use crate::load_fault::LoadFault;
-use fm_base::{ArenaId, Memory, Refusal};
+use crate::portion::Portion;
+use crate::putting::put_stretch;
+use crate::room::Room;
+use crate::stretch::Stretch;
+use fm_base::{ArenaId, Memory};
 use fm_io::Files;
 use fm_segment::Segment;
 use std::alloc::Global;
@@ -33,90 +33,21 @@ pub fn load_into<R: Wait, F: Files, M: Memory>(
     ensures loaded { IfOk result
         (HasLoaded (F.view files.old).holds name.now (M.view m.old) (M.view m.new) arena) }
     ensures left { IfErr result (λ _. HasBegun (M.view m.old) (M.view m.new) arena) }
-    // It reads on where the bytes of its last read end, in pieces, and up to the first byte past the limit at most.
+    // It reads on where the bytes of its last read end, in portions, and up to the first byte past the limit at most.
     ensures reads { ReadsSome (F.view files.old).reads (F.view files.new).reads name.now
         RECORD_FILE_LIMIT }
-    ensures tells { TellsLoad (FoundFull M.nature (M.view m.old) (M.view m.new)) RECORD_FILE_LIMIT
+    ensures tells { TellsLoad (Stops M.nature (M.view m.old) (M.view m.new)) RECORD_FILE_LIMIT
         (F.view files.old) (F.view files.new) name.now (result_err result) }
 {
-    let Ok(mut bytes) = zero_bytes(alloc, CHUNK) else {
+    let Ok(mut portion) = Portion::none(alloc) else {
         return Err(LoadFault::Memory);
     };
-    let mut segment = none_loaded(m, arena);
-    match load_pieces(rt, files, name, &mut bytes, m, &mut segment) {
-        Ok(()) => Ok(segment),
+    let stretch = Stretch::whole(name, RECORD_FILE_LIMIT);
+    if let Err(fault) = portion.read(files, &stretch) {
+        return Err(fault);
+    }
+    match put_stretch(rt, files, &stretch, &mut portion, m, Room::Growing(arena)) {
+        Ok(reached) => Ok(Segment::of(arena, 0, reached.count)),
         Err(fault) => Err(fault),
-    }
-}
-
-/// Reads the file from where what is loaded ends, and puts it behind that, piece by piece.
-fn load_pieces<R: Wait, F: Files, M: Memory>(
-    rt: &R,
-    files: &mut F,
-    name: &str,
-    bytes: &mut [u8],
-    m: &mut M,
-    segment: &mut Segment,
-) -> Result<(), LoadFault>
-    requires can { CanLoadOn bytes.old (M.view m.old) segment.old }
-    requires first { AreBytesFrom (F.view files.old).holds name.now 0
-        (loaded_in (M.view m.old) segment.old) }
-    ensures loads { LoadsOn (M.view m.old) (M.view m.new) segment.old segment.new }
-    ensures whole { IfOk result (λ _.
-        IsWhole (F.view files.old).holds name.now (loaded_in (M.view m.new) segment.new)) }
-    ensures reads { ReadsFile (F.view files.old).reads (F.view files.new).reads name.now piece_limit
-        (RECORD_FILE_LIMIT + 1) (length (loaded_in (M.view m.old) segment.old)) (λ next. Unit {0}) }
-    ensures tells { TellsLoad (FoundFull M.nature (M.view m.old) (M.view m.new)) RECORD_FILE_LIMIT
-        (F.view files.old) (F.view files.new) name.now (result_err result) }
-{
-    loop {
-        match load_chunk(rt, files, name, bytes, m, segment) {
-            Ok(true) => return Ok(()),
-            Ok(false) => {}
-            Err(fault) => return Err(fault),
-        }
-    }
-}
-
-/// Reads the next bytes of the file, with room for them, behind those that are loaded.
-/// Answers whether the file ended with them.
-fn load_chunk<R: Wait, F: Files, M: Memory>(
-    rt: &R,
-    files: &mut F,
-    name: &str,
-    bytes: &mut [u8],
-    m: &mut M,
-    segment: &mut Segment,
-) -> Result<bool, LoadFault>
-    requires { CanLoadOn bytes.old (M.view m.old) segment.old }
-    ensures buffer { length bytes.new ≡ CHUNK }
-    ensures loads { LoadsOn (M.view m.old) (M.view m.new) segment.old segment.new }
-    ensures took { IfOk result (TakesChunk RECORD_FILE_LIMIT (F.view files.old).holds name.now
-        (loaded_in (M.view m.old) segment.old) (loaded_in (M.view m.new) segment.new)) }
-    ensures reads { ReadsFile (F.view files.old).reads (F.view files.new).reads name.now piece_limit
-        (RECORD_FILE_LIMIT + 1) (length (loaded_in (M.view m.old) segment.old))
-        (λ next. IfOk result (λ ended. GoesBy ended (length (loaded_in (M.view m.new) segment.new)) next)) }
-    ensures tells { TellsLoad (FoundFull M.nature (M.view m.old) (M.view m.new)) RECORD_FILE_LIMIT
-        (F.view files.old) (F.view files.new) name.now (result_err result) }
-{
-    let at = loaded_size(m, segment);
-    let chunk = match read_chunk(files, name, RECORD_FILE_LIMIT, at, bytes) {
-        Ok(chunk) => chunk,
-        Err(fault) => return Err(fault),
-    };
-    match push_held(rt, m, segment, &bytes[..chunk.count]) {
-        Ok(()) => Ok(chunk.ended),
-        Err(refusal) => Err(fault_of(refusal)),
-    }
-}
-
-/// Why nothing was loaded where bytes that fit weren't given.
-fn fault_of(refusal: Refusal) -> LoadFault
-    ensures full { (result ≡ LoadFault.PoolFull) ↔ (refusal ≡ Refusal.PoolFull) }
-    ensures other { result ≢ LoadFault.PoolFull → result ≡ LoadFault.Memory }
-{
-    match refusal {
-        Refusal::PoolFull => LoadFault::PoolFull,
-        _ => LoadFault::Memory,
     }
 }

@@ -1,48 +1,36 @@
--- A pool's first pass that reads a file into an arena, piece by piece.
-use Rattle.std.proofs.Common.{◌≡◌, ℕ, ◌+◌, ◌≤◌, Bool, true, false, Option, List, [], length, take, Ok, refl, ap, sym, ◌∙◌, subst, ⊎_elim, arith}
-use Rattle.std.{specs.Prelude.{◌⊎◌}, proofs.lemmas.List.{length-take-le, take-take}}
-use Rattle.fm_base.specs.{declared.{arena_id.ArenaId.{ArenaId}, caller.Caller.{Caller}}, Arenas.{State, arena_of}, Calls.{Entry}, Histories.{state_after}}
-use Rattle.fm_base.specs.View.{given_in}
+-- A pool's first pass that reads a file into an arena, portion by portion.
+use Rattle.std.proofs.Common.{◌≡◌, ℕ, ◌+◌, ◌<◌, ◌≤◌, Bool, true, false, Option, List, [], length, take, Ok, refl, ap, sym, ◌∙◌, subst, ⊎_elim, arith, length-append}
+use Rattle.std.{specs.Prelude.{◌⊎◌}, proofs.lemmas.List.{take-take}}
+use Rattle.fm_base.specs.{declared.{arena_id.ArenaId.{ArenaId}, caller.Caller.{Caller}, kind.Kind.TheVariants.{Shared}, refusal.Refusal.{Refusal}}, Arenas.{State, arena_of}, Calls.{Entry}}
+use Rattle.fm_base.specs.{Histories.{state_after}, Outcomes.{Nature}, View.{Did, given_in}}
 use Rattle.fm_base_bytes.specs.Words.{bytes_in}
-use Rattle.fm_segment_access.specs.Alone.{bytes_of_arena}
+use Rattle.fm_base_bytes.specs.Bytes.{AreBytes}
+use Rattle.fm_segment_access.specs.{Alone.{bytes_of_arena, with_bytes}, Runs.{DoesPutAll}}
 use Rattle.fm_segment_laws.proofs.{Putting.{put_all_stays}, Staying.{StayBelow, stay_append}}
 use Rattle.fm_rule_calls.specs.Told.{view_of_pass}
 use Rattle.fm_gate.specs.Needs.{IsOutside}
-use Rattle.fm_io.specs.{Files.{Contents, AreBytesFrom}, Reads.{Read, Next, At}}
-use Rattle.fm_top_load.specs.{Filling.{Puts, no_run, run}, Held.{IsHeld}, Limits.{record_file_limit}, declared.chunk.Chunk.{Chunk}}
-use Rattle.fm_top_load.specs.declared.reaching.Reached.{Reached, TheVariants.{End, Full}}
-use Rattle.fm_top_load.specs.Reached.{CanReadBehind, GoesBeyond, HasFirst, HasWhole, IsNext, PutsWithin, Reaches}
-use Rattle.fm_top_load.{specs.{Reading.{GoesBy, ReadsBehind, ReadsSome, ReadsUpTo, piece_limit}, Whole.{IsWhole}}, proofs.Following.{chunk_reads, reads_then}}
+use Rattle.fm_io.specs.{Files.{Contents, AreBytesFrom, EndsBefore}}
+use Rattle.fm_top_load.specs.{Filled.{Fills, HoldsRoom}, Held.{IsHeld, PutsHeld}, Limits.{record_file_limit}, Portions.{PortionView}, Putting.{ArePut, PutsStretch, none_put, put_more}}
+use Rattle.fm_top_load.specs.{Whole.{ByReads, IsCut, IsPortion, IsWhole}, declared.{load_fault.LoadFault.{LoadFault, TheVariants.{Missing, Failed, TooLong, Memory, Refused}}, reached.Reached.{Reached}}}
+use Rattle.fm_top_load.specs.declared.{room.Room.TheVariants.{Given}, stretch.Stretch.{Stretch}}
+use Rattle.fm_top_load.proofs.{FileBytes.{first_to_last}}
 use Rattle.fm_rule_facts.specs.Views.{View, IsKnown, IsSound, limit_of, state_in}
 use Rattle.fm_records.{proofs.AnsweringBytes.{length-places, places_have}, specs.Alone.{bytes_at_places}}
 use Rattle.fm_rule.specs.{declared.pool.Pool.{Pool}, Finishing.{FinishedView, Finishes}, GivenBytes.{given_bytes, state_of}, Passes.{IsOf}}
 use Rattle.fm_segment.specs.Region.{Region, region_of}
 use Rattle.fm_words.specs.declared.shape.Shape.{Shape}
-use Rattle.fm_top_pooled.specs.Stocked.{HasRoomIn, HoldsWhole, IsLone, IsMadeFor, IsStock, ReadsIn, bytes_in_pool}
-use Rattle.fm_top_pooled.proofs.{Filling.{held_room, only_on, stay_lone}, Opening.{knows_none}}
+use Rattle.fm_top_pooled.specs.Stocked.{HoldsFirst, HoldsWhole, IsLone, IsMadeFor, IsStock, PutsFile, bytes_in_pool}
+use Rattle.fm_top_pooled.proofs.{Filling.{bytes_stand, held_room, only_on, put_lone, stay_lone}, Opening.{knows_none}}
 
 -- ---- runs of bytes
 
--- Runs that are put within some room stay below it.
-pub puts_stay : (c : Caller) (a : ArenaId) (room : ℕ) (own : List Entry) → Puts c a room own → StayBelow a room own
-puts_stay c a room own no_run = tt
-puts_stay c a room own (run place bytes before now puts are fits does) =
-    stay_append a room before now (puts_stay c a room before puts) (put_all_stays c a room place bytes (Ok tt) now are fits does)
-
--- The arena has the room still behind them.
-pub room_still : (pool : Pool) (p m q r : View) (a : ArenaId) (room : ℕ) → HasRoomIn room pool p a → m ≡ p
-    → PutsWithin (view_of_pass m) (view_of_pass q) a room → r ≡ q → (IsOf pool q → IsOutside pool r) → IsSound r → HasRoomIn room pool r a
-room_still pool p m q r a room h at puts is outside sound =
-    let all = h.given in
-    let did = puts.did in
-    record {
-      lone = stay_lone pool p m q r a room did.own h.lone at did.makes (puts_stay m.caller a room did.own did.does) (omega (arith, all)) is outside sound;
-      held = subst (λ (v : View). IsHeld (view_of_pass v) a) (sym is) puts.still;
-      given = ap (λ (v : View). given_in (view_of_pass v) a) is ∙ puts.given ∙ ap (λ (v : View). given_in (view_of_pass v) a) at ∙ h.given;
-      limit = h.limit;
-      shared = h.shared;
-      only = λ b k. h.only b (sym ((only_on p m q r a at puts.elsewhere is).arenas b) ∙ k);
-    }
+-- Portions that are put behind one another stay below where they end.
+pub puts_stay : (c : Caller) (a : ArenaId) (end : ℕ) (bytes : List ℕ) (own : List Entry) → ArePut c (Given a) bytes own → length bytes ≤ end → StayBelow a end own
+puts_stay c a end bytes own none_put within = tt
+puts_stay c a end bytes own (put_more all run before last first are does) within =
+    let long = length-append all run in
+    stay_append a end before last (puts_stay c a end all before first (omega (arith, long, within)))
+    (put_all_stays c a end (length all) run (Ok tt) last are (omega (arith, long, within)) does)
 
 -- ---- what is known
 
@@ -50,89 +38,167 @@ room_still pool p m q r a room h at puts is outside sound =
 pub one_known : (p q : View) (a : ArenaId) → p.seen ≡ [] → ((b : ArenaId) → IsKnown q b → (b ≡ a) ⊎ IsKnown p b) → (b : ArenaId) → IsKnown q b → b ≡ a
 one_known p q a none only b known = ⊎_elim (λ (e : b ≡ a). e) (λ (was : IsKnown p b). absurd (knows_none p b none was)) (only b known)
 
--- ---- how far a file was read
+-- ---- a stock
 
-module _ {told : Option Contents} {name : List ℕ} {room count : ℕ} {buffer : List ℕ} {pool : Pool} {a : ArenaId} {p : View} {r : Reached} where
-  pub ended : r ≡ End count → ReadsIn told name room buffer pool a p r → HasWhole told name room count (bytes_of_arena (state_in p) a)
-  ended is reads = subst (λ (x : Reached). Reaches told name room buffer (bytes_of_arena (state_in p) a) x) is reads.reached
-
-  pub filled : {chunk : Chunk} → r ≡ Full count chunk → ReadsIn told name room buffer pool a p r
-      → HasFirst told name room count (bytes_of_arena (state_in p) a) buffer chunk
-  filled is reads = subst (λ (x : Reached). Reaches told name room buffer (bytes_of_arena (state_in p) a) x) is reads.reached
-
--- ---- what stands in the arena
-
--- the arena has bytes for all its room
-has_room : {room : ℕ} {pool : Pool} {p : View} {a : ArenaId} (count : ℕ) → HasRoomIn room pool p a → count ≤ room
-    → count ≤ length (bytes_of_arena (state_in p) a)
-has_room {room} {pool} {p} {a} count h within =
-    let limit : limit_of p.shape ≡ limit_of pool.shape = ap limit_of h.lone.outside.of.1 in
-    let all = h.limit in
-    held_room p a count h.held (omega (arith, limit, all, within))
-
--- so many of its first bytes are a stock
-stands : {room arenas : ℕ} {pool : Pool} {p : View} {a : ArenaId} (s : Region) (count : ℕ) → HasRoomIn room pool p a → IsMadeFor arenas pool.shape
-    → count ≤ room → s ≡ region_of a 0 count → IsStock arenas pool p s
-stands {room} {arenas} {pool} {p} {a} s count h made within is =
-    let given = h.given in
-    subst (λ (r : Region). IsStock arenas pool p r) (sym is) (record {
+-- so many of the bytes that an arena has given are one
+pub stock_is : {pool : Pool} {p : View} {a : ArenaId} (s : Region) (count : ℕ) → IsLone pool p → IsHeld (view_of_pass p) a → count ≤ given_in (view_of_pass p) a
+    → count ≤ limit_of pool.shape → a.kind ≡ Shared → ((b : ArenaId) → IsKnown p b → b ≡ a) → IsMadeFor pool.shape.slots pool.shape → s ≡ region_of a 0 count
+    → IsStock pool p s
+stock_is {pool} {p} {a} s count lone held given room shared only made is =
+    subst (λ (r : Region). IsStock pool p r) (sym is) (record {
       stocked = record {
-        outside = h.lone.outside;
-        sound = h.lone.sound;
-        whole = h.lone.whole;
-        tidy = h.lone.tidy;
+        outside = lone.outside;
+        sound = lone.sound;
+        whole = lone.whole;
+        tidy = lone.tidy;
         start = refl;
-        known = record { arena = h.held.known; given = omega (arith, given, within) };
-        alive = h.held.alive;
-        shared = h.shared;
-        passes = ap (λ (z : Shape). z.passes) h.lone.outside.of.1 ∙ made.passes;
+        known = record { arena = held.known; given = omega (arith, given) };
+        alive = held.alive;
+        shared = shared;
+        passes = ap (λ (z : Shape). z.passes) lone.outside.of.1 ∙ made.passes;
       };
-      lone = h.lone;
-      only = h.only;
+      lone = lone;
+      held = held;
+      room = room;
+      only = only;
       made = made;
     })
 
 -- and these are its bytes
-first_bytes : {room : ℕ} {pool : Pool} {p : View} {a : ArenaId} (s : Region) (count : ℕ) → HasRoomIn room pool p a → count ≤ room → s ≡ region_of a 0 count
-    → bytes_in_pool p s ≡ take count (bytes_of_arena (state_in p) a)
+first_bytes : {pool : Pool} {p : View} {a : ArenaId} (s : Region) (count : ℕ) → IsLone pool p → IsHeld (view_of_pass p) a → count ≤ limit_of pool.shape
+    → s ≡ region_of a 0 count → bytes_in_pool p s ≡ take count (bytes_of_arena (state_in p) a)
 unfolding bytes_in_pool
-first_bytes {room} {pool} {p} {a} s count h within is =
-    let fits = has_room count h within in
+first_bytes {pool} {p} {a} s count lone held room is =
+    let limit : limit_of p.shape ≡ limit_of pool.shape = ap limit_of lone.outside.of.1 in
+    let fits = held_room p a count held (omega (arith, limit, room)) in
     ap (bytes_at_places (state_in p)) is ∙ places_have (state_in p) (region_of a 0 count) (omega (arith, fits))
 
--- of which there are so many
-count_stands : {a : ArenaId} (p : View) (s : Region) (count limit : ℕ) → s ≡ region_of a 0 count → count ≤ limit → length (bytes_in_pool p s) ≤ limit
+pub count_stands : (p : View) (s : Region) → length (bytes_in_pool p s) ≡ s.size
 unfolding bytes_in_pool
-count_stands p s count limit is within =
-    let all : length (bytes_at_places (state_in p) s) ≡ count = length-places (state_in p) s ∙ ap (λ (r : Region). r.size) is in
-    subst (λ (n : ℕ). n ≤ limit) (sym all) within
+count_stands p s = length-places (state_in p) s
 
--- a file that was read whole into the arena is a stock of it
-pub whole_stands : {told : Option Contents} {name : List ℕ} {room arenas : ℕ} {pool : Pool} {p : View} {a : ArenaId} (s : Region) (count : ℕ)
-    {buffer : List ℕ} {r : Reached} → ReadsIn told name room buffer pool a p r → r ≡ End count → IsMadeFor arenas pool.shape → s ≡ region_of a 0 count
-    → HoldsWhole arenas told name pool p s
-whole_stands {told} {name} {room} {arenas} {pool} {p} {a} s count reads far made is =
-    let whole = ended far reads in
+-- the arena has given all of it
+given_all : {pool : Pool} {p : View} {s : Region} → IsStock pool p s → s.size ≤ given_in (view_of_pass p) s.arena
+given_all {s = s} stock =
+    let first = ap (λ (r : Region). r.first) stock.stocked.start in
+    let given = stock.stocked.known.given in
+    omega (arith, first, given)
+
+-- there is room for a stretch that is as long
+pub holds_room : {pool : Pool} {p m : View} {s : Region} {a : ArenaId} (stretch : Stretch) → IsStock pool p s → m ≡ p → a ≡ s.arena → stretch.most ≡ s.size
+    → HoldsRoom stretch (view_of_pass m) (Given a)
+holds_room {pool} {p} {m} {s} {a} stretch stock at is all =
+    let room = stock.room in
+    let limit = ap limit_of stock.lone.outside.of.1 in
+    let fits : stretch.most ≤ limit_of p.shape = omega (arith, all, room, limit) in
+    subst (λ (q : View × ArenaId). IsHeld (view_of_pass q.0) q.1 × (stretch.most ≤ limit_of q.0.shape)) (λ i. (sym at i, sym is i)) (stock.held, fits)
+
+-- ---- bytes that fill it
+
+-- between the pass and its memory
+module _ {pool : Pool} {p m q r : View} {s : Region} (stock : IsStock pool p s) (at : m ≡ p) (is : r ≡ q) (outside : IsOf pool q → IsOutside pool r) (sound : IsSound r) where
+  pub stock_filled : (bytes : List ℕ) → length bytes ≡ s.size → Did (view_of_pass m) (view_of_pass q) (DoesPutAll m.caller s.arena 0 bytes (Ok tt)) → AreBytes bytes
+      → PutsHeld (view_of_pass m) (view_of_pass q) s.arena 0 bytes → IsStock pool r s × (bytes_in_pool r s ≡ bytes)
+  stock_filled bytes all did are puts =
+      let a = s.arena in
+      let given = given_all stock in
+      let start : s ≡ region_of s.arena 0 (length bytes) = stock.stocked.start ∙ ap (region_of a 0) (sym all) in
+      let lone = put_lone pool p m q r a bytes stock.lone at did are (omega (arith, all, given)) is outside sound in
+      let held : IsHeld (view_of_pass r) s.arena = subst (λ (v : View). IsHeld (view_of_pass v) a) (sym is) puts.held in
+      let same = ap (λ (v : View). given_in (view_of_pass v) a) is ∙ puts.given ∙ ap (λ (v : View). given_in (view_of_pass v) a) at in
+      let room = stock.room in
+      let limit = ap limit_of stock.lone.outside.of.1 in
+      let old = held_room p a s.size stock.held (omega (arith, room, limit)) in
+      let stand = ap (λ (v : View). bytes_of_arena (state_in v) a) is ∙ puts.stand
+      ∙ ap (λ (v : View). with_bytes (bytes_of_arena (state_in v) a) 0 bytes) at in (
+        stock_is s (length bytes) lone held (omega (arith, same, given, all)) (omega (arith, room, all)) stock.stocked.shared
+            (λ b k. stock.only b (sym ((only_on p m q r a at puts.elsewhere is).arenas b) ∙ k)) stock.made start,
+        bytes_stand r a s (bytes_of_arena (state_in p) a) bytes start stand (omega (arith, old, all)),
+      )
+
+  -- or a stretch of a file, which may be shorter
+  pub stock_put : {nature : Nature} {stretch : Stretch} {told : Option Contents} {first : PortionView} {reached : Reached} (t : Region) → stretch.most ≡ s.size
+      → Did (view_of_pass m) (view_of_pass q) (PutsStretch stretch told m.caller (Given s.arena) first reached)
+      → Fills nature stretch told (view_of_pass m) (view_of_pass q) (Given s.arena) (Ok reached) → t ≡ region_of s.arena 0 reached.count
+      → PutsFile stretch told pool r t reached
+  stock_put {nature} {stretch} {told} {first} {reached} t all did fills here =
+      let a = s.arena in
+      let put = did.does in
+      let count = put.count in
+      let within = put.cut.within in
+      let given = given_all stock in
+      let had : length put.bytes ≤ given_in (view_of_pass p) s.arena = omega (arith, within, all, given) in
+      let lone = stay_lone pool p m q r a (given_in (view_of_pass p) a) did.own stock.lone at did.makes
+      (puts_stay m.caller a (given_in (view_of_pass p) a) put.bytes did.own put.put had) (omega arith) is outside sound in
+      let held : IsHeld (view_of_pass r) s.arena = subst (λ (v : View). IsHeld (view_of_pass v) a) (sym is) fills.held in
+      let same = ap (λ (v : View). given_in (view_of_pass v) a) is ∙ fills.given ∙ ap (λ (v : View). given_in (view_of_pass v) a) at in
+      let room = stock.room in
+      let fits : reached.count ≤ limit_of pool.shape = omega (arith, count, within, all, room) in
+      record {
+        stock = stock_is t reached.count lone held (omega (arith, same, had, count)) fits stock.stocked.shared
+            (λ b k. stock.only b (sym ((only_on p m q r a at fills.elsewhere is).arenas b) ∙ k)) stock.made here;
+        count = ap (λ (x : Region). x.size) here;
+        cut = subst (λ (bs : List ℕ). IsCut stretch.limit stretch.most told stretch.name.now stretch.at bs reached.ended)
+            (sym (first_bytes t reached.count lone held fits here ∙ ap (λ (v : View). take reached.count (bytes_of_arena (state_in v) a)) is)) fills.stand;
+      }
+
+-- ---- what was read
+
+-- all of a file
+pub whole_put : {stretch : Stretch} {told : Option Contents} {arenas : ℕ} {pool : Pool} {p : View} {s : Region} {reached : Reached} → PutsFile stretch told pool p s reached
+    → stretch.at ≡ 0 → stretch.limit ≡ record_file_limit → reached.ended ≡ true → pool.shape.slots ≡ arenas → HoldsWhole arenas told stretch.name.now pool p s
+whole_put {stretch} {told} {p = p} {s = s} put first limit ended slots =
+    let short = put.cut.short in
+    let end : stretch.at + length (bytes_in_pool p s) ≡ length (bytes_in_pool p s) = omega (arith, first) in
     record {
-      stock = stands s count reads.still made whole.within is;
-      whole = subst (λ (bs : List ℕ). IsWhole told name bs) (sym (first_bytes s count reads.still whole.within is)) whole.whole;
-      short = count_stands p s count record_file_limit is whole.short;
+      stock = put.stock;
+      slots = slots;
+      whole = first_to_last told stretch.name.now (bytes_in_pool p s) (subst (λ n. AreBytesFrom told stretch.name.now n (bytes_in_pool p s)) first put.cut.bytes_are)
+          (subst (EndsBefore told stretch.name.now) end (put.cut.ends ended));
+      short = omega (arith, short, limit);
+    }
+
+-- or its first bytes
+pub first_put : {stretch : Stretch} {told now : Option Contents} {pool : Pool} {p : View} {s : Region} {reached : Reached} → PutsFile stretch told pool p s reached
+    → stretch.at ≡ 0 → stretch.limit ≡ record_file_limit → now ≡ told → HoldsFirst now stretch.name.now pool p s
+first_put {stretch} {told} {now} {pool} {p} {s} put first limit same =
+    let short = put.cut.short in
+    subst (λ (x : Option Contents). HoldsFirst x stretch.name.now pool p s) (sym same) (record {
+      stock = put.stock;
+      first = subst (λ n. AreBytesFrom told stretch.name.now n (bytes_in_pool p s)) first put.cut.bytes_are;
+      short = omega (arith, short, limit, count_stands p s);
+    })
+
+is_true : (b : Bool) → ¬ (b ≡ false) → b ≡ true
+is_true true n = refl
+is_true false n = absurd (n refl)
+
+-- behind which nothing came
+pub first_whole : {most : ℕ} {told : Option Contents} {name : List ℕ} {pool : Pool} {p : View} {s : Region} {next : PortionView} → HoldsFirst told name pool p s
+    → IsPortion record_file_limit most told name s.size next → 0 < most → length next.bytes ≡ 0 → HoldsWhole pool.shape.slots told name pool p s
+first_whole {most} {told} {name} {p = p} {s = s} {next = next} h portion some none =
+    let count = count_stands p s in
+    let short = h.short in
+    let ended : next.ended ≡ true = is_true next.ended (λ f. let all = portion.full f in omega (arith, all, none, some)) in
+    let end : s.size + length next.bytes ≡ length (bytes_in_pool p s) = omega (arith, none, count) in
+    record {
+      stock = h.stock;
+      slots = refl;
+      whole = first_to_last told name (bytes_in_pool p s) h.first (subst (EndsBefore told name) end (portion.ends ended));
+      short = omega (arith, short, count);
     }
 
 -- a list of it was put into a pool
-pub list_stands : {told : Option Contents} {name bytes : List ℕ} {arenas : ℕ} {pool : Pool} {p : View} {s : Region} → IsStock arenas pool p s
+pub list_stands : {told : Option Contents} {name bytes : List ℕ} {arenas : ℕ} {pool : Pool} {p : View} {s : Region} → IsStock pool p s → pool.shape.slots ≡ arenas
     → bytes_in_pool p s ≡ bytes → IsWhole told name bytes → length bytes ≤ record_file_limit → HoldsWhole arenas told name pool p s
-list_stands {told} {name} {bytes} {arenas} {pool} {p} {s} stock is whole short = record {
+list_stands {told} {name} {bytes} {arenas} {pool} {p} {s} stock slots is whole short = record {
   stock = stock;
+  slots = slots;
   whole = subst (λ (bs : List ℕ). IsWhole told name bs) (sym is) whole;
   short = subst (λ (bs : List ℕ). length bs ≤ record_file_limit) (sym is) short;
 }
 
 -- ---- a pool that is taken apart
-
--- the room was all that the arena has given
-pub all_room : {room : ℕ} {pool : Pool} {p : View} {a : ArenaId} → HasRoomIn room pool p a → HasRoomIn (given_in (view_of_pass p) a) pool p a
-all_room {room} {pool} {p} {a} h = subst (λ (n : ℕ). HasRoomIn n pool p a) (sym h.given) h
 
 pub state_left : {pool : Pool} {p : View} {f : FinishedView} → IsLone pool p → Finishes pool p f → state_of f ≡ state_in p
 state_left {pool} {p} {f} lone finishes =
@@ -146,44 +212,19 @@ taken p f a count is within =
     ap (λ (s : State). take count (take (arena_of s a).given (bytes_in (arena_of s a).words))) is
     ∙ take-take count (given_in (view_of_pass p) a) (bytes_of_arena (state_in p) a) within
 
--- ---- reads
+-- all of a stock's bytes are taken out
+pub taken_all : {pool : Pool} {p : View} {s : Region} → IsStock pool p s → (f : FinishedView) (a : ArenaId) (n : ℕ) → a ≡ s.arena → n ≡ s.size → state_of f ≡ state_in p
+    → take n (given_bytes f a) ≡ bytes_in_pool p s
+taken_all {pool} {p} {s} stock f a n at size is =
+    ap (λ (q : ℕ × ArenaId). take q.0 (given_bytes f q.1)) (λ i. (size i, at i)) ∙ taken p f s.arena s.size is (given_all stock)
+    ∙ sym (first_bytes s s.size stock.lone stock.held stock.room stock.stocked.start)
 
--- what was read up to a chunk, and then what is behind it
-reads_on : (ended : Bool) (old mid new : Option (List Read)) (name : List ℕ) (place : ℕ)
-    → ReadsUpTo old mid name record_file_limit (λ next. GoesBy ended place next) → ReadsBehind ended mid new name place
-    → ReadsSome old new name record_file_limit
-reads_on true old mid new name place first behind =
-    subst (λ (r : Option (List Read)). ReadsSome old r name record_file_limit) (sym (behind.none refl))
-    (chunk_reads {Goes = λ next. GoesBy true place next} {Says = λ next. Unit {0}} first refl (λ next goes. tt))
-reads_on false old mid new name place first behind =
-    reads_then {Goes = λ next. Unit {0}} {Says = λ next. Unit {0}}
-    (chunk_reads {Goes = λ next. GoesBy false place next} {Says = λ next. next ≡ At place} first refl (λ next goes. goes.1 refl))
-    (behind.rest refl) (λ next goes. tt)
+-- ---- a fault
 
--- A file that goes on behind the room, of which these bytes were taken out.
-module _ {was : Option Contents} {name buffer bytes : List ℕ} {room count : ℕ} {pool : Pool} {a : ArenaId} {p : View} {r : Reached} {chunk : Chunk}
-    (far : r ≡ Full count chunk) (reads : ReadsIn was name room buffer pool a p r) (is : bytes ≡ take count (bytes_of_arena (state_in p) a)) where
-  taken_count : length bytes ≡ count
-  taken_count = ap length is ∙ length-take-le count (bytes_of_arena (state_in p) a) (has_room count reads.still (filled far reads).within)
-
-  -- it is read on from there
-  pub next_taken : {told : Option Contents} → told ≡ was → length buffer ≡ piece_limit → CanReadBehind told name bytes buffer chunk
-  next_taken {told} same piece =
-      subst (λ (t : Option Contents). CanReadBehind t name bytes buffer chunk) (sym same) (record {
-        room = piece;
-        first = subst (λ (bs : List ℕ). AreBytesFrom was name 0 bs) (sym is) (filled far reads).first;
-        next = subst (λ (n : ℕ). IsNext record_file_limit was name n buffer chunk) (sym taken_count) (filled far reads).next;
-      })
-
-  -- so it was read up to the chunk, and then what is behind that
-  pub reads_longer : (old mid new : Option (List Read)) → ReadsUpTo old mid name record_file_limit (λ next. GoesBeyond r next)
-      → ReadsBehind chunk.ended mid new name (length bytes + chunk.count) → ReadsSome old new name record_file_limit
-  reads_longer old mid new first behind =
-      reads_on chunk.ended old mid new name (count + chunk.count)
-      (subst (λ (x : Reached). ReadsUpTo old mid name record_file_limit (λ next. GoesBeyond x next)) far first)
-      (subst (λ (n : ℕ). ReadsBehind chunk.ended mid new name (n + chunk.count)) taken_count behind)
-
--- whatever followed
-pub reads_some : {old new : Option (List Read)} {name : List ℕ} {Goes : Next → Type 0} → ReadsUpTo old new name record_file_limit Goes
-    → ReadsSome old new name record_file_limit
-reads_some {Goes = Goes} reads = chunk_reads {Goes = Goes} {Says = λ next. Unit {0}} reads refl (λ next goes. tt)
+-- one that isn't a refusal comes of reads
+pub by_reads : (fault : LoadFault) → ((r : Refusal) → fault ≡ Refused r → ⊥) → ByReads fault
+by_reads Missing not = tt
+by_reads Failed not = tt
+by_reads TooLong not = tt
+by_reads Memory not = tt
+by_reads (Refused r) not = not r refl

@@ -26,8 +26,8 @@ use Rattle.fm_top_pooled.proofs.{Lent.{lent_to_one, parts_within}, Opening.{page
 -- ---- room for counts
 
 -- the pass can open a second arena, where the first one is all that it knows
-pub can_second : {pool : Pool} {q : View} (s : Region) → IsStock 2 pool q s → CanOpenSecond pool q s.arena
-can_second {pool = pool} {q = q} s h =
+pub can_second : {pool : Pool} {q : View} (s : Region) → IsStock pool q s → pool.shape.slots ≡ 2 → CanOpenSecond pool q s.arena
+can_second {pool = pool} {q = q} s h two =
     let shape : q.shape ≡ pool.shape = h.lone.outside.of.1 in
     let same_pages : q.shape.pages ≡ pool.shape.pages = ap (λ (z : Shape). z.pages) shape in
     let same_reach : q.shape.reach ≡ pool.shape.reach = ap (λ (z : Shape). z.reach) shape in
@@ -35,8 +35,8 @@ can_second {pool = pool} {q = q} s h =
     record {
       lone = h.lone;
       only = h.only;
-      slots = ap (λ (z : Shape). z.slots) shape ∙ h.made.slots;
-      more = omega (arith, same_pages, same_reach, pages);
+      slots = ap (λ (z : Shape). z.slots) shape ∙ two;
+      more = omega (arith, same_pages, same_reach, pages, two);
       wide = subst (λ (z : Shape). 256 ≤ z.page_words) (sym shape) h.made.wide;
     }
 

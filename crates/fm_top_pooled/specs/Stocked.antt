@@ -1,13 +1,11 @@
 -- Where the first pass of a pool stands, before bytes are put into an arena of it, and then.
 use Rattle.std.specs.{Prelude.{◌≡◌, ◌⊎◌, ℕ, ◌+◌, ◌<◌, ◌≤◌, true, List, [], ◌∷◌, ◌++◌, Option, Result, IfOk, length}, Result.{result_err}}
 use Rattle.fm_base.specs.{declared.{arena_id.ArenaId.{ArenaId}, kind.Kind.TheVariants.{Shared}}, Arenas.{Alive, arena_of}, Finds.{Gathered}, Histories.{IsTidy}}
-use Rattle.fm_base.specs.View.{given_in}
 use Rattle.fm_rule_calls.specs.Told.{view_of_pass}
 use Rattle.fm_gate.specs.{Learnt.{AllBusy}, Needs.{IsOutside}}
-use Rattle.fm_io.specs.{Files.{Contents}, View.{FilesView}}
-use Rattle.fm_segment_access.specs.Alone.{bytes_of_arena}
-use Rattle.fm_top_load.specs.{declared.reaching.Reached.{Reached}, Held.{HoldsThen, IsEmpty, IsHeld, OnlyIn, names_in, words_at}, Limits.{record_file_limit}}
-use Rattle.fm_top_load.specs.{Reached.{Reaches}, Reading.{ReadsSome}, Whole.{IsWhole, TellsLoad}, declared.load_fault.LoadFault.{LoadFault}}
+use Rattle.fm_io.specs.{Files.{Contents, AreBytesFrom}, View.{FilesView}}
+use Rattle.fm_top_load.specs.{Held.{HoldsThen, IsEmpty, IsHeld, OnlyIn, names_in, words_at}, Limits.{record_file_limit}, Reading.{ReadsSome}}
+use Rattle.fm_top_load.specs.{Whole.{ByReads, IsCut, IsWhole, TellsLoad}, declared.{load_fault.LoadFault.{LoadFault}, reached.Reached.{Reached}, stretch.Stretch.{Stretch}}}
 use Rattle.fm_top_pooled.specs.declared.stock.Stock.{Stock}
 use Rattle.fm_rule_facts.specs.{Loans.{loans_of}, Scarcity.{parts_before}, Views.{View, IsKnown, IsSound, limit_of, state_in, unlent}}
 use Rattle.fm_records.specs.Alone.{bytes_at_places}
@@ -102,35 +100,25 @@ pub record AreArenas (arenas : ℕ) : Type 0 where
 
 -- the pool was made for so many arenas: it has a page for each part of one, and one for another
 pub record IsMadeFor (arenas : ℕ) (z : Shape) : Type 0 where
+  pub are : AreArenas arenas
   pub passes : z.passes ≡ pool_passes
   pub slots : z.slots ≡ arenas
   pub pages : z.pages + 1 ≡ z.reach + arenas
   pub wide : 256 ≤ z.page_words
 
--- the first pass, before another was drawn, knows just this shared arena, which is alive and has given so many bytes
-pub record HasRoomIn (room : ℕ) (pool : Pool) (p : View) (a : ArenaId) : Type 0 where
-  pub lone : IsLone pool p
-  pub held : IsHeld (view_of_pass p) a
-  pub given : given_in (view_of_pass p) a ≡ room
-  pub limit : room ≤ limit_of pool.shape
-  pub shared : a.kind ≡ Shared
-  pub only : (b : ArenaId) → IsKnown p b → b ≡ a
-
--- and its pool was made for so many arenas
-pub record HasRoomAmong (arenas room : ℕ) (pool : Pool) (p : View) (a : ArenaId) : Type 0 where
-  pub room_in : HasRoomIn room pool p a
-  pub made : IsMadeFor arenas pool.shape
-
--- bytes stand alone in a pool that was made for so many arenas
-pub record IsStock (arenas : ℕ) (pool : Pool) (p : View) (s : Region) : Type 0 where
+-- bytes stand alone in a pool: its first pass, before another was drawn, knows just their arena, which it holds
+pub record IsStock (pool : Pool) (p : View) (s : Region) : Type 0 where
   pub stocked : IsStocked pool p s
   pub lone : IsLone pool p
+  pub held : IsHeld (view_of_pass p) s.arena
+  pub room : s.size ≤ limit_of pool.shape
   pub only : (b : ArenaId) → IsKnown p b → b ≡ s.arena
-  pub made : IsMadeFor arenas pool.shape
+  pub made : IsMadeFor pool.shape.slots pool.shape
 
--- and they are those of the whole record file, where the files tell
+-- and they are those of the whole record file, where the files tell, in a pool that was made for so many arenas
 pub record HoldsWhole (arenas : ℕ) (told : Option Contents) (name : List ℕ) (pool : Pool) (p : View) (s : Region) : Type 0 where
-  pub stock : IsStock arenas pool p s
+  pub stock : IsStock pool p s
+  pub slots : pool.shape.slots ≡ arenas
   pub whole : IsWhole told name (bytes_in_pool p s)
   pub short : length (bytes_in_pool p s) ≤ record_file_limit
 
@@ -138,9 +126,16 @@ pub record HoldsWhole (arenas : ℕ) (told : Option Contents) (name : List ℕ) 
 pub record LoadsStock (arenas : ℕ) (old new : FilesView) (name : List ℕ) (result : Result Stock LoadFault) : Type 0 where
   pub holds : IfOk result (λ s. HoldsWhole arenas old.holds name s.pool s.pass s.segment)
   pub reads : ReadsSome old.reads new.reads name record_file_limit
-  pub tells : TellsLoad ⊥ record_file_limit old new name (result_err result)
+  pub tells : TellsLoad ByReads record_file_limit old new name (result_err result)
 
--- a file was read this far into the arena, which has the room still
-pub record ReadsIn (told : Option Contents) (name : List ℕ) (room : ℕ) (buffer : List ℕ) (pool : Pool) (a : ArenaId) (p : View) (r : Reached) : Type 0 where
-  pub still : HasRoomIn room pool p a
-  pub reached : Reaches told name room buffer (bytes_of_arena (state_in p) a) r
+-- a stretch of a file was put where there was room for it: this much is a stock
+pub record PutsFile (stretch : Stretch) (told : Option Contents) (pool : Pool) (p : View) (s : Region) (reached : Reached) : Type 0 where
+  pub stock : IsStock pool p s
+  pub count : s.size ≡ reached.count
+  pub cut : IsCut stretch.limit stretch.most told stretch.name.now stretch.at (bytes_in_pool p s) reached.ended
+
+-- a stock has the first bytes of a record file, where the files tell
+pub record HoldsFirst (told : Option Contents) (name : List ℕ) (pool : Pool) (p : View) (s : Region) : Type 0 where
+  pub stock : IsStock pool p s
+  pub first : AreBytesFrom told name 0 (bytes_in_pool p s)
+  pub short : s.size ≤ record_file_limit

@@ -1,33 +1,25 @@
-ghost use Rattle.std.specs.Prelude.{◌≡◌, ◌+◌, ◌≤◌, length, take, IfOk};
+ghost use Rattle.std.specs.Prelude.{◌≡◌, ◌+◌, ◌≤◌, ◌<◌, length, IfOk};
 ghost use Rattle.std.specs.Result.{result_err};
-ghost use Rattle.fm_segment_access.specs.Alone.{bytes_of_arena};
-ghost use Rattle.fm_base.specs.View.{given_in};
-ghost use Rattle.fm_rule_calls.specs.Told.{view_of_pass};
-ghost use Rattle.fm_top_load.specs.Reached.{CanReadBehind, GoesBeyond};
-ghost use Rattle.fm_top_load.specs.Reading.{ReadsBehind, ReadsSome, ReadsUpTo};
-ghost use Rattle.fm_top_load.specs.Whole.{TellsLoad};
-ghost use Rattle.fm_rule_facts.specs.Views.{state_in};
-ghost use Rattle.fm_top_pooled.specs.Stocked.{AreArenas, HasRoomAmong, HasRoomIn, HoldsWhole, LoadsStock, ReadsIn};
+ghost use Rattle.fm_io.specs.Reads.{ReadsFile};
+ghost use Rattle.fm_top_load.specs.Reading.{GoesBy, ReadsFurther, portion_limit};
+ghost use Rattle.fm_top_load.specs.Whole.{ByReads, CanRead, IsPortion, TellsLoad};
+ghost use Rattle.fm_top_pooled.specs.Stocked.{AreArenas, HoldsFirst, HoldsWhole, IsStock, LoadsStock, PutsFile, bytes_in_pool};
 
-use crate::shape::shape_for;
-use crate::stock::{Stock, stock_of_bytes};
-use crate::stocking::{allocated, opened};
+use crate::stock::{Stock, stock_of_bytes, stock_of_room};
 use crate::wanting::unless_wanting;
 use fm_arena::Shared;
-use fm_base::ArenaId;
 use fm_io::Files;
-use fm_rule::{Pass, Pool};
 use fm_segment::Segment;
 use fm_top_load::{
-    CHUNK, Chunk, LoadFault, RECORD_FILE_LIMIT, Reached, load_within, read_behind, read_whole,
-    zero_bytes,
+    LoadFault, Portion, RECORD_FILE_LIMIT, Reached, Room, Stretch, put_stretch, read_rest,
+    read_whole,
 };
 use std::alloc::{AllocError, Global};
 use std::sync::Wait;
 
 /// Reads a whole record file into a pool for so many arenas.
 ///
-/// Where its size is guessed, the pool is made before the file is read, piece by piece, into it. If it turns out
+/// Where its size is guessed, the pool is made before the file is read, portion by portion, into it. If it turns out
 /// longer, or nothing is guessed, it is read into a list, and the pool is made then. What is read doesn't depend on it.
 pub fn load_stock<R: Wait, F: Files>(
     rt: &R,
@@ -78,168 +70,141 @@ fn load_guessed<R: Wait, F: Files>(
     size: u64,
     arenas: u32,
 ) -> Result<Stock, LoadFault>
+    requires some { 0 < size }
     requires limit { size ≤ RECORD_FILE_LIMIT }
     requires arenas { AreArenas arenas }
     ensures { LoadsStock arenas (F.view files.old) (F.view files.new) name.now result }
 {
-    let Ok(mut buffer) = zero_bytes(alloc, CHUNK) else {
+    let Ok(mut portion) = Portion::none(alloc) else {
         return Err(LoadFault::Memory);
     };
-    let Ok(room) = made(rt, alloc, size, arenas) else {
+    let Ok(room) = stock_of_room(rt, alloc, size, arenas) else {
         return Err(LoadFault::Memory);
     };
-    room.load(rt, alloc, files, name, &mut buffer, arenas)
-}
-
-/// An arena that has given room for so many bytes, alone in its pool.
-#[derive(Drop)]
-struct Room {
-    pool: Pool,
-    pass: Pass,
-    arena: ArenaId,
-    size: u64,
-}
-
-impl Room {
-    /// Reads the file into the arena, or into another pool, where it has no room.
-    fn load<R: Wait, F: Files>(
-        self,
-        rt: &R,
-        alloc: Global,
-        files: &mut F,
-        name: &str,
-        buffer: &mut [u8],
-        arenas: u32,
-    ) -> Result<Stock, LoadFault>
-        requires buffer { length buffer.old ≡ CHUNK }
-        requires room { HasRoomAmong arenas self.size self.pool self.pass self.arena }
-        requires arenas { AreArenas arenas }
-        ensures { LoadsStock arenas (F.view files.old) (F.view files.new) name.now result }
-    {
-        let Room {
-            pool,
-            pass,
-            arena,
-            size,
-        } = self;
-        let (pass, reached) = match read_in(rt, files, name, buffer, &pool, pass, arena, size) {
-            Ok(read) => read,
-            Err(fault) => return Err(fault),
-        };
-        match reached {
-            Reached::End(count) => Ok(Stock {
-                pool,
-                pass,
-                segment: Segment::of(arena, 0, count),
-            }),
-            Reached::Full(count, chunk) => {
-                let Ok(bytes) = taken_out(alloc, pool, pass, arena, count) else {
-                    return Err(LoadFault::Memory);
-                };
-                load_longer(rt, alloc, files, name, buffer, chunk, bytes, arenas)
-            }
-        }
+    let stretch = Stretch {
+        name,
+        limit: RECORD_FILE_LIMIT,
+        at: 0,
+        most: size,
+    };
+    if let Err(fault) = portion.read(files, &stretch) {
+        return Err(fault);
     }
-}
-
-/// A pool for so many arenas, one of which has given so many bytes.
-fn made<R: Wait>(rt: &R, alloc: Global, size: u64, arenas: u32) -> Result<Room, AllocError>
-    requires limit { size ≤ RECORD_FILE_LIMIT }
-    requires arenas { AreArenas arenas }
-    ensures { IfOk result (λ r. HasRoomAmong arenas r.size r.pool r.pass r.arena) }
-{
-    let shape = shape_for(size, arenas);
-    let Ok((pool, mut pass)) = Pool::make(alloc, shape) else {
-        return Err(AllocError);
+    let (stock, reached) = match put_file(rt, files, &stretch, &mut portion, room) {
+        Ok(put) => put,
+        Err(fault) => return Err(fault),
     };
-    let arena = opened(rt, &pool, &mut pass);
-    allocated(rt, &pool, &mut pass, arena, size);
-    Ok(Room {
-        pool,
-        pass,
-        arena,
-        size,
-    })
+    if reached.ended {
+        return Ok(stock);
+    }
+    load_longer(rt, alloc, files, name, &mut portion, stock)
 }
 
-/// Reads the file to the start of the arena, up to its end or to the first chunk that has no room.
-fn read_in<R: Wait, F: Files>(
+/// Puts a stretch of a file, whose first portion was read, where there is room for just that. What was put is the stock
+/// then.
+fn put_file<R: Wait, F: Files>(
     rt: &R,
     files: &mut F,
-    name: &str,
-    buffer: &mut [u8],
-    pool: &Pool,
-    pass: Pass,
-    arena: ArenaId,
-    room: u64,
-) -> Result<(Pass, Reached), LoadFault>
-    requires buffer { length buffer.old ≡ CHUNK }
-    requires room { HasRoomIn room pool.now pass arena }
-    ensures buffer { length buffer.new ≡ CHUNK }
-    ensures read { IfOk result (λ r.
-        ReadsIn (F.view files.old).holds name.now room buffer.new pool.now arena r.0 r.1) }
-    ensures reads { ReadsUpTo (F.view files.old).reads (F.view files.new).reads name.now RECORD_FILE_LIMIT
-        (λ next. IfOk result (λ r. GoesBeyond r.1 next)) }
-    ensures tells { TellsLoad ⊥ RECORD_FILE_LIMIT (F.view files.old) (F.view files.new) name.now
+    stretch: &Stretch<'_>,
+    portion: &mut Portion,
+    room: Stock,
+) -> Result<(Stock, Reached), LoadFault>
+    requires stock { IsStock room.pool room.pass room.segment }
+    requires all { stretch.now.most ≡ room.segment.size }
+    requires some { 0 < stretch.now.most }
+    requires read { CanRead stretch.now.limit stretch.now.at }
+    requires next { IsPortion stretch.now.limit stretch.now.most (F.view files.old).holds stretch.now.name.now
+        stretch.now.at portion.old }
+    ensures put { IfOk result (λ r.
+        PutsFile stretch.now (F.view files.old).holds r.0.pool r.0.pass r.0.segment r.1) }
+    ensures pool { IfOk result (λ r. r.0.pool ≡ room.pool) }
+    ensures reads { ReadsFurther (F.view files.old).reads (F.view files.new).reads stretch.now.name.now
+        stretch.now.limit (GoesBy portion.old.ended (stretch.now.at + length portion.old.bytes))
+        (λ next. IfOk result (λ r. GoesBy r.1.ended (stretch.now.at + r.1.count) next)) }
+    ensures tells { TellsLoad ByReads stretch.now.limit (F.view files.old) (F.view files.new) stretch.now.name.now
         (result_err result) }
 {
-    let mut memory = Shared::new(pool, pass);
-    match load_within(rt, files, name, buffer, &mut memory, arena, room) {
-        Ok(reached) => Ok((memory.into_pass(), reached)),
-        Err(fault) => Err(fault),
-    }
+    let Stock {
+        pool,
+        pass,
+        segment,
+    } = room;
+    let arena = segment.arena();
+    let mut memory = Shared::new(&pool, pass);
+    let reached = match put_stretch(rt, files, stretch, portion, &mut memory, Room::Given(arena)) {
+        Ok(reached) => reached,
+        Err(fault) => return Err(fault),
+    };
+    let stock = Stock {
+        pass: memory.into_pass(),
+        pool,
+        segment: Segment::of(arena, 0, reached.count),
+    };
+    Ok((stock, reached))
 }
 
-/// The first bytes that stand in the arena, whose pool is taken apart.
-fn taken_out(
-    alloc: Global,
-    pool: Pool,
-    pass: Pass,
-    arena: ArenaId,
-    count: u64,
-) -> Result<Vec<u8>, AllocError>
-    requires room { HasRoomIn (given_in (view_of_pass pass) arena) pool pass arena }
-    requires within { count ≤ given_in (view_of_pass pass) arena }
-    ensures { IfOk result (λ bytes. bytes.items ≡ take count (bytes_of_arena (state_in pass) arena)) }
-{
-    let finished = unless_wanting(pool.finish(alloc, pass))?;
-    match finished.bytes_of(alloc, arena) {
-        Ok(Some(mut bytes)) => {
-            bytes.truncate(count as usize);
-            Ok(bytes)
-        }
-        // The arena is alive.
-        Ok(None) => unreachable!(),
-        Err(_) => Err(AllocError),
-    }
-}
-
-/// Reads the rest of a file behind these bytes and the chunk in the buffer, and puts all into a pool.
+/// Reads a file on behind its first bytes. If it ends there they are all, and else the whole file is put into a longer
+/// pool.
 fn load_longer<R: Wait, F: Files>(
     rt: &R,
     alloc: Global,
     files: &mut F,
     name: &str,
-    buffer: &mut [u8],
-    chunk: Chunk,
-    mut bytes: Vec<u8>,
-    arenas: u32,
+    portion: &mut Portion,
+    first: Stock,
 ) -> Result<Stock, LoadFault>
-    requires behind { CanReadBehind (F.view files.old).holds name.now bytes.items buffer.old chunk }
-    requires arenas { AreArenas arenas }
+    requires { HoldsFirst (F.view files.old).holds name.now first.pool first.pass first.segment }
     ensures holds { IfOk result (λ s.
-        HoldsWhole arenas (F.view files.old).holds name.now s.pool s.pass s.segment) }
-    ensures reads { ReadsBehind chunk.ended (F.view files.old).reads (F.view files.new).reads name.now
-        (length bytes.items + chunk.count) }
-    ensures tells { TellsLoad ⊥ RECORD_FILE_LIMIT (F.view files.old) (F.view files.new) name.now
+        HoldsWhole first.pool.shape.slots (F.view files.old).holds name.now s.pool s.pass s.segment) }
+    ensures reads { ReadsFile (F.view files.old).reads (F.view files.new).reads name.now portion_limit
+        (RECORD_FILE_LIMIT + 1) first.segment.size (λ next. Unit {0}) }
+    ensures tells { TellsLoad ByReads RECORD_FILE_LIMIT (F.view files.old) (F.view files.new) name.now
         (result_err result) }
 {
-    match read_behind(files, name, buffer, chunk, &mut bytes) {
+    let rest = Stretch {
+        name,
+        limit: RECORD_FILE_LIMIT,
+        at: first.segment.size(),
+        most: RECORD_FILE_LIMIT + 1,
+    };
+    if let Err(fault) = portion.read(files, &rest) {
+        return Err(fault);
+    }
+    if portion.len() == 0 {
+        return Ok(first);
+    }
+    let arenas = first.pool.shape().slots;
+    let Ok(mut bytes) = take_out(alloc, first) else {
+        return Err(LoadFault::Memory);
+    };
+    match read_rest(files, &rest, portion, &mut bytes) {
         Ok(()) => {}
         Err(fault) => return Err(fault),
     }
     match stock_of_bytes(rt, alloc, bytes, arenas) {
         Ok(stock) => Ok(stock),
         Err(_) => Err(LoadFault::Memory),
+    }
+}
+
+/// The bytes of a stock, whose pool is taken apart.
+fn take_out(alloc: Global, stock: Stock) -> Result<Vec<u8>, AllocError>
+    requires { IsStock stock.pool stock.pass stock.segment }
+    ensures { IfOk result (λ bytes. bytes.items ≡ bytes_in_pool stock.pass stock.segment) }
+{
+    let Stock {
+        pool,
+        pass,
+        segment,
+    } = stock;
+    let finished = unless_wanting(pool.finish(alloc, pass))?;
+    match finished.bytes_of(alloc, segment.arena()) {
+        Ok(Some(mut bytes)) => {
+            bytes.truncate(segment.size() as usize);
+            Ok(bytes)
+        }
+        // The arena is alive.
+        Ok(None) => unreachable!(),
+        Err(_) => Err(AllocError),
     }
 }

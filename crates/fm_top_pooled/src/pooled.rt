@@ -1,7 +1,7 @@
 ghost use Rattle.std.specs.Prelude.{◌≡◌, ◌%◌, ◌≤◌, [], length, IfOk};
 ghost use Rattle.std.specs.Result.{result_err};
 ghost use Rattle.fm_top_load.specs.Reading.{ReadsSome};
-ghost use Rattle.fm_top_load.specs.Whole.{IsWhole, TellsLoad};
+ghost use Rattle.fm_top_load.specs.Whole.{ByReads, IsWhole, TellsLoad};
 ghost use Rattle.fm_top_pooled.specs.Asking.{IsCrew};
 ghost use Rattle.fm_top_pooled.specs.Shown.{ShowsBoth, ShowsQuery};
 ghost use Rattle.fm_top_pooled.specs.Stocked.{IsStocked, bytes_in_pool};
@@ -73,7 +73,7 @@ impl Pooled {
         ensures short { IfOk result (λ pooled. length pooled ≤ RECORD_FILE_LIMIT) }
         ensures reads { ReadsSome (F.view files.old).reads (F.view files.new).reads name.now
             RECORD_FILE_LIMIT }
-        ensures tells { TellsLoad ⊥ RECORD_FILE_LIMIT (F.view files.old) (F.view files.new) name.now
+        ensures tells { TellsLoad ByReads RECORD_FILE_LIMIT (F.view files.old) (F.view files.new) name.now
             (result_err result) }
     {
         match load_stock(rt, alloc, files, name, guess, 1) {

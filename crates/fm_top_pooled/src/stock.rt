@@ -2,10 +2,11 @@ ghost use Rattle.std.specs.Prelude.{◌≡◌, ◌≤◌, length, IfOk};
 ghost use Rattle.fm_top_pooled.specs.Stocked.{AreArenas, IsStock, bytes_in_pool};
 
 use crate::shape::shape_for;
-use crate::stocking::stock;
+use crate::stocking::{give, open_shared};
+use fm_arena::Shared;
 use fm_rule::{Pass, Pool};
 use fm_segment::Segment;
-use fm_top_load::RECORD_FILE_LIMIT;
+use fm_top_load::{RECORD_FILE_LIMIT, put_held};
 use std::alloc::{AllocError, Global};
 use std::sync::Wait;
 
@@ -17,6 +18,32 @@ pub struct Stock {
     pub segment: Segment,
 }
 
+/// Room for so many bytes, in a pool for so many arenas, which has just that.
+pub fn stock_of_room<R: Wait>(
+    rt: &R,
+    alloc: Global,
+    size: u64,
+    arenas: u32,
+) -> Result<Stock, AllocError>
+    requires short { size ≤ RECORD_FILE_LIMIT }
+    requires arenas { AreArenas arenas }
+    ensures stock { IfOk result (λ s. IsStock s.pool s.pass s.segment) }
+    ensures slots { IfOk result (λ s. s.pool.shape.slots ≡ arenas) }
+    ensures size { IfOk result (λ s. s.segment.size ≡ size) }
+{
+    let shape = shape_for(size, arenas);
+    let Ok((pool, mut pass)) = Pool::make(alloc, shape) else {
+        return Err(AllocError);
+    };
+    let arena = open_shared(rt, &pool, &mut pass);
+    give(rt, &pool, &mut pass, arena, size);
+    Ok(Stock {
+        pool,
+        pass,
+        segment: Segment::of(arena, 0, size),
+    })
+}
+
 /// Puts the bytes into a pool for so many arenas, which has just their room, and gives the list back.
 pub fn stock_of_bytes<R: Wait>(
     rt: &R,
@@ -26,17 +53,32 @@ pub fn stock_of_bytes<R: Wait>(
 ) -> Result<Stock, AllocError>
     requires short { length bytes.items ≤ RECORD_FILE_LIMIT }
     requires arenas { AreArenas arenas }
-    ensures stock { IfOk result (λ s. IsStock arenas s.pool s.pass s.segment) }
+    ensures stock { IfOk result (λ s. IsStock s.pool s.pass s.segment) }
+    ensures slots { IfOk result (λ s. s.pool.shape.slots ≡ arenas) }
     ensures bytes { IfOk result (λ s. bytes_in_pool s.pass s.segment ≡ bytes.items) }
 {
-    let shape = shape_for(bytes.len() as u64, arenas);
-    let Ok((pool, pass)) = Pool::make(alloc, shape) else {
-        return Err(AllocError);
-    };
-    let (pass, segment) = stock(rt, &pool, pass, &bytes);
-    Ok(Stock {
+    let stock = stock_of_room(rt, alloc, bytes.len() as u64, arenas)?;
+    Ok(fill(rt, stock, &bytes))
+}
+
+/// Puts as many bytes as there is room for.
+fn fill<R: Wait>(rt: &R, stock: Stock, bytes: &[u8]) -> Stock
+    requires stock { IsStock stock.pool stock.pass stock.segment }
+    requires all { length bytes.now ≡ stock.segment.size }
+    ensures stock { IsStock result.pool result.pass result.segment }
+    ensures pool { result.pool ≡ stock.pool }
+    ensures bytes { bytes_in_pool result.pass result.segment ≡ bytes.now }
+{
+    let Stock {
         pool,
         pass,
         segment,
-    })
+    } = stock;
+    let mut memory = Shared::new(&pool, pass);
+    put_held(rt, &mut memory, segment.arena(), 0, bytes);
+    Stock {
+        pass: memory.into_pass(),
+        pool,
+        segment,
+    }
 }

@@ -1,7 +1,7 @@
 ghost use Rattle.std.specs.Prelude.{◌≡◌, ◌%◌, ◌≤◌, [], length, IfOk};
 ghost use Rattle.std.specs.Result.{result_err};
 ghost use Rattle.fm_top_load.specs.Reading.{ReadsSome};
-ghost use Rattle.fm_top_load.specs.Whole.{IsWhole, TellsLoad};
+ghost use Rattle.fm_top_load.specs.Whole.{ByReads, IsWhole, TellsLoad};
 ghost use Rattle.fm_top_pooled.specs.Asking.{Asked, HasPasses, IsCrew};
 ghost use Rattle.fm_top_pooled.specs.Shown.{ShowsQuery};
 ghost use Rattle.fm_top_pooled.specs.Stocked.{IsStock, IsStocked, bytes_in_pool};
@@ -12,7 +12,7 @@ ghost use Rattle.fm_workers.specs.Counts.{AreCounts, IsTally, listed};
 use crate::finishing::finish;
 use crate::loading::load_stock;
 use crate::stock::Stock;
-use crate::stocking::{allocated, opened};
+use crate::stocking::{give, open_shared};
 use crate::wanting::unless_wanting;
 use fm_io::{Files, Gate};
 use fm_records_query::Query;
@@ -63,7 +63,7 @@ impl PooledWithCounts {
         ensures short { IfOk result (λ pooled. length pooled ≤ RECORD_FILE_LIMIT) }
         ensures reads { ReadsSome (F.view files.old).reads (F.view files.new).reads name.now
             RECORD_FILE_LIMIT }
-        ensures tells { TellsLoad ⊥ RECORD_FILE_LIMIT (F.view files.old) (F.view files.new) name.now
+        ensures tells { TellsLoad ByReads RECORD_FILE_LIMIT (F.view files.old) (F.view files.new) name.now
             (result_err result) }
     {
         match load_stock(rt, alloc, files, name, guess, 2) {
@@ -112,7 +112,8 @@ impl PooledWithCounts {
 
 /// The stock with an arena for counts. It comes last: what the passes add to lies apart from the words that all read.
 fn beside<R: Wait>(rt: &R, stock: Stock) -> PooledWithCounts
-    requires { IsStock 2 stock.pool stock.pass stock.segment }
+    requires stock { IsStock stock.pool stock.pass stock.segment }
+    requires two { stock.pool.shape.slots ≡ 2 }
     ensures { result ≡ bytes_in_pool stock.pass stock.segment }
 {
     let Stock {
@@ -138,8 +139,8 @@ fn with_counts<R: Wait>(rt: &R, pool: &Pool, mut pass: Pass, s: &Segment) -> (Pa
     ensures beside { IsBeside result.0 s.now result.1 }
     ensures none_gathered { result.0.gathered ≡ [] }
 {
-    let arena = opened(rt, pool, &mut pass);
-    allocated(rt, pool, &mut pass, arena, COUNTS_SIZE);
+    let arena = open_shared(rt, pool, &mut pass);
+    give(rt, pool, &mut pass, arena, COUNTS_SIZE);
     (pass, Segment::of(arena, 0, COUNTS_SIZE))
 }
 

@@ -7,7 +7,7 @@ use Rattle.fm_base.specs.Visits.{Acts, Tries, entries_of, hit, looked, missed, v
 use Rattle.fm_base_lists.proofs.Each.{all_both}
 use Rattle.fm_segment_access.specs.{Pieces.{PutsBytes, PutsPiece, ReadsPiece, narrow, whole}, Ranges.{DoesPutBy, Putting}, Runs.{DoesPutAll, PutsMore}}
 use Rattle.fm_segment_access.proofs.Keeping.{IsKept, put_kept}
-use Rattle.fm_top_load.specs.Putting.{ArePut, none_put, put_more}
+use Rattle.fm_top_load.specs.{Putting.{ArePut, none_put, put_more}, declared.room.Room.TheVariants.{Given}}
 
 -- it holds of each call of a visit that reads, or puts bytes into this arena
 pub record IsOfPuts (P : Call → Type 0) (a : ArenaId) : Type 0 where
@@ -74,7 +74,7 @@ module _ (P : Call → Type 0) where
         (λ x. put_kept (are_kept c) a PutsMore (λ y. ⊤) (more_is c) at bytes result own tt x) d
 
     -- Run behind run.
-    pub runs_are : (c : Caller) (bytes : List ℕ) (own : List Entry) → ArePut c a bytes own → AllAre own
+    pub runs_are : (c : Caller) (bytes : List ℕ) (own : List Entry) → ArePut c (Given a) bytes own → AllAre own
     runs_are c bytes own none_put = tt
     runs_are c bytes own (put_more all run before last first are does) =
         all_both (λ e. P e.call) before last (runs_are c all before first) (run_is c (length all) run (Ok tt) last does)
@@ -89,7 +89,7 @@ spared_by_puts id place a other = record {
   leave = λ x. tt;
 }
 
-pub put_elsewhere : (id : ArenaId) (place : ℕ) (a : ArenaId) → a ≢ id → (c : Caller) (bytes : List ℕ) (own : List Entry) → ArePut c a bytes own
+pub put_elsewhere : (id : ArenaId) (place : ℕ) (a : ArenaId) → a ≢ id → (c : Caller) (bytes : List ℕ) (own : List Entry) → ArePut c (Given a) bytes own
     → AllSpare id place own
 put_elsewhere id place a other = runs_are (Spares id place) a (spared_by_puts id place a other)
 

@@ -15,9 +15,9 @@ use Rattle.fm_records_query.specs.Plan.{Plan}
 use Rattle.fm_records.specs.{declared.found.Found.{Found}, Alone.{bytes_at_places}, Answers.{answer}, Few.{AreFew}, Joined.{CanJoin, joined}}
 use Rattle.fm_records.proofs.{AnsweringBytes.{places_have}, Few.{few_join}, Joining.{answer-append}}
 use Rattle.fm_words.specs.declared.shape.Shape.{Shape}
-use Rattle.fm_top_load.specs.{declared.chunk.{Chunk.{Chunk}, Part.{Part}}, Held.{IsHeld, OnlyIn, names_in}, Reached.{IsNextPiece}, Reading.{piece_limit}}
-use Rattle.fm_top_load.specs.Whole.{IsCut, IsWhole}
-use Rattle.fm_top_load.proofs.Chunks.{first_to_last}
+use Rattle.fm_top_load.specs.{declared.{stretch.Stretch.{Stretch}}, Held.{IsHeld, OnlyIn, names_in}, Portions.{PortionView}}
+use Rattle.fm_top_load.specs.Whole.{IsCut, IsPortion, IsWhole}
+use Rattle.fm_top_load.proofs.FileBytes.{first_to_last}
 use Rattle.fm_top_pooled.{specs.{Shown.{AsksWord, IsReadByOther}, Stocked.{IsAlone, IsStockedOf, bytes_in_pool}}, proofs.Filling.{held_room}}
 use Rattle.fm_top_pooled.proofs.Shows.{pooled_is, read_in}
 use Rattle.fm_top_stream.specs.{Chunks.{all_bytes}, Gone.{CanAnswer, CanAsk, CanTakeChunk, GoesByChunk, GoesThrough, GoneSoFar, GoneThrough, HasGone, HasNext}}
@@ -170,8 +170,8 @@ module _ {limit most at : ℕ} {told : Option Contents} {name : List ℕ} {pool 
       let all = fits in
       pooled_is v s ∙ ap (bytes_at_places (state_in v)) is ∙ places_have (state_in v) (region_of x.arena 0 x.chunk.count) (omega (arith, all))
 
-  module _ {passes : ℕ} {part : Part} {y : View} {s : Region} {plan : Plan} {found : List Found} {next : Option Placed}
-      (is : s ≡ region_of x.arena 0 x.chunk.count) (answers : AnswersOn passes part told pool v y s plan found next) where
+  module _ {passes : ℕ} {stretch : Stretch} {y : View} {s : Region} {plan : Plan} {found : List Found} {next : Option Placed}
+      (is : s ≡ region_of x.arena 0 x.chunk.count) (answers : AnswersOn passes stretch told pool v y s plan found next) where
     -- Its arena can be closed.
     pub can_close : CanClose pool y x.arena
     can_close =
@@ -211,7 +211,7 @@ module _ {limit most at : ℕ} {told : Option Contents} {name : List ℕ} {pool 
           let joins = few_join plan (length (all_bytes runs)) s.size was found gone.few answers.few (let n = ap (λ (r : Region). r.size) is in omega (arith, n, small)) in
           let count : length (all_bytes runs) + s.size ≡ length (all_bytes (runs ++ chunk_bytes ∷ [])) =
           ap (λ n. length (all_bytes runs) + n) size ∙ sym (length-append (all_bytes runs) chunk_bytes) ∙ ap length (sym all) in
-          let unknown = unknown_next (λ b. ¬ (IsKnown v b)) (λ n. StandsIn part.limit part.most told part.name.now part.at y n) next answers.stands in
+          let unknown = unknown_next (λ b. ¬ (IsKnown v b)) (λ n. StandsIn stretch.limit stretch.most told stretch.name.now stretch.at y n) next answers.stands in
           let mid : HasGone pool y plan (x.arena ∷ arenas_of next) runs was =
           gone_behind (arenas_of next) gone answers.goes answers.life answers.words answers.names unknown in
           let other : (b : ArenaId) → IsAmong b mid.ids → b ≢ x.arena = λ b i e. mid.apart.0 (subst (λ (a : ArenaId). IsAmong a mid.ids) e i) in
@@ -273,32 +273,31 @@ stands_still {limit} {most} {at} {told} {name} {v = v} {w = w} {x = x} stands ot
       within = stands.within;
     }
 
--- A chunk can be answered over, once the first piece behind it was read.
-pub can_answer : {part : Part} {told now : Option Contents} {threads : ℕ} {p : Plan} {pool : Pool} {g : UnderWay} {x : Placed} {s : Region} {buffer bytes : List ℕ}
-    {first : Chunk} → CanTakeChunk part told threads p pool g x → s ≡ region_of x.arena 0 x.chunk.count → now ≡ told → buffer ≡ bytes
-    → length bytes ≡ piece_limit → IsNextPiece part.limit part.most told part.name.now part.at bytes first
-    → CanAnswer part now threads p pool g.pass s buffer first
-can_answer {part = part} {p = p} {s = s} {first = first} can is same back long next =
+-- A chunk can be answered over, once the first portion behind it was read.
+pub can_answer : {stretch : Stretch} {told now : Option Contents} {threads : ℕ} {p : Plan} {pool : Pool} {g : UnderWay} {x : Placed} {s : Region}
+    {first : PortionView} → CanTakeChunk stretch told threads p pool g x → s ≡ region_of x.arena 0 x.chunk.count → now ≡ told
+    → IsPortion stretch.limit stretch.most told stretch.name.now stretch.at first → CanAnswer stretch now threads p pool g.pass s first
+can_answer {stretch = stretch} {p = p} {s = s} {first = first} can is same next =
     let alone = can.has.gone.gone.alone in
     record {
       asks = can.asks;
       alone = alone;
       stocked = is_stocked alone can.asks.room can.has.stands s is;
       even = (λ j. (is j).size % p.size) ∙ can.even;
-      read = record { room = ap (λ (bs : List ℕ). length bs) back ∙ long; small = can.read.small; short = can.read.short };
-      next = subst (λ (x : Option Contents × List ℕ). IsNextPiece part.limit part.most x.0 part.name.now part.at x.1 first) (λ j. (sym same j, sym back j)) next;
+      read = can.read;
+      next = subst (λ (x : Option Contents). IsPortion stretch.limit stretch.most x stretch.name.now stretch.at first) (sym same) next;
     }
 
-module _ {part : Part} {told : Option Contents} {threads : ℕ} {p : Plan} {pool : Pool} {g : UnderWay} {x : Placed} (can : CanTakeChunk part told threads p pool g x)
+module _ {stretch : Stretch} {told : Option Contents} {threads : ℕ} {p : Plan} {pool : Pool} {g : UnderWay} {x : Placed} (can : CanTakeChunk stretch told threads p pool g x)
     {y z : View} {s : Region} {found : List Found} {next : Option Placed} (is : s ≡ region_of x.arena 0 x.chunk.count)
-    (answers : AnswersOn g.pass.shape.passes part told pool g.pass y s p found next) (closes : Closes pool y z x.arena) where
-  room : part.most ≤ limit_of pool.shape
+    (answers : AnswersOn g.pass.shape.passes stretch told pool g.pass y s p found next) (closes : Closes pool y z x.arena) where
+  room : stretch.most ≤ limit_of pool.shape
   room = can.asks.room
 
   alone : IsAlone g.pass.gathered pool g.pass
   alone = can.has.gone.gone.alone
 
-  stands : StandsIn part.limit part.most told part.name.now can.from g.pass x
+  stands : StandsIn stretch.limit stretch.most told stretch.name.now can.from g.pass x
   stands = can.has.stands
 
   on : CanJoin g.answer found × HasGone pool z p (arenas_of next) (can.has.gone.runs ++ chunk_bytes alone room stands ∷ []) (joined g.answer found)
@@ -315,35 +314,34 @@ module _ {part : Part} {told : Option Contents} {threads : ℕ} {p : Plan} {pool
   next_joins = on.0
 
   -- The next one stands, or the file was gone through.
-  pub goes_by : (h : UnderWay) → h.pass ≡ z → h.answer ≡ joined g.answer found → length h.buffer.items ≡ piece_limit
-      → IfSome next (λ n. x.chunk.ended ≡ false) → GoesByChunk part told p pool h next
-  goes_by h here same buffer more =
+  pub goes_by : (h : UnderWay) → h.pass ≡ z → h.answer ≡ joined g.answer found
+      → IfSome next (λ n. x.chunk.ended ≡ false) → GoesByChunk stretch told p pool h next
+  goes_by h here same more =
       let so_far = can.has.gone in
       let bytes = chunk_bytes alone room stands in
       let count : length bytes ≡ x.chunk.count = long alone room stands in
-      let at : can.from + length bytes ≡ part.at = ap (λ n. can.from + n) count ∙ can.at in
+      let at : can.from + length bytes ≡ stretch.at = ap (λ n. can.from + n) count ∙ can.at in
       let gone : HasGone pool h.pass p (arenas_of next) (so_far.runs ++ bytes ∷ []) h.answer =
       subst (λ (v : View). HasGone pool v p (arenas_of next) (so_far.runs ++ bytes ∷ []) h.answer) (sym here)
       (subst (HasGone pool z p (arenas_of next) (so_far.runs ++ bytes ∷ [])) (sym same) on.1) in
       record {
         on = on_next next gone answers.stands more;
         ends = λ none. gone_last so_far (subst (λ (n : Option Placed). HasGone pool h.pass p (arenas_of n) (so_far.runs ++ bytes ∷ []) h.answer) none gone) stands.cut
-            (subst (EndsBefore told part.name.now) (sym at) (answers.ended none)) (let some = stands.some in omega (arith, count, some)) can.asks.sized can.asks.even
+            (subst (EndsBefore told stretch.name.now) (sym at) (answers.ended none)) (let some = stands.some in omega (arith, count, some)) can.asks.sized can.asks.even
             (ap (λ n. n % p.size) count ∙ can.even);
       }
     where
       on_next : (n : Option Placed) → HasGone pool h.pass p (arenas_of n) (can.has.gone.runs ++ chunk_bytes alone room stands ∷ []) h.answer
-          → IfSome n (λ k. (¬ (IsKnown g.pass k.arena)) × StandsIn part.limit part.most told part.name.now part.at y k) → IfSome n (λ k. x.chunk.ended ≡ false)
-          → IfSome n (HasNext part.limit part.most told part.name.now part.at p pool h)
+          → IfSome n (λ k. (¬ (IsKnown g.pass k.arena)) × StandsIn stretch.limit stretch.most told stretch.name.now stretch.at y k) → IfSome n (λ k. x.chunk.ended ≡ false)
+          → IfSome n (HasNext stretch.limit stretch.most told stretch.name.now stretch.at p pool h)
       on_next None gone new more = tt
       on_next (Some k) gone new more =
           let count : length (chunk_bytes alone room stands) ≡ x.chunk.count = long alone room stands in
-          let at : can.from + length (chunk_bytes alone room stands) ≡ part.at = ap (λ n. can.from + n) count ∙ can.at in
+          let at : can.from + length (chunk_bytes alone room stands) ≡ stretch.at = ap (λ n. can.from + n) count ∙ can.at in
           let other : k.arena ≢ x.arena = λ e. new.0 (subst (λ (a : ArenaId). IsKnown g.pass a) (sym e) stands.held.known) in
           record {
-            buffer = buffer;
-            gone = subst (λ n. GoneSoFar told part.name.now part.most n pool h.pass p (k.arena ∷ []) h.answer) at (gone_more can.has.gone gone stands.cut more);
-            stands = subst (λ (v : View). StandsIn part.limit part.most told part.name.now part.at v k) (sym here)
+            gone = subst (λ n. GoneSoFar told stretch.name.now stretch.most n pool h.pass p (k.arena ∷ []) h.answer) at (gone_more can.has.gone gone stands.cut more);
+            stands = subst (λ (v : View). StandsIn stretch.limit stretch.most told stretch.name.now stretch.at v k) (sym here)
                 (stands_still new.1 other closes.goes answers.goes.alone closes.elsewhere);
           }
 

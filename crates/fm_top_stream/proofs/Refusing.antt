@@ -11,7 +11,7 @@ use Rattle.fm_rule_facts.specs.Views.{View, limit_of, state_in}
 use Rattle.fm_rule.specs.declared.pool.Pool.{Pool}
 use Rattle.fm_segment.specs.Region.{Region}
 use Rattle.fm_segment_access.specs.{Ranges.{DoesPutBy, EndsPutting, Putting, putting}, Runs.{DoesPutAll, PutsMore}}
-use Rattle.fm_top_load.specs.Putting.{StopsPutting}
+use Rattle.fm_top_load.specs.{Putting.{StopsPutting}, declared.room.Room.TheVariants.{Given}}
 use Rattle.fm_top_pooled.proofs.{Crews.{Touches, not_stopped}, Shows.{NoneMayAdd}}
 use Rattle.fm_workers.specs.Beside.{AskedBeside}
 use Rattle.fm_workers_crew.specs.Crew.{callers}
@@ -65,7 +65,7 @@ module _ {passes most : ℕ} {pool : Pool} {p m q : View} {s : Region} {plan : P
     (w : AwaitsBeside passes most pool p m s b) where
   -- Nobody shuts the arena, so the first pass is let in each time.
   pub never_refused : {Acts : List Entry → Type 0} {result : Result (List Answer) Refusal} (r : Refusal)
-      (asked : AskedBeside Acts threads m q plan s result) → ((own : List Entry) → Acts own → StopsPutting m.caller b r own) → ⊥
+      (asked : AskedBeside Acts threads m q plan s result) → ((own : List Entry) → Acts own → StopsPutting m.caller (Given b) r own) → ⊥
   never_refused r asked refuses =
       let c = m.caller in
       let more = asked.crew.more in

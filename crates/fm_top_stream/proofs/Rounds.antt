@@ -1,5 +1,5 @@
--- A pass that draws a crew for the segment, and puts the next part of the file into another arena while the crew answers.
-use Rattle.std.proofs.Common.{◌≡◌, ◌≢◌, ℕ, ◌≤◌, Bool, true, false, List, [], ◌∷◌, ◌++◌, length, take, Option, Result, Ok, cond, refl, ap, sym, ◌∙◌, subst, inl, inr, ⊎_elim, arith, length-append}
+-- A pass that draws a crew for the segment, and puts the next stretch of the file into another arena while the crew answers.
+use Rattle.std.proofs.Common.{◌≡◌, ◌≢◌, ℕ, ◌<◌, ◌≤◌, true, false, List, [], ◌∷◌, ◌++◌, length, take, Option, Result, Ok, refl, ap, sym, ◌∙◌, subst, inl, inr, ⊎_elim, arith}
 use Rattle.std.specs.{Prelude.{◌⊎◌}, List.{AllByRecursion}}
 use Rattle.fm_base_aside.{specs.Aside.{IsLook, IsOwnOrLook, OthersLook, arena_for, state_for}, proofs.Looks.{alone_for, arena_for_of, has_for}}
 use Rattle.fm_base.specs.declared.{arena_id.ArenaId.{ArenaId}, caller.Caller.{Caller}, refusal.Refusal.{Refusal}}
@@ -17,27 +17,19 @@ use Rattle.fm_rule_facts.specs.Views.{View, limit_of, state_in}
 use Rattle.fm_rule.specs.declared.pool.Pool.{Pool}
 use Rattle.fm_segment.specs.Region.{Region}
 use Rattle.fm_segment_access.specs.Alone.{bytes_of_arena}
-use Rattle.fm_segment_laws.proofs.{Putting.{put_all_stays}, Staying.{ChangesBelow, StayBelow, stay_append, tidy_alone}}
-use Rattle.fm_top_load.specs.{declared.chunk.{Chunk.{Chunk}, Part.{Part}}, Held.{IsHeld, names_in, words_at}, Putting.{ArePut, PutsPart, none_put, put_more}}
-use Rattle.fm_top_load.{specs.{Reached.{HasChunk}, Whole.{IsCut}}, proofs.Lone.{AreOwn, StandsAt, lone, puts_stand}}
+use Rattle.fm_segment_laws.proofs.{Staying.{ChangesBelow, StayBelow, tidy_alone}}
+use Rattle.fm_top_load.specs.{declared.{reached.Reached.{Reached as Reach}, room.Room.TheVariants.{Given}, stretch.Stretch.{Stretch}}, Held.{IsHeld, names_in, words_at}, Portions.{PortionView}, Putting.{ArePut, PutsStretch}}
+use Rattle.fm_top_load.{specs.{Whole.{IsCut}}, proofs.{Lone.{StandsAt, puts_stand}, Machine.{AreOwn, lone, own_are}}}
 use Rattle.fm_top_pooled.specs.{Shown.{AreRead, AsksWord, IsReadByOther}, Stocked.{IsAlone, IsStockedOf, bytes_in_pool}}
-use Rattle.fm_top_pooled.proofs.{Crews.{AllTouch, Touches, only_reads_touch, stay_below}, Shows.{NoneMayAdd, are_read, is_whole, pooled_is, read_in}}
+use Rattle.fm_top_pooled.proofs.{Filed.{puts_stay}, Crews.{AllTouch, Touches, only_reads_touch, stay_below}, Shows.{NoneMayAdd, are_read, is_whole, pooled_is, read_in}}
 use Rattle.fm_top_pooled.proofs.Tidying.{tidy_on}
 use Rattle.fm_workers.{specs.{Beside.{AskedBeside}, Query.{IsAnswer, NobodyElseWrites, OnlyReads, QueriedWith}}, proofs.Sparing.{by_either}}
 use Rattle.fm_workers_crew.specs.Crew.{IsFresh, callers}
 use Rattle.fm_words.specs.declared.shape.Shape.{Shape}
-use Rattle.fm_top_stream.{specs.Steps.{AnswersBeside, GoesOn, Stand, StandBut}, proofs.{Elsewhere.{put_elsewhere}, Going.{goes_then}}}
+use Rattle.fm_top_stream.{specs.Steps.{AnswersBeside, GoesOn, HasChunk, Stand, StandBut}, proofs.{Elsewhere.{put_elsewhere}, Going.{goes_then}}}
 use Rattle.fm_top_stream.proofs.Reading.{Awaits, awaits_more}
 
 -- ---- whose entries they are
-
--- What a caller made is its own.
-own_are : (c : Caller) (es : List Entry) → AreOwn c (made_by c es)
-own_are c [] = tt
-own_are c (e ∷ es) =
-    let P : Bool → Type 0 = λ b. are_one e.caller c ≡ b → AreOwn c (cond b (e ∷ made_by c es) (made_by c es)) in
-    let go : (b : Bool) → P b = λ b. elim b as P [ true ↦ (λ is. (is, own_are c es)) | false ↦ (λ is. own_are c es) ] in
-    go (are_one e.caller c) refl
 
 -- each entry is the caller's or one of the crew's
 abbrev pub AreOf : Caller → List Caller → List Entry → Type 0
@@ -102,14 +94,6 @@ module _ (s : Region) (es : List Entry) where
 
 -- ---- what is put beside it
 
--- Runs of bytes stay below where they end together.
-put_stays : (c : Caller) (a : ArenaId) (end : ℕ) (bytes : List ℕ) (own : List Entry) → ArePut c a bytes own → length bytes ≤ end → StayBelow a end own
-put_stays c a end bytes own none_put within = tt
-put_stays c a end bytes own (put_more all run before last first are does) within =
-    let long = length-append all run in
-    stay_append a end before last (put_stays c a end all before first (omega (arith, long, within)))
-    (put_all_stays c a end (length all) run (Ok tt) last are (omega (arith, long, within)) does)
-
 -- Nobody but the crew writes in the segment, where the caller's own entries spare all bytes of its arena.
 nobody_else : (s : Region) (c : Caller) (cs : List Caller) (es : List Entry) → AreOf c cs es
     → ((place : ℕ) → AllSpare s.arena place (made_by c es)) → NobodyElseWrites s cs es
@@ -132,8 +116,8 @@ seen_for f c s id = ap f (arena_for_of c s id)
 
 -- The pass's own entries, by which these bytes were put, are a legal history by themselves: what they leave stands.
 module _ {m q : View} {b : ArenaId} {bytes : List ℕ} (more : List Entry) (reach : Reached m q more) (look : OthersLook m.caller more)
-    (put : ArePut m.caller b bytes (made_by m.caller more)) (held : IsHeld (view_of_pass m) b) (within : length bytes ≤ limit_of m.shape) where
-  stands : StandsAt (limit_of m.shape) m.caller (state_for m.caller (state_in m)) (state_for m.caller (state_in q)) b bytes
+    (put : ArePut m.caller (Given b) bytes (made_by m.caller more)) (held : IsHeld (view_of_pass m) b) (within : length bytes ≤ limit_of m.shape) where
+  stands : StandsAt (limit_of m.shape) m.caller (state_for m.caller (state_in m)) (state_for m.caller (state_in q)) (Given b) bytes
   stands =
       let c = m.caller in
       let limit = limit_of m.shape in
@@ -149,8 +133,8 @@ module _ {m q : View} {b : ArenaId} {bytes : List ℕ} (more : List Entry) (reac
         alive = seen_for (λ (x : Arena). x.life) c s b ∙ held.alive;
         size = seen_for (λ (x : Arena). length x.words) c s b ∙ held.size;
       } in
-      subst (λ (t : State). StandsAt limit c (state_for c s) t b bytes) (sym state)
-      (puts_stand limit c (state_for c s) b bytes (made_by c more) put mine within alone.0 (own_are c more))
+      subst (λ (t : State). StandsAt limit c (state_for c s) t (Given b) bytes) (sym state)
+      (puts_stand limit c (state_for c s) (Given b) bytes (made_by c more) put mine within alone.0 (own_are c more))
 
   stand_but : StandBut b (state_in m) (state_in q)
   stand_but =
@@ -244,10 +228,10 @@ module _ {Acts : List Entry → Type 0} {threads : ℕ} {m q : View} {plan : Pla
 
 -- ---- it was answered
 
-module _ {passes : ℕ} {part : Part} {told : Option Contents} {pool : Pool} {p m q : View} {s : Region} {plan : Plan} {threads : ℕ} {b : ArenaId}
-    {Acts : List Entry → Type 0} {a : List Answer} {chunk : Chunk} (w : AwaitsBeside passes part.most pool p m s b) (other : b ≢ s.arena)
-    (room : part.most ≤ limit_of pool.shape) (asked : AskedBeside Acts threads m q plan s (Ok a))
-    (put : PutsPart part told m.caller b chunk (made_by m.caller asked.crew.more)) (outside : IsOutside pool q) where
+module _ {passes : ℕ} {stretch : Stretch} {told : Option Contents} {pool : Pool} {p m q : View} {s : Region} {plan : Plan} {threads : ℕ} {b : ArenaId}
+    {Acts : List Entry → Type 0} {a : List Answer} {chunk : Reach} (w : AwaitsBeside passes stretch.most pool p m s b) (other : b ≢ s.arena)
+    (room : stretch.most ≤ limit_of pool.shape) (asked : AskedBeside Acts threads m q plan s (Ok a))
+    {first : PortionView} (put : PutsStretch stretch told m.caller (Given b) first chunk (made_by m.caller asked.crew.more)) (any : 0 < length first.bytes) (outside : IsOutside pool q) where
   look : OthersLook m.caller asked.crew.more
   look =
       of_all (IsOwnOrLook m.caller) m.caller (callers asked.crew.crew) asked.crew.more (are_of asked w.awaits.stocked)
@@ -256,13 +240,13 @@ module _ {passes : ℕ} {part : Part} {told : Option Contents} {pool : Pool} {p 
       (crew_looks s asked.crew.more m (callers asked.crew.crew) asked.crew.fresh asked.visits)
 
   -- Only bytes that were given are changed.
-  stays : StayBelow b part.most asked.crew.more
+  stays : StayBelow b stretch.most asked.crew.more
   stays =
-      each_stays b part.most asked.crew.more
-      (of_all (λ (e : Entry). ChangesBelow b part.most e.call e.reply) m.caller (callers asked.crew.crew) asked.crew.more (are_of asked w.awaits.stocked)
-      (stay_each b part.most (made_by m.caller asked.crew.more)
-      (put_stays m.caller b part.most put.bytes (made_by m.caller asked.crew.more) put.put put.cut.within))
-      (crew_stays s asked.crew.more b part.most (callers asked.crew.crew) asked.visits))
+      each_stays b stretch.most asked.crew.more
+      (of_all (λ (e : Entry). ChangesBelow b stretch.most e.call e.reply) m.caller (callers asked.crew.crew) asked.crew.more (are_of asked w.awaits.stocked)
+      (stay_each b stretch.most (made_by m.caller asked.crew.more)
+      (puts_stay m.caller b stretch.most put.bytes (made_by m.caller asked.crew.more) put.put put.cut.within))
+      (crew_stays s asked.crew.more b stretch.most (callers asked.crew.crew) asked.visits))
 
   goes : GoesOn pool m q
   goes =
@@ -274,7 +258,7 @@ module _ {passes : ℕ} {part : Part} {told : Option Contents} {pool : Pool} {p 
           sound = crew.sound;
           whole = crew.whole (is_whole w.awaits.stocked);
           tidy = tidy_on m q crew.more alone.tidy crew.shape crew.seen
-              (tidy_alone (limit_of m.shape) part.most b (state_in m) crew.more (reach asked).legal w.given stays);
+              (tidy_alone (limit_of m.shape) stretch.most b (state_in m) crew.more (reach asked).legal w.given stays);
           gathered = refl;
           none_to_end = crew.closes ∙ alone.none_to_end;
           none_to_sweep = crew.sweeps ∙ alone.none_to_sweep;
@@ -322,20 +306,21 @@ module _ {passes : ℕ} {part : Part} {told : Option Contents} {pool : Pool} {p 
       (read_in more (m.seen ++ more) s.arena word (λ e i. among_right e m.seen more i)
       (are_read plan (callers asked.crew.crew) more w.awaits.stocked asked.crew.fresh is_answer.read word was))
 
-  has : HasChunk part told (bytes_of_arena (state_in q) b) chunk
+  has : HasChunk stretch told (bytes_of_arena (state_in q) b) chunk
   has =
       let all = bytes_of_arena (state_in q) b in
       let within = put.cut.within in
       let count = put.count in
+      let more = put.more in
       let is : take chunk.count all ≡ put.bytes =
       ap (λ n. take n all) (sym put.count) ∙ bytes_stand asked.crew.more (reach asked) look put.put w.held fits in
       record {
-        cut = subst (λ bs. IsCut part.limit part.most told part.name.now part.at bs chunk.ended) (sym is) put.cut;
-        some = put.some;
+        cut = subst (λ bs. IsCut stretch.limit stretch.most told stretch.name.now stretch.at bs chunk.ended) (sym is) put.cut;
+        some = omega (arith, more, any);
         within = omega (arith, within, count);
       }
 
-  answers : AnswersBeside passes part told pool p q s plan b a chunk
+  answers : AnswersBeside passes stretch told pool p q s plan b a chunk
   answers =
       let more = asked.crew.more in
       let had = w.given in
@@ -353,10 +338,10 @@ module _ {passes : ℕ} {part : Part} {told : Option Contents} {pool : Pool} {p 
         has = has;
       }
 
-module _ {passes : ℕ} {part : Part} {told : Option Contents} {pool : Pool} {p m q : View} {s : Region} {plan : Plan} {threads : ℕ} {b : ArenaId}
-    (w : AwaitsBeside passes part.most pool p m s b) (other : b ≢ s.arena) (room : part.most ≤ limit_of pool.shape) where
-  -- It was answered, and the part was put.
-  pub answered_beside : {Acts : List Entry → Type 0} (a : List Answer) (chunk : Chunk) → (asked : AskedBeside Acts threads m q plan s (Ok a))
-      → ((own : List Entry) → Acts own → PutsPart part told m.caller b chunk own) → IsOutside pool q
-      → AnswersBeside passes part told pool p q s plan b a chunk
-  answered_beside a chunk asked puts outside = answers w other room asked (puts (made_by m.caller asked.crew.more) asked.crew.acts) outside
+module _ {passes : ℕ} {stretch : Stretch} {told : Option Contents} {pool : Pool} {p m q : View} {s : Region} {plan : Plan} {threads : ℕ} {b : ArenaId}
+    (w : AwaitsBeside passes stretch.most pool p m s b) (other : b ≢ s.arena) (room : stretch.most ≤ limit_of pool.shape) where
+  -- It was answered, and the stretch was put.
+  pub answered_beside : {Acts : List Entry → Type 0} (a : List Answer) (first : PortionView) (chunk : Reach) → 0 < length first.bytes → (asked : AskedBeside Acts threads m q plan s (Ok a))
+      → ((own : List Entry) → Acts own → PutsStretch stretch told m.caller (Given b) first chunk own) → IsOutside pool q
+      → AnswersBeside passes stretch told pool p q s plan b a chunk
+  answered_beside a first chunk any asked puts outside = answers w other room asked (puts (made_by m.caller asked.crew.more) asked.crew.acts) any outside

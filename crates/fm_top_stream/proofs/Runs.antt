@@ -1,10 +1,9 @@
 -- Runs of bytes that follow on one another in a file.
-use Rattle.std.proofs.Common.{◌≡◌, ℕ, ◌+◌, ◌*◌, ◌/◌, ◌%◌, ◌<◌, ◌≤◌, Bool, true, false, List, [], ◌∷◌, ◌++◌, length, take, Option, refl, ap, sym, ◌∙◌, subst, arith, append_assoc, length-append}
+use Rattle.std.proofs.Common.{◌≡◌, ℕ, ◌+◌, ◌*◌, ◌/◌, ◌%◌, ◌<◌, ◌≤◌, Bool, true, false, List, [], ◌∷◌, ◌++◌, length, Option, refl, ap, sym, ◌∙◌, subst, arith, append_assoc, length-append}
 use Rattle.std.{specs.List.{AllByRecursion}, proofs.{Math.Nat.{mul-add-mod_self_right, mul-mod_left}, lemmas.{List.{append-nil}, Nat.{div-add-mod'}}}}
 use Rattle.fm_io.{specs.Files.{Contents, AreBytesFrom, EndsBefore}, proofs.Filled.{AreBytesFrom-append}}
 use Rattle.fm_records_query.specs.Plan.{Plan}
-use Rattle.fm_top_load.{specs.{declared.chunk.Chunk.{Chunk}, Reached.{IsNextPiece}, Whole.{IsCut, IsWhole}}, proofs.Chunks.{first_to_last}}
-use Rattle.fm_top_load.proofs.Placing.{none_taken}
+use Rattle.fm_top_load.{specs.{Portions.{PortionView}, Whole.{IsCut, IsPortion, IsWhole}}, proofs.FileBytes.{first_to_last}}
 use Rattle.fm_top_stream.specs.{Chunks.{AreCut, all_bytes}, Gone.{IsRagged}}
 
 -- ---- runs of bytes
@@ -82,8 +81,8 @@ module _ {limit most at : ℕ} {told : Option Contents} {name : List ℕ} (bytes
             ap (λ m. (m + b) % n) whole ∙ mul-add-mod_self_right (a / n) n b
 
 -- Where nothing comes the file has ended.
-pub ends_here : {limit most at : ℕ} {told : Option Contents} {name buffer : List ℕ} {piece : Chunk} → IsNextPiece limit most told name at buffer piece
-    → piece.count ≡ 0 → 0 < most → EndsBefore told name at
-ends_here {most = most} {at = at} {told = told} {name = name} {buffer = buffer} {piece = piece} next none some =
-    let short : length (take piece.count buffer) ≡ 0 = ap (λ n. length (take n buffer)) none ∙ ap length (none_taken buffer) in
-    subst (EndsBefore told name) (omega (arith, short)) (next.bytes.ends (is_true piece.ended (λ f. let full = next.bytes.full f in omega (arith, full, short, some))))
+pub ends_here : {limit most at : ℕ} {told : Option Contents} {name : List ℕ} {first : PortionView} → IsPortion limit most told name at first
+    → length first.bytes ≡ 0 → 0 < most → EndsBefore told name at
+ends_here {most = most} {at = at} {told = told} {name = name} {first = first} next none some =
+    let end : at + length first.bytes ≡ at = omega (arith, none) in
+    subst (EndsBefore told name) end (next.ends (is_true first.ended (λ f. let full = next.full f in omega (arith, full, none, some))))

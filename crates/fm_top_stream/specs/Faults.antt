@@ -13,7 +13,7 @@ fault_of_load load.Missing = Missing
 fault_of_load load.Failed = Read
 fault_of_load load.TooLong = TooLong
 fault_of_load load.Memory = Memory
-fault_of_load load.PoolFull = Memory
+fault_of_load (load.Refused r) = Memory
 
 -- What a stream tells of the files: what it leaves of them, and why it came to nothing, where it came to this fault
 pub record TellsStream (old new : FilesView) (name : List ℕ) (p : Plan) (fault : Option StreamFault) : Type 0 where

@@ -7,8 +7,7 @@ use Rattle.fm_rule_facts.specs.Views.{View, limit_of, state_in}
 use Rattle.fm_rule.specs.declared.pool.Pool.{Pool}
 use Rattle.fm_records_query.specs.Plan.{Plan}
 use Rattle.fm_records.specs.{declared.found.Found.{Found}, Answers.{answer}, Few.{AreFew}, Joined.{joined}}
-use Rattle.fm_top_load.specs.{Held.{names_in}, declared.chunk.{Chunk.{Chunk}, Part.{Part}}, Reached.{IsNextPiece}, Reading.{piece_limit}}
-use Rattle.fm_top_load.specs.Whole.{CanRead, IsWhole}
+use Rattle.fm_top_load.specs.{Held.{names_in}, Portions.{PortionView}, Whole.{CanRead, IsPortion, IsWhole}, declared.stretch.Stretch.{Stretch}}
 use Rattle.fm_top_pooled.specs.Stocked.{IsAlone, IsStockedOf}
 use Rattle.fm_segment.specs.Region.{Region}
 use Rattle.fm_top_stream.specs.{Chunks.{AreCut, all_bytes}, Shown.{ShowsChunk}, declared.{ahead.Ahead.{Ahead}, under_way.UnderWay.{UnderWay}, gone.Gone.{Gone}}}
@@ -67,56 +66,53 @@ pub record CanGoThrough (most threads : ℕ) (p : Plan) (pool : Pool) (v : View)
 
 -- whole chunks have gone through up to the place, and the next one stands there in an open arena
 pub record HasNext (limit most : ℕ) (told : Option Contents) (name : List ℕ) (at : ℕ) (p : Plan) (pool : Pool) (g : UnderWay) (x : Placed) : Type 0 where
-  pub buffer : length g.buffer.items ≡ piece_limit
   pub gone : GoneSoFar told name most at pool g.pass p (x.arena ∷ []) g.answer
   pub stands : StandsIn limit most told name at g.pass x
 
--- nothing has gone through, and the first piece of the file lies in the buffer
-pub record CanBegin (part : Part) (told : Option Contents) (threads : ℕ) (p : Plan) (pool : Pool) (g : UnderWay) (first : Chunk) : Type 0 where
-  pub asks : CanAsk part.most threads p pool
-  pub read : CanRead part.limit part.at g.buffer.items
-  pub next : IsNextPiece part.limit part.most told part.name.now part.at g.buffer.items first
-  pub some : 0 < first.count
-  pub gone : GoneSoFar told part.name.now part.most part.at pool g.pass p [] g.answer
+-- nothing has gone through, and the first portion of the file was read
+pub record CanBegin (stretch : Stretch) (told : Option Contents) (threads : ℕ) (p : Plan) (pool : Pool) (g : UnderWay) : Type 0 where
+  pub asks : CanAsk stretch.most threads p pool
+  pub read : CanRead stretch.limit stretch.at
+  pub next : IsPortion stretch.limit stretch.most told stretch.name.now stretch.at g.portion
+  pub some : 0 < length g.portion.bytes
+  pub gone : GoneSoFar told stretch.name.now stretch.most stretch.at pool g.pass p [] g.answer
 
--- the file may end with what is before the part
-abbrev pub IsUpTo : Part → Option Contents → Bool → Type 0
-IsUpTo part told ended = ended ≡ true → EndsBefore told part.name.now part.at
+-- the file may end with what is before the stretch
+abbrev pub IsUpTo : Stretch → Option Contents → Bool → Type 0
+IsUpTo stretch told ended = ended ≡ true → EndsBefore told stretch.name.now stretch.at
 
--- a query can be asked of the segment, and the part's first piece lies in the buffer
-pub record CanAnswer (part : Part) (told : Option Contents) (threads : ℕ) (p : Plan) (pool : Pool) (v : View) (s : Region) (buffer : List ℕ) (first : Chunk) : Type 0 where
-  pub asks : CanAsk part.most threads p pool
+-- a query can be asked of the segment, and the stretch's first portion was read
+pub record CanAnswer (stretch : Stretch) (told : Option Contents) (threads : ℕ) (p : Plan) (pool : Pool) (v : View) (s : Region) (first : PortionView) : Type 0 where
+  pub asks : CanAsk stretch.most threads p pool
   pub alone : IsAlone v.gathered pool v
   pub stocked : IsStockedOf v.shape.passes pool v s
   pub even : s.size % p.size ≡ 0
-  pub read : CanRead part.limit part.at buffer
-  pub next : IsNextPiece part.limit part.most told part.name.now part.at buffer first
+  pub read : CanRead stretch.limit stretch.at
+  pub next : IsPortion stretch.limit stretch.most told stretch.name.now stretch.at first
 
--- it was answered, and the part stands in an arena of its own, if the file has one
-pub record AnswersAhead (part : Part) (told : Option Contents) (p : Plan) (pool : Pool) (v : View) (s : Region) (first : Chunk) (r : Ahead) : Type 0 where
-  pub answers : AnswersOn v.shape.passes part told pool v r.pass s p r.answer r.next
-  pub some : IfSome r.next (λ x. 0 < first.count)
-  pub buffer : length r.buffer.items ≡ piece_limit
+-- it was answered, and the stretch stands in an arena of its own, if the file has one
+pub record AnswersAhead (stretch : Stretch) (told : Option Contents) (p : Plan) (pool : Pool) (v : View) (s : Region) (first : PortionView) (r : Ahead) : Type 0 where
+  pub answers : AnswersOn v.shape.passes stretch told pool v r.pass s p r.answer r.next
+  pub some : IfSome r.next (λ x. 0 < length first.bytes)
 
--- whole chunks have gone through, and the next one, which is of whole records, stands before the part
-pub record CanTakeChunk (part : Part) (told : Option Contents) (threads : ℕ) (p : Plan) (pool : Pool) (g : UnderWay) (x : Placed) : Type 0 where
+-- whole chunks have gone through, and the next one, which is of whole records, stands before the stretch
+pub record CanTakeChunk (stretch : Stretch) (told : Option Contents) (threads : ℕ) (p : Plan) (pool : Pool) (g : UnderWay) (x : Placed) : Type 0 where
   pub from : ℕ
-  pub at : from + x.chunk.count ≡ part.at
-  pub asks : CanAsk part.most threads p pool
-  pub read : CanRead part.limit part.at g.buffer.items
+  pub at : from + x.chunk.count ≡ stretch.at
+  pub asks : CanAsk stretch.most threads p pool
+  pub read : CanRead stretch.limit stretch.at
   pub even : x.chunk.count % p.size ≡ 0
-  pub has : HasNext part.limit part.most told part.name.now from p pool g x
+  pub has : HasNext stretch.limit stretch.most told stretch.name.now from p pool g x
 
 -- the answer was joined to those before
-pub record HasJoined (v : View) (was found : List Found) (bytes : List ℕ) (g : UnderWay) : Type 0 where
+pub record HasJoined (v : View) (was found : List Found) (g : UnderWay) : Type 0 where
   pub pass : g.pass ≡ v
   pub answer : g.answer ≡ joined was found
-  pub buffer : g.buffer.items ≡ bytes
 
 -- this chunk has gone through: the next one stands, or the file was gone through
-pub record GoesByChunk (part : Part) (told : Option Contents) (p : Plan) (pool : Pool) (g : UnderWay) (next : Option Placed) : Type 0 where
-  pub on : IfSome next (HasNext part.limit part.most told part.name.now part.at p pool g)
-  pub ends : next ≡ None → GoneThrough part.limit told part.name.now part.most pool g.pass p g.answer
+pub record GoesByChunk (stretch : Stretch) (told : Option Contents) (p : Plan) (pool : Pool) (g : UnderWay) (next : Option Placed) : Type 0 where
+  pub on : IfSome next (HasNext stretch.limit stretch.most told stretch.name.now stretch.at p pool g)
+  pub ends : next ≡ None → GoneThrough stretch.limit told stretch.name.now stretch.most pool g.pass p g.answer
 
 -- the whole file, which may have so many bytes, was gone through, or its end is no whole record
 pub record GoesThrough (limit : ℕ) (told : Option Contents) (name : List ℕ) (most : ℕ) (p : Plan) (pool : Pool) (g : Gone) : Type 0 where

@@ -10,8 +10,7 @@ use Rattle.fm_rule.specs.declared.pool.Pool.{Pool}
 use Rattle.fm_segment.specs.Region.{Region}
 use Rattle.fm_records_query.specs.Plan.{Plan}
 use Rattle.fm_records.specs.{declared.found.Found.{Found}, Answers.{answer}, Few.{AreFew}}
-use Rattle.fm_top_load.specs.{declared.chunk.{Chunk.{Chunk}, Part.{Part}}, Held.{HoldsThen, IsHeld, OnlyIn, names_in, words_at}, Reached.{HasChunk}}
-use Rattle.fm_top_load.specs.Whole.{IsCut}
+use Rattle.fm_top_load.specs.{declared.{reached.Reached.{Reached}, stretch.Stretch.{Stretch}}, Held.{HoldsThen, IsHeld, OnlyIn, names_in, words_at}, Whole.{IsCut}}
 use Rattle.fm_top_pooled.specs.{Shown.{AreRead, AsksWord}, Stocked.{HasOpened, IsAlone, IsStockedOf, bytes_in_pool}}
 use Rattle.fm_top_stream.specs.declared.placed.Placed.{Placed}
 
@@ -32,13 +31,19 @@ pub record Gives (pool : Pool) (p q : View) (a : ArenaId) (size : ℕ) : Type 0 
   pub held : HoldsThen (view_of_pass q) a size (words_at (view_of_pass p) a)
   pub elsewhere : OnlyIn a (state_in p) (state_in q)
 
--- that part of the file was put there
-pub record Fills (part : Part) (told : Option Contents) (pool : Pool) (p q : View) (a : ArenaId) (chunk : Chunk) : Type 0 where
+-- the first bytes, so many of them, are that stretch of the file
+pub record HasChunk (stretch : Stretch) (told : Option Contents) (bytes : List ℕ) (chunk : Reached) : Type 0 where
+  pub cut : IsCut stretch.limit stretch.most told stretch.name.now stretch.at (take chunk.count bytes) chunk.ended
+  pub some : 0 < chunk.count
+  pub within : chunk.count ≤ stretch.most
+
+-- that stretch of the file was put there
+pub record Fills (stretch : Stretch) (told : Option Contents) (pool : Pool) (p q : View) (a : ArenaId) (chunk : Reached) : Type 0 where
   pub goes : GoesOn pool p q
   pub held : IsHeld (view_of_pass q) a
   pub given : given_in (view_of_pass q) a ≡ given_in (view_of_pass p) a
   pub elsewhere : OnlyIn a (state_in p) (state_in q)
-  pub has : HasChunk part told (bytes_of_arena (state_in q) a) chunk
+  pub has : HasChunk stretch told (bytes_of_arena (state_in q) a) chunk
 
 -- there are the same arenas, and each has the life and the words that it had
 pub record Stand (s t : State) : Type 0 where
@@ -63,9 +68,9 @@ pub record StandBut (b : ArenaId) (s t : State) : Type 0 where
   pub life : (x : ArenaId) → x ≢ b → (arena_of t x).life ≡ (arena_of s x).life
   pub words : (x : ArenaId) → x ≢ b → (arena_of t x).words ≡ (arena_of s x).words
 
--- a crew answered the query over the segment, while the part of the file was put into another arena
-pub record AnswersBeside (passes : ℕ) (part : Part) (told : Option Contents) (pool : Pool) (p q : View) (s : Region) (plan : Plan) (b : ArenaId)
-    (a : List Found) (chunk : Chunk) : Type 0 where
+-- a crew answered the query over the segment, while the stretch of the file was put into another arena
+pub record AnswersBeside (passes : ℕ) (stretch : Stretch) (told : Option Contents) (pool : Pool) (p q : View) (s : Region) (plan : Plan) (b : ArenaId)
+    (a : List Found) (chunk : Reached) : Type 0 where
   pub goes : GoesOn pool p q
   pub stocked : IsStockedOf passes pool q s
   pub stand : StandBut b (state_in p) (state_in q)
@@ -73,8 +78,8 @@ pub record AnswersBeside (passes : ℕ) (part : Part) (told : Option Contents) (
   pub few : AreFew s.size plan a
   pub read : AreRead q.seen (AsksWord plan (bytes_in_pool p s)) s.arena
   pub held : IsHeld (view_of_pass q) b
-  pub given : part.most ≤ given_in (view_of_pass q) b
-  pub has : HasChunk part told (bytes_of_arena (state_in q) b) chunk
+  pub given : stretch.most ≤ given_in (view_of_pass q) b
+  pub has : HasChunk stretch told (bytes_of_arena (state_in q) b) chunk
 
 -- a chunk of the file, which may have so many bytes, stands at the start of a shared arena, which is alive and has given room for it
 pub record StandsIn (limit most : ℕ) (told : Option Contents) (name : List ℕ) (at : ℕ) (v : View) (x : Placed) : Type 0 where
@@ -89,8 +94,8 @@ abbrev pub arenas_of : Option Placed → List ArenaId
 arenas_of None = []
 arenas_of (Some x) = x.arena ∷ []
 
--- a crew answered the query over the segment; then the next part of the file stands in an arena of its own, or the file has ended
-pub record AnswersOn (passes : ℕ) (part : Part) (told : Option Contents) (pool : Pool) (p q : View) (s : Region) (plan : Plan) (a : List Found)
+-- a crew answered the query over the segment; then the next stretch of the file stands in an arena of its own, or the file has ended
+pub record AnswersOn (passes : ℕ) (stretch : Stretch) (told : Option Contents) (pool : Pool) (p q : View) (s : Region) (plan : Plan) (a : List Found)
     (next : Option Placed) : Type 0 where
   pub goes : GoesOn pool p q
   pub stocked : IsStockedOf passes pool q s
@@ -101,8 +106,8 @@ pub record AnswersOn (passes : ℕ) (part : Part) (told : Option Contents) (pool
   pub life : (x : ArenaId) → IsKnown p x → (arena_of (state_in q) x).life ≡ (arena_of (state_in p) x).life
   pub words : (x : ArenaId) → IsKnown p x → (arena_of (state_in q) x).words ≡ (arena_of (state_in p) x).words
   pub names : names_in (state_in q) ≡ names_in (state_in p) ++ arenas_of next
-  pub stands : IfSome next (λ x. (¬ (IsKnown p x.arena)) × StandsIn part.limit part.most told part.name.now part.at q x)
-  pub ended : next ≡ None → EndsBefore told part.name.now part.at
+  pub stands : IfSome next (λ x. (¬ (IsKnown p x.arena)) × StandsIn stretch.limit stretch.most told stretch.name.now stretch.at q x)
+  pub ended : next ≡ None → EndsBefore told stretch.name.now stretch.at
 
 -- the arena, which was alive, has ended, with the words that it had; no other changed
 pub record Closes (pool : Pool) (p q : View) (a : ArenaId) : Type 0 where

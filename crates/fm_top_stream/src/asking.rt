@@ -1,9 +1,9 @@
-ghost use Rattle.std.specs.Prelude.{◌≡◌, ◌+◌, ◌%◌, ◌<◌, ◌≤◌, IfErr, IfOk};
+ghost use Rattle.std.specs.Prelude.{◌≡◌, ◌+◌, ◌%◌, ◌<◌, ◌≤◌, length, IfErr, IfOk};
 ghost use Rattle.std.specs.Result.{result_err};
 ghost use Rattle.fm_top_load.specs.Reading.{GoesBy, ReadsFurther};
-ghost use Rattle.fm_top_load.specs.Whole.{TellsLoad};
+ghost use Rattle.fm_top_load.specs.Whole.{ByReads, TellsLoad};
 ghost use Rattle.fm_top_pooled.specs.Stocked.{IsAlone, IsStockedOf};
-ghost use Rattle.fm_top_stream.specs.Ahead.{AsksAhead, CanAskBeside, IsBoth, IsFollowed, IsNeither, WasLetIn};
+ghost use Rattle.fm_top_stream.specs.Ahead.{AsksAhead, CanAskBeside, IsBoth, IsFollowed, IsNeither, WasTried};
 ghost use Rattle.fm_top_stream.specs.Steps.{Answers};
 
 use crate::ahead::Ahead;
@@ -15,17 +15,16 @@ use fm_io::{Files, Gate};
 use fm_records::Answer;
 use fm_rule::Pass;
 use fm_segment::Segment;
-use fm_top_load::{LoadFault, PutFault};
+use fm_top_load::LoadFault;
 use fm_workers::{query_beside, query_with};
-use std::alloc::{AllocError, Global};
+use std::alloc::AllocError;
 use std::sync::Wait;
 use std::thread;
 use std::thread::Threads;
 
 /// What the crew's query answers over the segment. Where a number is wanting it waits.
-pub(crate) fn asked<R: Threads + Wait + Sync, G: Gate>(
+pub(crate) fn ask<R: Threads + Wait + Sync, G: Gate>(
     rt: &R,
-    alloc: Global,
     crew: &Crew<'_, G>,
     pass: &mut Pass,
     s: &Segment,
@@ -41,7 +40,7 @@ pub(crate) fn asked<R: Threads + Wait + Sync, G: Gate>(
     for _ in rt.forever() {
         match query_with(
             rt,
-            alloc,
+            crew.alloc,
             crew.pool,
             pass,
             crew.q,
@@ -59,9 +58,8 @@ pub(crate) fn asked<R: Threads + Wait + Sync, G: Gate>(
 }
 
 /// The same, while the first pass puts the next chunk into an arena of its own.
-pub(crate) fn asked_beside<R: Threads + Wait + Sync, F: Files, G: Gate>(
+pub(crate) fn ask_beside<R: Threads + Wait + Sync, F: Files, G: Gate>(
     rt: &R,
-    alloc: Global,
     files: &mut F,
     crew: &Crew<'_, G>,
     mut pass: Pass,
@@ -72,16 +70,16 @@ pub(crate) fn asked_beside<R: Threads + Wait + Sync, F: Files, G: Gate>(
         pass s.now putting }
     ensures asks { IfOk result
         (AsksAhead (F.view files.old).holds crew.now.pool.now crew.now.q.now pass s.now putting.entry) }
-    ensures reads { ReadsFurther (F.view files.old).reads (F.view files.new).reads putting.entry.part.name.now
-        putting.entry.part.limit (GoesBy putting.entry.first.ended (putting.entry.part.at + putting.entry.first.count))
-        (λ next. IfOk result (λ r. IsFollowed putting.entry.part.at r.next next)) }
-    ensures tells { TellsLoad ⊥ putting.entry.part.limit (F.view files.old) (F.view files.new)
-        putting.entry.part.name.now (result_err result) }
+    ensures reads { ReadsFurther (F.view files.old).reads (F.view files.new).reads putting.entry.stretch.name.now
+        putting.entry.stretch.limit (GoesBy putting.entry.portion.ended (putting.entry.stretch.at + length putting.entry.portion.bytes))
+        (λ next. IfOk result (λ r. IsFollowed putting.entry.stretch.at r.next next)) }
+    ensures tells { TellsLoad ByReads putting.entry.stretch.limit (F.view files.old) (F.view files.new)
+        putting.entry.stretch.name.now (result_err result) }
 {
     for _ in rt.forever() {
         let (back, asked) = query_beside(
             rt,
-            alloc,
+            crew.alloc,
             crew.pool,
             pass,
             crew.q,
@@ -92,7 +90,7 @@ pub(crate) fn asked_beside<R: Threads + Wait + Sync, F: Files, G: Gate>(
             files,
         );
         match asked {
-            Ok(answer) => return both(back, answer, putting),
+            Ok(answer) => return join_both(back, answer, putting),
             Err(Refusal::NoPass) => thread::yield_now(),
             // The arena is alive and shared, and the records are whole.
             Err(_) => return Err(LoadFault::Memory),
@@ -103,32 +101,32 @@ pub(crate) fn asked_beside<R: Threads + Wait + Sync, F: Files, G: Gate>(
 }
 
 /// What was answered, and what was put beside it. A read's fault goes before want of memory at the query.
-fn both(
+fn join_both(
     pass: Pass,
     answer: Result<Answer, Refusal>,
     putting: Putting<'_>,
 ) -> Result<Ahead, LoadFault>
-    requires { WasLetIn putting }
+    requires { WasTried putting }
     ensures both { IfOk result (IsBoth pass answer putting.entry) }
     ensures neither { IfErr result (IsNeither putting.entry) }
 {
     let Putting {
-        buffer,
+        portion,
         arena,
         put,
         ..
     } = putting;
     let chunk = match put {
         Some(Ok(chunk)) => chunk,
-        Some(Err(PutFault::Load(fault))) => return Err(fault),
-        // The arena is alive and shared, and has given the room.
-        Some(Err(PutFault::Refused(_))) | None => unreachable!(),
+        Some(Err(fault)) => return Err(fault),
+        // The crew was drawn, so it was tried.
+        None => unreachable!(),
     };
     match answer {
         Ok(answer) => Ok(Ahead {
             pass,
             answer,
-            buffer,
+            portion,
             next: Some(Placed { arena, chunk }),
         }),
         // So is the segment's.

@@ -7,7 +7,7 @@ use std::sync::Wait;
 use std::thread;
 
 /// Closes the arena, whose slot and pages can be taken again then. Where it is held it waits.
-pub(crate) fn closed<R: Wait>(rt: &R, pool: &Pool, pass: &mut Pass, arena: ArenaId)
+pub(crate) fn close_chunk<R: Wait>(rt: &R, pool: &Pool, pass: &mut Pass, arena: ArenaId)
     requires { CanClose pool.now pass.old arena }
     ensures { Closes pool.now pass.old pass.new arena }
 {

@@ -12,7 +12,7 @@ use std::sync::Wait;
 use std::thread;
 
 /// Has the arena give its first bytes. Where there is no page it waits.
-pub(crate) fn given<R: Wait>(rt: &R, pool: &Pool, pass: &mut Pass, arena: ArenaId, size: u64)
+pub(crate) fn give_chunk<R: Wait>(rt: &R, pool: &Pool, pass: &mut Pass, arena: ArenaId, size: u64)
     requires alone { IsAlone pass.old.gathered pool.now pass.old }
     requires empty { IsEmpty (view_of_pass pass.old) arena }
     requires room { size ≤ limit_of pool.now.shape }

@@ -19,7 +19,6 @@ mod answering;
 mod asking;
 mod closing;
 mod crew;
-mod filling;
 mod giving;
 mod gone;
 mod opening;

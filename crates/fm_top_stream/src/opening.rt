@@ -8,7 +8,7 @@ use std::sync::Wait;
 use std::thread;
 
 /// Opens a shared arena. Where every slot is busy it waits.
-pub(crate) fn opened<R: Wait>(rt: &R, pool: &Pool, pass: &mut Pass) -> ArenaId
+pub(crate) fn open_chunk<R: Wait>(rt: &R, pool: &Pool, pass: &mut Pass) -> ArenaId
     requires { IsAlone pass.old.gathered pool.now pass.old }
     ensures { Opens pool.now pass.old pass.new result }
 {

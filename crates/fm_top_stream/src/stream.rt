@@ -14,7 +14,7 @@ use fm_io::{Files, Gate};
 use fm_records::Answer;
 use fm_records_query::Query;
 use fm_rule::{Finished, Pool};
-use fm_top_load::{CHUNK, LoadFault, zero_bytes};
+use fm_top_load::{LoadFault, Portion};
 use std::alloc::Global;
 use std::sync::Wait;
 use std::thread::Threads;
@@ -50,17 +50,19 @@ pub fn stream_with<R: Threads + Wait + Sync, F: Files, G: Gate>(
     let Ok((pool, pass)) = Pool::make(alloc, shape_of(threads)) else {
         return Err(StreamFault::Memory);
     };
-    let Ok(buffer) = zero_bytes(alloc, CHUNK) else {
+    let Ok(portion) = Portion::none(alloc) else {
         return Err(StreamFault::Memory);
     };
-    let most = chunk_bytes(q);
     let crew = Crew {
+        alloc,
+        name,
+        most: chunk_bytes(q),
         pool: &pool,
         q,
         threads,
         gate,
     };
-    let gone = match go_through(rt, alloc, files, name, most, buffer, &crew, pass) {
+    let gone = match go_through(rt, files, &crew, pass, portion) {
         Ok(gone) => gone,
         Err(fault) => return Err(fault_of(fault)),
     };
@@ -81,6 +83,6 @@ fn fault_of(fault: LoadFault) -> StreamFault
         LoadFault::Missing => StreamFault::Missing,
         LoadFault::Failed => StreamFault::Read,
         LoadFault::TooLong => StreamFault::TooLong,
-        LoadFault::Memory | LoadFault::PoolFull => StreamFault::Memory,
+        LoadFault::Memory | LoadFault::Refused(_) => StreamFault::Memory,
     }
 }

@@ -1,103 +1,97 @@
 ghost use Rattle.std.specs.Prelude.{◌≡◌, ◌+◌, length, IfOk};
 ghost use Rattle.std.specs.Result.{result_err};
 ghost use Rattle.fm_top_load.specs.Reading.{GoesBy, ReadsFurther, ReadsSome};
-ghost use Rattle.fm_top_load.specs.Whole.{TellsLoad};
+ghost use Rattle.fm_top_load.specs.Whole.{ByReads, TellsLoad};
 ghost use Rattle.fm_top_stream.specs.Chunks.{stream_file_limit};
 ghost use Rattle.fm_top_stream.specs.Gone.{CanAsk, CanBegin, CanGoThrough, GoesThrough, HasNext};
 
 use crate::crew::Crew;
-use crate::filling::filled;
-use crate::giving::given;
+use crate::giving::give_chunk;
 use crate::gone::Gone;
-use crate::opening::opened;
+use crate::opening::open_chunk;
 use crate::placed::Placed;
-use crate::round::round;
+use crate::round::take_chunk;
 use crate::stream::STREAM_FILE_LIMIT;
 use crate::under_way::UnderWay;
+use fm_arena::Shared;
 use fm_io::{Files, Gate};
 use fm_records::of_no_records;
 use fm_rule::Pass;
-use fm_top_load::{CHUNK, Chunk, LoadFault, Part, read_piece};
-use std::alloc::Global;
+use fm_top_load::{LoadFault, Portion, Room, Stretch, put_stretch};
 use std::sync::Wait;
 use std::thread::Threads;
 
-/// Puts the file's first chunk, whose first piece lies in the buffer, into an arena.
-fn begun<R: Wait, F: Files, G: Gate>(
+/// Puts the file's first chunk, whose first portion was read, into an arena.
+fn begin<R: Wait, F: Files, G: Gate>(
     rt: &R,
     files: &mut F,
-    part: &Part<'_>,
+    stretch: &Stretch<'_>,
     crew: &Crew<'_, G>,
     going: UnderWay,
-    first: Chunk,
 ) -> Result<(UnderWay, Placed), LoadFault>
-    requires { CanBegin part.now (F.view files.old).holds crew.now.threads crew.now.q.now crew.now.pool.now
-        going first }
-    ensures has { IfOk result (λ r. HasNext part.now.limit part.now.most (F.view files.old).holds part.now.name.now
-        part.now.at crew.now.q.now crew.now.pool.now r.0 r.1) }
-    ensures reads { ReadsFurther (F.view files.old).reads (F.view files.new).reads part.now.name.now part.now.limit
-        (GoesBy first.ended (part.now.at + first.count))
-        (λ next. IfOk result (λ r. GoesBy r.1.chunk.ended (part.now.at + r.1.chunk.count) next)) }
-    ensures tells { TellsLoad ⊥ part.now.limit (F.view files.old) (F.view files.new) part.now.name.now
+    requires { CanBegin stretch.now (F.view files.old).holds crew.now.threads crew.now.q.now crew.now.pool.now going }
+    ensures has { IfOk result (λ r. HasNext stretch.now.limit stretch.now.most (F.view files.old).holds
+        stretch.now.name.now stretch.now.at crew.now.q.now crew.now.pool.now r.0 r.1) }
+    ensures reads { ReadsFurther (F.view files.old).reads (F.view files.new).reads stretch.now.name.now
+        stretch.now.limit (GoesBy going.portion.ended (stretch.now.at + length going.portion.bytes))
+        (λ next. IfOk result (λ r. GoesBy r.1.chunk.ended (stretch.now.at + r.1.chunk.count) next)) }
+    ensures tells { TellsLoad ByReads stretch.now.limit (F.view files.old) (F.view files.new) stretch.now.name.now
         (result_err result) }
 {
     let UnderWay {
         mut pass,
         answer,
-        mut buffer,
+        mut portion,
     } = going;
-    let arena = opened(rt, crew.pool, &mut pass);
-    given(rt, crew.pool, &mut pass, arena, part.most);
-    let (pass, chunk) = match filled(rt, files, part, &mut buffer, first, crew.pool, pass, arena) {
-        Ok(filled) => filled,
+    let arena = open_chunk(rt, crew.pool, &mut pass);
+    give_chunk(rt, crew.pool, &mut pass, arena, stretch.most);
+    let mut memory = Shared::new(crew.pool, pass);
+    let room = Room::Given(arena);
+    let chunk = match put_stretch(rt, files, stretch, &mut portion, &mut memory, room) {
+        Ok(chunk) => chunk,
         Err(fault) => return Err(fault),
     };
-    Ok((
-        UnderWay {
-            pass,
-            answer,
-            buffer,
-        },
-        Placed { arena, chunk },
-    ))
+    let going = UnderWay {
+        pass: memory.into_pass(),
+        answer,
+        portion,
+    };
+    Ok((going, Placed { arena, chunk }))
 }
 
 /// Has chunk after chunk answered over, each while the next one is put, up to the file's end.
 fn take_chunks<R: Threads + Wait + Sync, F: Files, G: Gate>(
     rt: &R,
-    alloc: Global,
     files: &mut F,
-    name: &str,
-    most: u64,
     crew: &Crew<'_, G>,
     mut going: UnderWay,
     mut standing: Placed,
 ) -> Result<Gone, LoadFault>
-    requires asks { CanAsk most crew.now.threads crew.now.q.now crew.now.pool.now }
-    requires has { HasNext stream_file_limit most (F.view files.old).holds name.now 0
+    requires asks { CanAsk crew.now.most crew.now.threads crew.now.q.now crew.now.pool.now }
+    requires has { HasNext stream_file_limit crew.now.most (F.view files.old).holds crew.now.name.now 0
         crew.now.q.now crew.now.pool.now going standing }
-    ensures goes { IfOk result
-        (GoesThrough stream_file_limit (F.view files.old).holds name.now most crew.now.q.now crew.now.pool.now) }
-    ensures reads { ReadsFurther (F.view files.old).reads (F.view files.new).reads name.now stream_file_limit
-        (GoesBy standing.chunk.ended standing.chunk.count) (λ next. Unit {0}) }
-    ensures tells { TellsLoad ⊥ STREAM_FILE_LIMIT (F.view files.old) (F.view files.new) name.now
+    ensures goes { IfOk result (GoesThrough stream_file_limit (F.view files.old).holds crew.now.name.now
+        crew.now.most crew.now.q.now crew.now.pool.now) }
+    ensures reads { ReadsFurther (F.view files.old).reads (F.view files.new).reads crew.now.name.now
+        stream_file_limit (GoesBy standing.chunk.ended standing.chunk.count) (λ next. Unit {0}) }
+    ensures tells { TellsLoad ByReads stream_file_limit (F.view files.old) (F.view files.new) crew.now.name.now
         (result_err result) }
 {
     let mut at = 0u64;
     'chunks: loop {
-        let count = standing.chunk.count as u64;
+        let count = standing.chunk.count;
         let rest = count % crew.q.record_size();
         if rest != 0 {
             return Ok(Gone { going, rest });
         }
         at += count;
-        let part = Part {
-            name,
+        let stretch = Stretch {
+            name: crew.name,
             limit: STREAM_FILE_LIMIT,
             at,
-            most,
+            most: crew.most,
         };
-        let (then, next) = match round(rt, alloc, files, &part, crew, going, standing) {
+        let (then, next) = match take_chunk(rt, files, &stretch, crew, going, standing) {
             Ok(gone) => gone,
             Err(fault) => return Err(fault),
         };
@@ -109,49 +103,45 @@ fn take_chunks<R: Threads + Wait + Sync, F: Files, G: Gate>(
     }
 }
 
-/// Goes through the file in chunks of so many bytes, and answers the crew's query over them.
+/// Goes through the file in chunks, and answers the crew's query over them.
 pub(crate) fn go_through<R: Threads + Wait + Sync, F: Files, G: Gate>(
     rt: &R,
-    alloc: Global,
     files: &mut F,
-    name: &str,
-    most: u64,
-    mut buffer: Vec<u8>,
     crew: &Crew<'_, G>,
     pass: Pass,
+    mut portion: Portion,
 ) -> Result<Gone, LoadFault>
-    requires can { CanGoThrough most crew.now.threads crew.now.q.now crew.now.pool.now pass }
-    requires buffer { length buffer.items ≡ CHUNK }
-    ensures goes { IfOk result
-        (GoesThrough stream_file_limit (F.view files.old).holds name.now most crew.now.q.now crew.now.pool.now) }
-    ensures reads { ReadsSome (F.view files.old).reads (F.view files.new).reads name.now
-        STREAM_FILE_LIMIT }
-    ensures tells { TellsLoad ⊥ STREAM_FILE_LIMIT (F.view files.old) (F.view files.new) name.now
+    requires can { CanGoThrough crew.now.most crew.now.threads crew.now.q.now crew.now.pool.now pass }
+    ensures goes { IfOk result (GoesThrough stream_file_limit (F.view files.old).holds crew.now.name.now
+        crew.now.most crew.now.q.now crew.now.pool.now) }
+    ensures reads { ReadsSome (F.view files.old).reads (F.view files.new).reads crew.now.name.now
+        stream_file_limit }
+    ensures tells { TellsLoad ByReads stream_file_limit (F.view files.old) (F.view files.new) crew.now.name.now
         (result_err result) }
 {
-    let Ok(answer) = of_no_records(alloc, crew.q) else {
+    let Ok(answer) = of_no_records(crew.alloc, crew.q) else {
         return Err(LoadFault::Memory);
     };
-    let part = Part {
-        name,
+    let stretch = Stretch {
+        name: crew.name,
         limit: STREAM_FILE_LIMIT,
         at: 0,
-        most,
+        most: crew.most,
     };
-    let first = match read_piece(files, &part, &mut buffer) {
-        Ok(piece) => piece,
-        Err(fault) => return Err(fault),
-    };
+    if let Err(fault) = portion.read(files, &stretch) {
+        return Err(fault);
+    }
+    let none = portion.len() == 0;
     let going = UnderWay {
         pass,
         answer,
-        buffer,
+        portion,
     };
-    if first.count == 0 {
+    if none {
         return Ok(Gone { going, rest: 0 });
     }
-    match begun(rt, files, &part, crew, going, first) {
-        Ok((going, standing)) => take_chunks(rt, alloc, files, name, most, crew, going, standing),
+    match begin(rt, files, &stretch, crew, going) {
+        Ok((going, standing)) => take_chunks(rt, files, crew, going, standing),
         Err(fault) => Err(fault),
     }
 }

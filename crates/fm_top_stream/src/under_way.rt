@@ -1,5 +1,6 @@
 use fm_records::Answer;
 use fm_rule::Pass;
+use fm_top_load::Portion;
 
 /// A stream under way.
 #[derive(Drop)]
@@ -7,6 +8,6 @@ pub(crate) struct UnderWay {
     pub(crate) pass: Pass,
     /// The answer over the chunks that have gone through.
     pub(crate) answer: Answer,
-    /// Takes a piece of the file.
-    pub(crate) buffer: Vec<u8>,
+    /// What the last read brought.
+    pub(crate) portion: Portion,
 }

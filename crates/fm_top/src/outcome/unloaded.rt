@@ -1,4 +1,3 @@
-ghost use Rattle.std.specs.Prelude.{◌≢◌};
 ghost use Rattle.fm_top.specs.Ending.{IsUnloaded};
 
 use crate::outcome::ending::Ending;
@@ -12,15 +11,13 @@ pub fn unloaded_ending<'a>(
     file: &'a str,
     fault: LoadFault,
 ) -> Result<Ending<'a>, Fault>
-    requires { fault ≢ LoadFault.PoolFull }
     ensures { IsUnloaded fault file.now result }
 {
     match fault {
         LoadFault::Missing => Ok(Ending::missing(file)),
         LoadFault::TooLong => Ok(Ending::too_long(alloc)?),
         LoadFault::Failed => Err(Fault::Failed),
-        LoadFault::Memory => Err(Fault::Memory),
-        // The files are loaded into arenas that have all their room.
-        LoadFault::PoolFull => unreachable!(),
+        // The files are loaded into arenas that have all their room, but for want of memory.
+        LoadFault::Memory | LoadFault::Refused(_) => Err(Fault::Memory),
     }
 }

@@ -1,52 +1,43 @@
-use Rattle.std.proofs.Common.{◌%◌, ℕ, length, ap, subst, ◌∙◌, arith}
-use Rattle.fm_base.specs.declared.arena_id.ArenaId.{ArenaId}
-use Rattle.fm_top_load.{specs.Held.{IsHeld, loaded_in}, proofs.{Chunks.{no_bytes_from}, Filling.{loads_all, loads_nothing, loads_some}}}
-use Rattle.fm_top_load.proofs.{Following.{chunk_reads}, GivenBytes.{length-loaded}}
+use Rattle.std.proofs.Common.{Err, ap, sym, subst}
+use Rattle.fm_io.proofs.Left.{leaves_then}
+use Rattle.fm_top_load.proofs.{Loads.{begun, begun_none, loads, reads_whole, stops, tells_whole}, Telling.{read_quietly, tells_none, tells_then}}
+use Rattle.fm_top_load.specs.Held.{HasRoom}
 use Rattle.fm_top_load.proofs.loading.load_into.Goals as goal
 
 pub returns-in_default-clause-left : goal.returns-in_default-clause-left
-returns-in_default-clause-left g c = record { did = loads_nothing (g.M.Memory.view c.args.m.now) c.args.arena; held = c.requires.empty.held }
+returns-in_default-clause-left g c = begun_none c.requires.empty.held
 
-pub load_pieces-requires-clause-can : goal.load_pieces-requires-clause-can
-load_pieces-requires-clause-can g c =
-    let none = c.none_loaded-segment.ensures in
-    record {
-      piece = omega (arith, c.in-Ok.ensures, c.deref_mut.ensures);
-      limit = c.requires.room;
-      ready = none.ready;
-      even = ap (λ (n : ℕ). n % 8) (ap length none.none);
-      short = omega (arith, ap length none.none);
-    }
+pub returns-in-Err-clause-left : goal.returns-in-Err-clause-left
+returns-in-Err-clause-left g c = begun_none c.requires.empty.held
 
-pub load_pieces-requires-clause-first : goal.load_pieces-requires-clause-first
-load_pieces-requires-clause-first g c =
-    let none = c.none_loaded-segment in
-    no_bytes_from (g.F.Files.view c.args.files.now).holds c.args.name.now 0 (loaded_in (g.M.Memory.view c.args.m.now) none.result) none.ensures.none
+pub returns-in-Err-clause-reads : goal.returns-in-Err-clause-reads
+returns-in-Err-clause-reads g c = reads_whole c.whole-stretch.ensures c.in-Err.ensures.reads (λ next goes. tt)
 
-pub returns-in-Ok-load_pieces-clause-loaded : goal.returns-in-Ok-load_pieces-clause-loaded
-returns-in-Ok-load_pieces-clause-loaded g c =
-    let none = c.none_loaded-segment in
-    let pieces = c.load_pieces.ensures.loads in
-    record {
-      ready = pieces.ready;
-      arena = pieces.arena ∙ none.ensures.arena;
-      short = omega (arith, length-loaded pieces.ready, pieces.short);
-      whole = c.in-Ok-load_pieces.ensures.whole;
-      did = loads_all none.result c.load_pieces.new.segment c.args.arena pieces.did none.ensures.arena none.ensures.none;
-    }
+pub returns-in-Ok-put_stretch-clause-loaded : goal.returns-in-Ok-put_stretch-clause-loaded
+returns-in-Ok-put_stretch-clause-loaded g c =
+    let whole = c.whole-stretch.ensures in
+    let room = subst (λ n. HasRoom n (g.M.Memory.view c.args.m.now) c.args.arena) (sym whole.limited) c.requires in
+    loads c.of.result whole room c.in-Ok-put_stretch.ensures.outside c.in-Ok-put_stretch.ensures.did (read_quietly c.in_default-read.ensures.tells).held c.of.ensures
+
+pub returns-in-Ok-put_stretch-clause-reads : goal.returns-in-Ok-put_stretch-clause-reads
+returns-in-Ok-put_stretch-clause-reads g c =
+    reads_whole c.whole-stretch.ensures (c.in-Ok-put_stretch.ensures.reads _ _ c.in_default-read.ensures.reads) (λ next goes. tt)
+
+pub returns-in-Ok-put_stretch-clause-tells : goal.returns-in-Ok-put_stretch-clause-tells
+returns-in-Ok-put_stretch-clause-tells g c = tells_none (leaves_then (read_quietly c.in_default-read.ensures.tells) (read_quietly c.in-Ok-put_stretch.ensures.tells))
 
 pub returns-clause-left : goal.returns-clause-left
 returns-clause-left g c =
-    let none = c.none_loaded-segment in
-    let new = c.load_pieces.new in
-    let pieces = c.load_pieces.ensures.loads in
-    record {
-      did = loads_some new.segment c.args.arena (loads_all none.result new.segment c.args.arena pieces.did none.ensures.arena none.ensures.none);
-      held = subst (λ (a : ArenaId). IsHeld (g.M.Memory.view new.m) a) (pieces.arena ∙ none.ensures.arena) pieces.ready.held;
-    }
-
-pub returns-in-Ok-load_pieces-clause-reads : goal.returns-in-Ok-load_pieces-clause-reads
-returns-in-Ok-load_pieces-clause-reads g c = chunk_reads c.load_pieces.ensures.reads (ap length c.none_loaded-segment.ensures.none) (λ next goes. tt)
+    let room = subst (λ n. HasRoom n (g.M.Memory.view c.args.m.now) c.args.arena) (sym c.whole-stretch.ensures.limited) c.requires in
+    begun c.whole-stretch.result (g.F.Files.view c.read.new.files).holds c.read.new.self c.in-Err-put_stretch.fault c.in-Err-put_stretch.ensures.did (c.in-Err-put_stretch.ensures.alone room).held
 
 pub returns-clause-reads : goal.returns-clause-reads
-returns-clause-reads g c = chunk_reads c.load_pieces.ensures.reads (ap length c.none_loaded-segment.ensures.none) (λ next goes. tt)
+returns-clause-reads g c = reads_whole c.whole-stretch.ensures (c.in-Err-put_stretch.ensures.reads _ _ c.in_default-read.ensures.reads) (λ next goes. tt)
+
+pub returns-clause-tells : goal.returns-clause-tells
+returns-clause-tells g c =
+    let whole = c.whole-stretch.ensures in
+    let room = subst (λ n. HasRoom n (g.M.Memory.view c.args.m.now) c.args.arena) (sym whole.limited) c.requires in
+    let put = c.in-Err-put_stretch.ensures in
+    tells_whole whole (tells_then (read_quietly c.in_default-read.ensures.tells)
+    (stops g.M.Memory.nature (g.M.Memory.view c.args.m.now) (g.M.Memory.view c.put_stretch.new.m) c.in-Err-put_stretch.fault (λ r e. (put.alone room).wants r (ap Err e)) put.tells))

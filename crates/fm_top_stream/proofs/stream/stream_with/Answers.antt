@@ -8,20 +8,20 @@ use Rattle.fm_top_stream.proofs.stream.stream_with.Goals as goal
 pub go_through-requires-clause-can : goal.go_through-requires-clause-can
 go_through-requires-clause-can g c κs within =
     let made = c.in-Ok.ensures in
-    can_go c.in-Ok.pool c.in-Ok.pass c.chunk_bytes-most.result c.requires c.chunk_bytes-most.ensures.sized (made.pool ∙ c.shape_of.ensures.is)
-    (made.pass ∙ ap (first_pass (numbers_of c.in-Ok.pool.table.shared.table_id)) c.shape_of.ensures.is) made.sound c.chunk_bytes-most.ensures.is
+    can_go c.in-Ok.pool c.in-Ok.pass c.chunk_bytes.result c.requires c.chunk_bytes.ensures.sized (made.pool ∙ c.shape_of.ensures.is)
+    (made.pass ∙ ap (first_pass (numbers_of c.in-Ok.pool.table.shared.table_id)) c.shape_of.ensures.is) made.sound c.chunk_bytes.ensures.is
 
 pub returns-in-Ok-finish-clause-streams : goal.returns-in-Ok-finish-clause-streams
 returns-in-Ok-finish-clause-streams g c =
-    let most = c.chunk_bytes-most.ensures in
-    streamed c.chunk_bytes-most.result most.is (subst (λ n. 0 < n) (sym most.is) (some_in_chunk c.args.q.now.size most.sized c.requires.small))
+    let most = c.chunk_bytes.ensures in
+    streamed c.chunk_bytes.result most.is (subst (λ n. 0 < n) (sym most.is) (some_in_chunk c.args.q.now.size most.sized c.requires.small))
     (c.in-Ok.ensures.pool ∙ c.shape_of.ensures.is) (c.in-Ok-go_through.ensures.goes.whole c.if-rest-ne0.false) c.in-Ok-finish.ensures.finishes
 
 pub returns-in_default-clause-tells : goal.returns-in_default-clause-tells
 returns-in_default-clause-tells g c = told_memory (leaves_none (g.F.Files.view c.args.files.now) (λ e. e) (λ e. e))
 
-pub returns-in_default-zero_bytes-clause-tells : goal.returns-in_default-zero_bytes-clause-tells
-returns-in_default-zero_bytes-clause-tells g c = told_memory (leaves_none (g.F.Files.view c.args.files.now) (λ e. e) (λ e. e))
+pub returns-in_default-none-clause-tells : goal.returns-in_default-none-clause-tells
+returns-in_default-none-clause-tells g c = told_memory (leaves_none (g.F.Files.view c.args.files.now) (λ e. e) (λ e. e))
 
 pub returns-in-Ok-finish-clause-tells : goal.returns-in-Ok-finish-clause-tells
 returns-in-Ok-finish-clause-tells g c = told_nothing (read_quietly c.in-Ok-go_through.ensures.tells)

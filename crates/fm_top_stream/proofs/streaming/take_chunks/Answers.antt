@@ -15,17 +15,17 @@ returns-then-rest-ne0-clause-reads g c = further_some stream_file_limit c.chunks
 pub returns-then-rest-ne0-clause-tells : goal.returns-then-rest-ne0-clause-tells
 returns-then-rest-ne0-clause-tells g c = tells_none c.chunks.invariant.left
 
-pub round-requires-after_bounds : goal.round-requires-after_bounds
-round-requires-after_bounds g c κs within =
+pub take_chunk-requires-after_bounds : goal.take_chunk-requires-after_bounds
+take_chunk-requires-after_bounds g c κs within =
     let i = c.chunks.invariant in
     let crew = c.args.crew.now in
     record {
       from = c.chunks.at;
       at = refl;
       asks = c.requires.asks;
-      read = record { room = i.has.buffer; small = omega arith; short = ends_within i.has c.requires.asks };
+      read = record { small = omega arith; short = ends_within i.has c.requires.asks };
       even = sym (ap (λ n. c.chunks.standing.chunk.count % n) c.record_size.ensures.size) ∙ c.if-rest-ne0.false;
-      has = subst (λ (told : Option Contents). HasNext stream_file_limit c.args.most told c.args.name.now c.chunks.at crew.q.now crew.pool.now c.chunks.going c.chunks.standing)
+      has = subst (λ (told : Option Contents). HasNext stream_file_limit crew.most told crew.name.now c.chunks.at crew.q.now crew.pool.now c.chunks.going c.chunks.standing)
           (sym i.left.held) i.has;
     }
 
@@ -42,13 +42,13 @@ chunks-preserved g c =
     let i = c.chunks.invariant in
     let crew = c.args.crew.now in
     let old = g.F.Files.view c.chunks.files in
-    let new = g.F.Files.view c.round.new.files in
+    let new = g.F.Files.view c.take_chunk.new.files in
     let at = c.chunks.at + c.chunks.standing.chunk.count in
-    let has = subst (λ (n : Option Placed). IfSome n (HasNext stream_file_limit c.args.most old.holds c.args.name.now at crew.q.now crew.pool.now c.in-Ok.gone.0)) c.in-Some.is
+    let has = subst (λ (n : Option Placed). IfSome n (HasNext stream_file_limit crew.most old.holds crew.name.now at crew.q.now crew.pool.now c.in-Ok.gone.0)) c.in-Some.is
     c.in-Ok.ensures.goes.on in
     record {
-      has = subst (λ (told : Option Contents). HasNext stream_file_limit c.args.most told c.args.name.now at crew.q.now crew.pool.now c.in-Ok.gone.0 c.in-Some.chunk) i.left.held has;
-      reads = further_then stream_file_limit i.reads (subst (λ (n : Option Placed). ReadsFurther old.reads new.reads c.args.name.now stream_file_limit
+      has = subst (λ (told : Option Contents). HasNext stream_file_limit crew.most told crew.name.now at crew.q.now crew.pool.now c.in-Ok.gone.0 c.in-Some.chunk) i.left.held has;
+      reads = further_then stream_file_limit i.reads (subst (λ (n : Option Placed). ReadsFurther old.reads new.reads crew.name.now stream_file_limit
           (GoesBy c.chunks.standing.chunk.ended at) (λ next. IsFollowed at n next)) c.in-Some.is c.in-Ok.ensures.reads);
       left = leaves_then i.left (read_quietly c.in-Ok.ensures.tells);
     }

@@ -10,8 +10,8 @@ invariant-chunks g l =
     let old = g.F.Files.view l.fn.files in
     let new = g.F.Files.view l.files in
     record {
-      has : HasNext stream_file_limit l.most old.holds l.name l.at l.crew.q.now l.crew.pool.now l.going l.standing;
-      reads : ReadsFurther old.reads new.reads l.name stream_file_limit (GoesBy l.fn.standing.chunk.ended l.fn.standing.chunk.count)
+      has : HasNext stream_file_limit l.crew.most old.holds l.crew.name.now l.at l.crew.q.now l.crew.pool.now l.going l.standing;
+      reads : ReadsFurther old.reads new.reads l.crew.name.now stream_file_limit (GoesBy l.fn.standing.chunk.ended l.fn.standing.chunk.count)
           (GoesBy l.standing.chunk.ended (l.at + l.standing.chunk.count));
       left : Leaves ⊥ ⊥ old new;
     }
