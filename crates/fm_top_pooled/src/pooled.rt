@@ -1,10 +1,9 @@
-ghost use Rattle.std.specs.Prelude.{◌≡◌, ◌%◌, ◌≤◌, [], length, IfOk};
+ghost use Rattle.std.specs.Prelude.{◌≡◌, ◌%◌, ◌≤◌, length, IfOk};
 ghost use Rattle.std.specs.Result.{result_err};
 ghost use Rattle.fm_top_load.specs.Reading.{ReadsSome};
 ghost use Rattle.fm_top_load.specs.Whole.{ByReads, IsWhole, TellsLoad};
 ghost use Rattle.fm_top_pooled.specs.Asking.{IsCrew};
 ghost use Rattle.fm_top_pooled.specs.Shown.{ShowsBoth, ShowsQuery};
-ghost use Rattle.fm_top_pooled.specs.Stocked.{IsStocked, bytes_in_pool};
 ghost use Rattle.fm_records.specs.Answers.{answer};
 
 use crate::asking::ask;
@@ -14,8 +13,7 @@ use crate::stock::{Stock, stock_of_bytes};
 use fm_io::{Files, Gate};
 use fm_records::Answer;
 use fm_records_query::Query;
-use fm_rule::{Finished, Pass, Pool};
-use fm_segment::Segment;
+use fm_rule::Finished;
 use fm_top_load::{LoadFault, RECORD_FILE_LIMIT};
 use std::alloc::{AllocError, Global};
 use std::marker::Model;
@@ -25,9 +23,7 @@ use std::thread::Threads;
 /// Bytes in the one arena of a pool of their own, which is shared.
 #[derive(Drop)]
 pub struct Pooled {
-    pool: Pool,
-    pass: Pass,
-    segment: Segment,
+    stock: Stock,
 }
 
 impl Model for Pooled {
@@ -48,16 +44,8 @@ impl Pooled {
         requires { length bytes.items ≤ RECORD_FILE_LIMIT }
         ensures { IfOk result (λ pooled. pooled ≡ bytes.items) }
     {
-        let Stock {
-            pool,
-            pass,
-            segment,
-        } = stock_of_bytes(rt, alloc, bytes, 1)?;
-        Ok(Pooled {
-            pool,
-            pass,
-            segment,
-        })
+        let stock = stock_of_bytes(rt, alloc, bytes, 1)?;
+        Ok(Pooled { stock })
     }
 
     /// Reads a whole record file into a pool. A guess of its size, in bytes, saves memory where it is right or too
@@ -77,17 +65,7 @@ impl Pooled {
             (result_err result) }
     {
         match load_stock(rt, alloc, files, name, guess, 1) {
-            Ok(
-                Stock {
-                    pool,
-                    pass,
-                    segment,
-                },
-            ) => Ok(Pooled {
-                pool,
-                pass,
-                segment,
-            }),
+            Ok(stock) => Ok(Pooled { stock }),
             Err(fault) => Err(fault),
         }
     }
@@ -96,22 +74,7 @@ impl Pooled {
     pub fn len(&self) -> u64
         ensures { result ≡ length self.now }
     {
-        self.segment.size()
-    }
-
-    /// The pool, its first pass, and where the bytes stand.
-    fn parts(self) -> (Pool, Pass, Segment)
-        ensures stocked { IsStocked result.0 result.1 result.2 }
-        ensures none_gathered { result.1.gathered ≡ [] }
-        ensures bytes { bytes_in_pool result.1 result.2 ≡ self }
-        ensures size { result.2.size ≡ length self }
-    {
-        let Pooled {
-            pool,
-            pass,
-            segment,
-        } = self;
-        (pool, pass, segment)
+        self.stock.segment.size()
     }
 
     /// What a query answers over the records, of which there is a whole number, by a crew of so many passes, each in a
@@ -129,7 +92,11 @@ impl Pooled {
         ensures answer { IfOk result (λ r. r.0 ≡ answer q.now self) }
         ensures shows { IfOk result (λ r. ShowsQuery r.1 q.now self) }
     {
-        let (pool, mut pass, segment) = self.parts();
+        let Stock {
+            pool,
+            mut pass,
+            segment,
+        } = self.stock;
         let found = ask(rt, alloc, &pool, &mut pass, &segment, q, threads, gate)?;
         let finished = finish(alloc, pool, pass, &segment)?;
         Ok((found, finished))
@@ -152,7 +119,11 @@ impl Pooled {
         ensures second { IfOk result (λ r. r.1 ≡ answer q.now self) }
         ensures shows { IfOk result (λ r. ShowsBoth r.2 p.now q.now self) }
     {
-        let (pool, mut pass, segment) = self.parts();
+        let Stock {
+            pool,
+            mut pass,
+            segment,
+        } = self.stock;
         let first = ask(rt, alloc, &pool, &mut pass, &segment, p, threads, gate)?;
         let second = ask(rt, alloc, &pool, &mut pass, &segment, q, threads, gate)?;
         let finished = finish(alloc, pool, pass, &segment)?;

@@ -31,9 +31,7 @@ const COUNTS_SIZE: u64 = 2048;
 /// Bytes in an arena of a pool of their own, beside an arena for counts.
 #[derive(Drop)]
 pub struct PooledWithCounts {
-    pool: Pool,
-    pass: Pass,
-    segment: Segment,
+    stock: Stock,
     counts: Segment,
 }
 
@@ -76,7 +74,7 @@ impl PooledWithCounts {
     pub fn len(&self) -> u64
         ensures { result ≡ length self.now }
     {
-        self.segment.size()
+        self.stock.segment.size()
     }
 
     /// How often each number comes that a query lists over the records, of which there is a whole number, by a crew of
@@ -96,12 +94,12 @@ impl PooledWithCounts {
         ensures counts { IfOk result (λ r. AreCounts (listed (answer q.now self)) r.0) }
         ensures shows { IfOk result (λ r. ShowsQuery r.1 q.now self) }
     {
-        let PooledWithCounts {
+        let PooledWithCounts { stock, counts } = self;
+        let Stock {
             pool,
             mut pass,
             segment,
-            counts,
-        } = self;
+        } = stock;
         let found = count(
             rt, alloc, &pool, &mut pass, &segment, &counts, q, threads, gate,
         )?;
@@ -122,12 +120,12 @@ fn beside<R: Wait>(rt: &R, stock: Stock) -> PooledWithCounts
         segment,
     } = stock;
     let (pass, counts) = with_counts(rt, &pool, pass, &segment);
-    PooledWithCounts {
+    let stock = Stock {
         pool,
         pass,
         segment,
-        counts,
-    }
+    };
+    PooledWithCounts { stock, counts }
 }
 
 /// Opens an arena for the counts beside the records, which gives just them.

@@ -5,4 +5,4 @@ use Rattle.fm_top_pooled.proofs.tallying.PooledWithCounts.len.Goals as goal
 pub returns : goal.returns
 returns c =
     let p = c.self.inside in
-    c.size.ensures.size ∙ sym (length-pooled p.pass p.segment) ∙ ap length c.self.view_is
+    c.size.ensures.size ∙ sym (length-pooled p.stock.pass p.stock.segment) ∙ ap length c.self.view_is

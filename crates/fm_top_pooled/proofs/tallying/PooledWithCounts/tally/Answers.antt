@@ -5,7 +5,7 @@ use Rattle.fm_top_pooled.proofs.tallying.PooledWithCounts.tally.Goals as goal
 pub count-requires-clause-can : goal.count-requires-clause-can
 count-requires-clause-can g c κs within =
     let p = c.self.inside in
-    let count : p.segment.size ≡ length c.args.self = sym (length-pooled p.pass p.segment) ∙ ap length c.self.view_is in
+    let count : p.stock.segment.size ≡ length c.args.self = sym (length-pooled p.stock.pass p.stock.segment) ∙ ap length c.self.view_is in
     record {
       stocked = c.self.invariant.stocked;
       beside = c.self.invariant.beside;
