@@ -17,7 +17,8 @@ pub fn unloaded_ending<'a>(
         LoadFault::Missing => Ok(Ending::missing(file)),
         LoadFault::TooLong => Ok(Ending::too_long(alloc)?),
         LoadFault::Failed => Err(Fault::Failed),
-        // The files are loaded into arenas that have all their room, but for want of memory.
-        LoadFault::Memory | LoadFault::Refused(_) => Err(Fault::Memory),
+        LoadFault::Memory => Err(Fault::Memory),
+        // Files are loaded into arenas that want nothing but memory.
+        LoadFault::Refused(_) => Err(Fault::Memory),
     }
 }
