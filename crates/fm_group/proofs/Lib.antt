@@ -10,3 +10,7 @@ pub mod Lasting
 pub mod OnePlace
 pub mod InTheirOrder
 pub mod Counted
+pub mod Looking
+pub mod OneRead
+pub mod AllRead
+pub mod GroupsRead

@@ -15,7 +15,11 @@
 //! for ordinal in 0..table.values().len() {
 //!     table.count(&mut memory, ordinal)?;
 //! }
+//! let groups = table.read_groups(alloc, &mut memory)?;
 //! ```
+//!
+//! [`CountTable::read_groups`] answers the numbers that places are claimed for, in rising order, each once, with the sum
+//! of the counts beside its claims ([`Groups`]).
 //!
 //! **Why it is safe.** A claim is only put where 0 stood, and never taken away: whoever meets it finds the same value
 //! there. A count is only added to, in the visit that claimed its place or behind one that met the claim. So no
@@ -29,9 +33,11 @@ mod counting;
 mod laws;
 mod order;
 mod places;
+mod reading;
 mod table;
 mod values;
 
+pub use fm_group_lists::Groups;
 pub use laws::{numbers_by_ordinal, resolved_is_few, tries_each_place};
 pub use order::PlaceOrder;
 pub use table::CountTable;

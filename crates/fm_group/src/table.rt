@@ -1,14 +1,16 @@
 ghost use Rattle.std.specs.Prelude.{◌≡◌, true, false};
-ghost use Rattle.fm_group.specs.Asked.{CanCount};
+ghost use Rattle.fm_group.specs.Asked.{CanCount, IsReady};
 ghost use Rattle.fm_group.specs.Counting.{MayCount};
-ghost use Rattle.fm_group.specs.Learnt.{AfterCount};
+ghost use Rattle.fm_group.specs.Learnt.{AfterCount, AfterReadGroups};
 ghost use Rattle.fm_group.specs.Table.{CanTable, counter};
 
 use crate::order::PlaceOrder;
 use crate::values::Values;
 use fm_base::{Memory, Refusal};
+use fm_group_lists::Groups;
 use fm_segment::Segment;
 use fm_segment_access::may_use;
+use std::alloc::Global;
 use std::marker::Model;
 
 /// A table of places, each with a claim and a count, in which values are counted by their numbers.
@@ -86,9 +88,30 @@ impl CountTable {
         self.try_places(m, ordinal, number)
     }
 
+    /// The numbers that places are claimed for, in rising order, each once, and beside each the sum of the counts of
+    /// its places, modulo 2^64. Two places may be claimed for one number; they are summed up.
+    ///
+    /// Each place is read once, the lowest first: its claim, and beside a claim that names a value its count in the
+    /// same visit, and then the value. Who reads while others count sees each place as it is then.
+    ///
+    /// Refused, in this order: `WrongThread`, where either arena is confined to another caller; then `Closed` at the
+    /// visit that finds an arena closed, or `Memory`, which is wanting only where a claim was found to name a value.
+    pub fn read_groups<M: Memory>(&self, alloc: Global, m: &mut M) -> Result<Groups, Refusal>
+        requires { IsReady (M.view m.old) self.now }
+        ensures { AfterReadGroups (M.view m.old) (M.view m.new) self.now result }
+    {
+        if !self.may_count(m) {
+            return Err(Refusal::WrongThread);
+        }
+        let found = self.read_places(alloc, m)?;
+        let groups = Groups::of(alloc, found)?;
+        Ok(groups)
+    }
+
     /// Whether the caller may use both arenas.
     #[inline(always)]
     fn may_count<M: Memory>(&self, m: &M) -> bool
+        ensures can { CanTable self.now }
         ensures yes { result ≡ true → MayCount (M.view m.now).caller self.now }
         ensures no { result ≡ false → ¬ (MayCount (M.view m.now).caller self.now) }
     {

@@ -161,7 +161,7 @@ claims_sum w es (suc m) h =
     let one = h m (omega arith) in
     omega (arith, step, rest, one)
 
-filtered : {X : Type 0} (P : X → Type 0) (q : X → Bool) (xs : List X) → AllByRecursion P xs → AllByRecursion P (filter q xs)
+pub filtered : {X : Type 0} (P : X → Type 0) (q : X → Bool) (xs : List X) → AllByRecursion P xs → AllByRecursion P (filter q xs)
 filtered P q xs h = all_of_among P (filter q xs) (λ x a. all_among P x xs h (among_kept q x xs a))
 
 -- ---- where nobody else touched the table or the records

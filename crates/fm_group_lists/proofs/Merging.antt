@@ -27,7 +27,7 @@ module _ (apart : (x y : ℤ) → x <ℤ y → x ≢ y) (xs : List Group) (k : �
   abbrev more : List Group
   more = xs ++ (k, d) ∷ []
 
-  keys_more : (ys : List Group) (c : ℕ) → keys (ys ++ (k, c) ∷ []) ≡ keys ys ++ k ∷ []
+  pub keys_more : (ys : List Group) (c : ℕ) → keys (ys ++ (k, c) ∷ []) ≡ keys ys ++ k ∷ []
   keys_more ys c = map-append (λ (g : Group). g.0) ys ((k, c) ∷ [])
 
   other_sum : (n : ℤ) → n ≢ k → sum_at n (xs ++ (k, d) ∷ []) ≡ sum_at n xs

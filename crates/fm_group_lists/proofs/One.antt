@@ -42,7 +42,7 @@ one_list f (g ∷ gs) (h ∷ hs) r s a b i j =
 
 -- ---- groups
 
-often_there : (n : ℤ) (ns : List ℤ) → 0 < how_many n ns → IsAmong n ns
+pub often_there : (n : ℤ) (ns : List ℤ) → 0 < how_many n ns → IsAmong n ns
 often_there n [] h = absurd (omega (arith, h))
 often_there n (m ∷ ms) h = go (λ some. often_there n ms some) (int_eq m n) refl
   where
@@ -64,7 +64,7 @@ groups_one ns gs hs g h =
 
 -- ---- sums
 
-sums_stand : (xs gs : List Group) → AllByRecursion (IsSumOf xs) gs → AllByRecursion (λ n. IsAmong n (keys xs)) (keys gs)
+pub sums_stand : (xs gs : List Group) → AllByRecursion (IsSumOf xs) gs → AllByRecursion (λ n. IsAmong n (keys xs)) (keys gs)
 sums_stand xs [] h = tt
 sums_stand xs (g ∷ gs) h = (h.0.1, sums_stand xs gs h.1)
 

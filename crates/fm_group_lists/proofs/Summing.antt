@@ -115,7 +115,7 @@ summed_below n key count (suc p) =
 
 -- ---- groups
 
-often : (n : ℤ) (ns : List ℤ) → IsAmong n ns → 0 < how_many n ns
+pub often : (n : ℤ) (ns : List ℤ) → IsAmong n ns → 0 < how_many n ns
 often n [] i = absurd i
 often n (x ∷ ns) (inl e) = let one = ap bit (is_same x n (sym e)) in omega (arith, one)
 often n (x ∷ ns) (inr i) = let rest = often n ns i in omega (arith, rest)

@@ -43,6 +43,11 @@ pub record AreSummed (xs gs : List Group) : Type 0 where
   pub each : AllByRecursion (IsSumOf xs) gs
   pub all : AllByRecursion (λ n. IsAmong n (keys gs)) (keys xs)
 
+-- all counts together
+abbrev pub total_of : List Group → ℕ
+total_of [] = 0
+total_of (g ∷ gs) = g.1 + total_of gs
+
 -- ---- each is one list
 
 -- numbers have one list of groups

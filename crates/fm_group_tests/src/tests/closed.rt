@@ -6,7 +6,8 @@ use fm_base::{Kind, Memory, Refusal};
 use fm_group::PlaceOrder;
 use fm_mono::Mono;
 
-/// A value whose arena is closed isn't read; one whose place's arena is closed isn't counted.
+/// A value whose arena is closed isn't read; one whose place's arena is closed isn't counted; nor are
+/// groups read.
 #[test]
 fn a_closed_arena_refuses(rt: HostRuntime) {
     for of_records in [true, false] {
@@ -20,5 +21,7 @@ fn a_closed_arena_refuses(rt: HostRuntime) {
         let closed = if of_records { records } else { places };
         same(&rt, m.close(&rt, closed.arena()), Ok(()));
         counts(&rt, &mut m, &table, 1, Err(Refusal::Closed));
+        let read = table.read_groups(rt.alloc(), &mut m);
+        same(&rt, read.err(), Some(Refusal::Closed));
     }
 }

@@ -3,7 +3,7 @@ ghost use Rattle.fm_base.specs.Outcomes.{Lasts};
 ghost use Rattle.fm_segment.specs.Learnt.{CanUse};
 ghost use Rattle.fm_group.specs.Asked.{IsReady};
 
-use crate::tests::calls::{counts, fresh, has, longs_in, put, table_in};
+use crate::tests::calls::{counts, fresh, has, longs_in, put, same, table_in};
 use fm_base::{Kind, Memory, Refusal};
 use fm_group::{CountTable, PlaceOrder};
 use fm_mono::Mono;
@@ -23,6 +23,8 @@ pub(crate) struct Row {
     pub(crate) answers: &'static [Result<u64, Refusal>],
     /// The claim and the count of each place in the end.
     pub(crate) words: &'static [i64],
+    /// The numbers that places are claimed for then, and their counts.
+    pub(crate) groups: &'static [(i64, u64)],
 }
 
 /// Puts longs into a segment, one behind the other.
@@ -57,6 +59,25 @@ fn count_all<R: Abort, M: Memory>(
     }
 }
 
+/// The table's groups are these.
+fn groups_are<R: Abort, M: Memory>(
+    rt: &R,
+    alloc: Global,
+    m: &mut M,
+    table: &CountTable,
+    wanted: &[(i64, u64)],
+)
+    requires { IsReady (M.view m.old) table.now }
+    ensures { IsReady (M.view m.new) table.now }
+{
+    let groups = table.read_groups(alloc, m).expect(rt, "groups");
+    same(rt, groups.len(), wanted.len());
+    for k in 0..wanted.len() {
+        assert!(rt; k < groups.len());
+        same(rt, groups.at(k), wanted[k]);
+    }
+}
+
 /// These longs stand in the segment.
 fn all_stand<R: Abort, M: Memory>(rt: &R, m: &mut M, s: &Segment, words: &[i64])
     requires { CanUse (M.view m.old) s.now }
@@ -82,6 +103,7 @@ pub(crate) fn play<R: Abort + Wait, M: Memory>(rt: &R, alloc: Global, m: &mut M,
     put_all(rt, m, &places, row.before);
     let table = table_in(rt, places, records, longs_in(rt, alloc, records), row.order);
     count_all(rt, m, &table, row.answers);
+    groups_are(rt, alloc, m, &table, row.groups);
     all_stand(rt, m, &places, row.words);
 }
 
@@ -96,6 +118,7 @@ fn places_are_tried_from_the_remainder_on(rt: HostRuntime) {
             before: &[],
             answers: &[Ok(0), Ok(0), Err(Refusal::TableFull)],
             words: &[1, 2],
+            groups: &[(7, 2)],
         },
         // as many places as values
         Row {
@@ -105,6 +128,7 @@ fn places_are_tried_from_the_remainder_on(rt: HostRuntime) {
             before: &[],
             answers: &[Ok(0), Ok(1), Ok(2), Ok(3)],
             words: &[1, 1, 2, 1, 3, 1, 4, 1],
+            groups: &[(0, 1), (1, 1), (2, 1), (3, 1)],
         },
         // multiples of the places go one behind the other
         Row {
@@ -114,6 +138,7 @@ fn places_are_tried_from_the_remainder_on(rt: HostRuntime) {
             before: &[],
             answers: &[Ok(0), Ok(1), Ok(2), Ok(3), Err(Refusal::TableFull)],
             words: &[1, 1, 2, 1, 3, 1, 4, 1],
+            groups: &[(0, 1), (4, 1), (8, 1), (12, 1)],
         },
         // negative numbers are what they are modulo 2^64; behind the last place comes the first
         Row {
@@ -123,6 +148,7 @@ fn places_are_tried_from_the_remainder_on(rt: HostRuntime) {
             before: &[],
             answers: &[Ok(3), Ok(0), Ok(3), Ok(1)],
             words: &[2, 1, 4, 1, 0, 0, 1, 2],
+            groups: &[(-5, 1), (-1, 2), (3, 1)],
         },
         Row {
             order: PlaceOrder::ByRemainder,
@@ -131,6 +157,7 @@ fn places_are_tried_from_the_remainder_on(rt: HostRuntime) {
             before: &[],
             answers: &[Ok(0), Ok(3), Ok(1), Ok(2)],
             words: &[1, 1, 3, 1, 4, 1, 2, 1],
+            groups: &[(i64::MIN, 1), (-1, 1), (0, 1), (i64::MAX, 1)],
         },
         // no power of two
         Row {
@@ -140,6 +167,7 @@ fn places_are_tried_from_the_remainder_on(rt: HostRuntime) {
             before: &[],
             answers: &[Ok(2), Ok(0), Ok(2), Ok(1)],
             words: &[2, 1, 4, 1, 1, 2],
+            groups: &[(-1, 1), (2, 1), (5, 2)],
         },
         Row {
             order: PlaceOrder::ByRemainder,
@@ -148,6 +176,7 @@ fn places_are_tried_from_the_remainder_on(rt: HostRuntime) {
             before: &[],
             answers: &[Ok(3), Ok(2), Ok(3), Ok(0), Ok(4)],
             words: &[4, 1, 0, 0, 2, 1, 1, 2, 5, 1],
+            groups: &[(i64::MIN, 2), (-1, 1), (4, 1), (i64::MAX, 1)],
         },
     ] {
         let mut m = Mono::make(rt.alloc(), 1024);
@@ -165,6 +194,7 @@ fn places_are_mixed_from_all_bits(rt: HostRuntime) {
             before: &[],
             answers: &[Ok(0), Ok(2), Ok(1), Ok(3)],
             words: &[1, 1, 3, 1, 2, 1, 4, 1],
+            groups: &[(0, 1), (1, 1), (2, 1), (3, 1)],
         },
         // numbers that are equal modulo the places, and modulo 2^32
         Row {
@@ -174,6 +204,7 @@ fn places_are_mixed_from_all_bits(rt: HostRuntime) {
             before: &[],
             answers: &[Ok(0), Ok(1), Ok(3), Ok(2), Ok(1)],
             words: &[1, 1, 2, 2, 4, 1, 3, 1],
+            groups: &[(0, 1), (4294967296, 2), (8589934592, 1), (12884901888, 1)],
         },
         // numbers whose highest bits alone differ
         Row {
@@ -183,6 +214,12 @@ fn places_are_mixed_from_all_bits(rt: HostRuntime) {
             before: &[],
             answers: &[Ok(0), Ok(5), Ok(2), Ok(7)],
             words: &[1, 1, 0, 0, 3, 1, 0, 0, 0, 0, 2, 1, 0, 0, 4, 1],
+            groups: &[
+                (0, 1),
+                (2305843009213693952, 1),
+                (4611686018427387904, 1),
+                (6917529027641081856, 1),
+            ],
         },
         Row {
             order: PlaceOrder::Mixed,
@@ -191,6 +228,7 @@ fn places_are_mixed_from_all_bits(rt: HostRuntime) {
             before: &[],
             answers: &[Ok(2), Ok(3), Ok(0), Ok(1)],
             words: &[3, 1, 4, 1, 1, 1, 2, 1],
+            groups: &[(i64::MIN, 1), (-1, 1), (0, 1), (i64::MAX, 1)],
         },
         // no power of two, and full
         Row {
@@ -200,6 +238,7 @@ fn places_are_mixed_from_all_bits(rt: HostRuntime) {
             before: &[],
             answers: &[Ok(1), Ok(0), Ok(2), Ok(1), Err(Refusal::TableFull)],
             words: &[2, 1, 1, 2, 3, 1],
+            groups: &[(1, 2), (2, 1), (3, 1)],
         },
     ] {
         let mut m = Mono::make(rt.alloc(), 1024);
@@ -218,6 +257,7 @@ fn claims_that_stand_are_met(rt: HostRuntime) {
             before: &[1, 0],
             answers: &[Ok(0), Ok(0)],
             words: &[1, 2],
+            groups: &[(7, 2)],
         },
         // one that names no value
         Row {
@@ -227,6 +267,7 @@ fn claims_that_stand_are_met(rt: HostRuntime) {
             before: &[0, 0, 2, 5],
             answers: &[Ok(0)],
             words: &[1, 1, 2, 5],
+            groups: &[(7, 1)],
         },
         Row {
             order: PlaceOrder::ByRemainder,
@@ -235,6 +276,7 @@ fn claims_that_stand_are_met(rt: HostRuntime) {
             before: &[-1, 0],
             answers: &[Err(Refusal::TableFull)],
             words: &[-1, 0],
+            groups: &[],
         },
         // a number that stands at two places is counted at the first that is tried; counts wrap
         Row {
@@ -244,6 +286,7 @@ fn claims_that_stand_are_met(rt: HostRuntime) {
             before: &[1, 3, 2, -1],
             answers: &[Ok(1), Ok(1)],
             words: &[1, 3, 2, 1],
+            groups: &[(7, 4)],
         },
     ] {
         let mut m = Mono::make(rt.alloc(), 1024);
