@@ -1,5 +1,5 @@
-//! Tests of the tool over files and a sink: a module a command, and one each of failing reads and writes, of guesses at files, of what it
-//! keeps, of who passes its gate, and of sizes at which nothing may be wanting.
+//! Tests of the tool over files and a sink of ours: of failing reads and writes, of guesses at files, of what it keeps, of who passes its
+//! gate, and of words with an option. Each command's rows are in `examples/rows`.
 #![tactic(auto)]
 
 #[cfg(test)]

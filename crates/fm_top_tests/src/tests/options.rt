@@ -1,64 +1,17 @@
 //! What `fm_top_options` says of words, and which it refuses.
 use crate::tests::compared::same;
-use crate::tests::endings::{owned, words_of};
+use crate::tests::endings::words_of;
 use fm_top_options::options_of;
 use std::alloc::{AllocError, AllocGlobal, Global};
 use std::process::Abort;
 
-/// What words say: the option's text and a blank where it stands among them, `words`, and each positional word behind a
-/// bar; or `refused`.
-fn said(alloc: Global, words: &[String]) -> Result<String, AllocError> {
-    let Some(options) = options_of(alloc, words)? else {
-        return String::from_str(alloc, "refused");
-    };
-    let mut said = String::new(alloc);
-    if let Some(threads) = options.threads {
-        said.push_str(threads)?;
-        said.push(' ')?;
-    }
-    said.push_str("words")?;
-    for word in &options.words {
-        said.push('|')?;
-        said.push_str(word)?;
-    }
-    Ok(said)
-}
-
-/// Compares what words say with what is wanted.
-fn say<R: AllocGlobal + Abort>(rt: &R, words: &[&str], wanted: &str) {
-    let owned = owned(rt.alloc(), words).expect(rt, "memory");
-    let found = said(rt.alloc(), &owned).expect(rt, "memory");
-    same(rt, (found.as_str(), words), (wanted, words));
-}
-
-/// Compares what the words of a line say, which single blanks part, with what stands behind its arrow.
-fn line_says<R: AllocGlobal + Abort>(rt: &R, row: &str) {
-    let (line, wanted) = row.split_once(" -> ").unwrap_or((row, ""));
-    say(rt, &words_of(rt, line, ' '), wanted);
-}
-
-/// The same for each row.
-fn lines_say<R: AllocGlobal + Abort>(rt: &R, table: &str) {
-    for row in table.lines() {
-        line_says(rt, row);
-    }
-}
-
-#[test]
-fn words_may_be_none(rt: HostRuntime) {
-    say(&rt, &[], "words");
-}
-
+/// Positional words alone.
 const POSITIONAL: &str = "\
 l -> words|l
 l q f -> words|l|q|f
 help -  é -> words|help|-||é";
 
-#[test]
-fn positional_words_are_read(rt: HostRuntime) {
-    lines_say(&rt, POSITIONAL);
-}
-
+/// The option at any place.
 const ANYWHERE: &str = "\
 --threads 2 l q f -> 2 words|l|q|f
 l --threads 2 q f -> 2 words|l|q|f
@@ -66,11 +19,7 @@ l q f --threads 2 -> 2 words|l|q|f
 --threads=16 l q f -> 16 words|l|q|f
 l q f --threads=16 -> 16 words|l|q|f";
 
-#[test]
-fn the_option_is_read_at_any_place(rt: HostRuntime) {
-    lines_say(&rt, ANYWHERE);
-}
-
+/// The option with any text.
 const TEXTS: &str = "\
 --threads= ->  words
 --threads=a=b -> a=b words
@@ -78,21 +27,13 @@ const TEXTS: &str = "\
 --threads  l ->  words|l
 --threads - l -> - words|l";
 
-#[test]
-fn the_option_takes_any_text(rt: HostRuntime) {
-    lines_say(&rt, TEXTS);
-}
-
+/// Words behind the end of options.
 const BEHIND: &str = "\
 -- -> words
 -- --threads -x -- -> words|--threads|-x|--
 l --threads=2 -- -h -> 2 words|l|-h";
 
-#[test]
-fn words_behind_the_end_are_positional(rt: HostRuntime) {
-    lines_say(&rt, BEHIND);
-}
-
+/// The option without its text.
 const WITHOUT: &str = "\
 --threads -> refused
 l --threads -> refused
@@ -101,22 +42,14 @@ l --threads -> refused
 --threads --threads 2 -> refused
 --threads --threads=2 -> refused";
 
-#[test]
-fn the_option_without_its_text_is_refused(rt: HostRuntime) {
-    lines_say(&rt, WITHOUT);
-}
-
+/// The option twice.
 const TWICE: &str = "\
 --threads=1 --threads=1 -> refused
 --threads 1 --threads 1 -> refused
 --threads 1 l --threads=2 -> refused
 l --threads=1 q --threads 2 -> refused";
 
-#[test]
-fn the_option_is_refused_twice(rt: HostRuntime) {
-    lines_say(&rt, TWICE);
-}
-
+/// Other options.
 const OTHERS: &str = "\
 -h -> refused
 l -h q -> refused
@@ -143,7 +76,43 @@ l --thread q -> refused
 -threads -> refused
 -t2 -> refused";
 
+/// What words say: the option's text and a blank where it stands among them, `words`, and each positional word behind a
+/// bar; or `refused`.
+fn said(alloc: Global, words: &[String]) -> Result<String, AllocError> {
+    let Some(options) = options_of(alloc, words)? else {
+        return String::from_str(alloc, "refused");
+    };
+    let mut said = String::new(alloc);
+    if let Some(threads) = options.threads {
+        said.push_str(threads)?;
+        said.push(' ')?;
+    }
+    said.push_str("words")?;
+    for word in &options.words {
+        said.push('|')?;
+        said.push_str(word)?;
+    }
+    Ok(said)
+}
+
+/// Compares what the words of each line say, which single blanks part, with what stands behind its arrow.
+fn lines_say<R: AllocGlobal + Abort>(rt: &R, table: &str) {
+    for row in table.lines() {
+        let (line, wanted) = row.split_once(" -> ").unwrap_or((row, ""));
+        let found = said(rt.alloc(), &words_of(rt, line, ' ')).expect(rt, "memory");
+        same(rt, (found.as_str(), line), (wanted, line));
+    }
+}
+
 #[test]
-fn other_options_are_refused(rt: HostRuntime) {
+fn words_are_read_or_refused(rt: HostRuntime) {
+    let none = said(rt.alloc(), &[]).expect(&rt, "memory");
+    same(&rt, none.as_str(), "words");
+    lines_say(&rt, POSITIONAL);
+    lines_say(&rt, ANYWHERE);
+    lines_say(&rt, TEXTS);
+    lines_say(&rt, BEHIND);
+    lines_say(&rt, WITHOUT);
+    lines_say(&rt, TWICE);
     lines_say(&rt, OTHERS);
 }
