@@ -6,7 +6,7 @@ use fm_base::{ArenaId, Caller, Kind, Memory, OrRefused, Refusal};
 use fm_close::close;
 use fm_gate::{
     Hold, add, allocate, enter, hold, is_alive, leave, load, load_at, load_placed, open_arena,
-    patch, store, swap_if, unhold,
+    patch, store, store_at, store_placed, swap_if, unhold,
 };
 use fm_rule::{Note, Pass, Pool};
 use fm_segment::Segment;
@@ -41,7 +41,7 @@ impl<'a> Shared<'a> {
     ghost use Rattle.std.specs.Prelude.{IfErr, IfOk};
     ghost use Rattle.fm_base.specs.declared.refusal.Refusal.TheVariants.{NoPass};
     ghost use Rattle.fm_base.specs.Does.{CanReachAll};
-    ghost use Rattle.fm_base.specs.Learnt.{AfterClose, AfterLoads, CanOpen, CanVisit};
+    ghost use Rattle.fm_base.specs.Learnt.{AfterClose, AfterLoads, AfterStores, CanOpen, CanVisit};
     ghost use Rattle.fm_rule.specs.Draws.{Drawn, Gathers, Looked, NoneDrawn};
     ghost use Rattle.fm_rule_calls.specs.Told.{view_of_pass};
     ghost use Rattle.fm_rule_facts.specs.Hands.{no_number};
@@ -211,6 +211,30 @@ impl<'a> Shared<'a> {
         count
     }
 
+    /// Puts words from the index `first` on, up to the end of the first one's page, and answers how many. Where the page
+    /// stands is looked up once.
+    fn store_page(&mut self, first: u64, words: &[u64]) -> usize
+        requires some { 0 < length words.now }
+        requires reach { CanReachAll (view_of_pass self.old) first (length words.now) }
+        ensures stores { AfterStores (view_of_pass self.old) (view_of_pass self.new) first (take result words.now) }
+        ensures some { 0 < result }
+        ensures within { result ≤ length words.now }
+    {
+        let place = store_placed(self.pool, &mut self.pass, first, words[0]);
+        let size = u64::from(self.pool.shape().page_words);
+        let count = (size - first % size).min(words.len() as u64) as usize;
+        for k in 1..count {
+            store_at(
+                self.pool,
+                &mut self.pass,
+                first + k as u64,
+                place + k as u64,
+                words[k],
+            );
+        }
+        count
+    }
+
     /// Spends a hold.
     pub fn unhold(&mut self, hold: Hold)
         requires { CanUnhold self.old hold }
@@ -273,6 +297,16 @@ impl<'a> Memory for Shared<'a> {
     #[inline(always)]
     fn store(&mut self, word: u64, v: u64) {
         store(self.pool, &mut self.pass, word, v);
+    }
+
+    /// As the trait says, page by page.
+    fn store_words(&mut self, first: u64, words: &[u64]) {
+        // Where there is no word, no store says that the memory is sound.
+        self.caller();
+        let mut k = 0;
+        while k < words.len() {
+            k += self.store_page(first + k as u64, &words[k..]);
+        }
     }
 
     fn swap_if(&mut self, word: u64, old: u64, new: u64) -> u64 {

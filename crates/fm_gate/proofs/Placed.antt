@@ -1,7 +1,7 @@
 -- Words that stand behind each other in a page.
 use Rattle.std.proofs.Common.{◌≡◌, ℕ, ◌+◌, ◌*◌, ◌/◌, ◌%◌, ◌^◌, ◌<◌, ap, sym, subst, ◌∙◌, arith}
 use Rattle.std.proofs.{Math.Nat.{mod-lt}, lemmas.Nat.{div-add-mod', div-mul-add, mod-mul-add}}
-use Rattle.fm_words.specs.{declared.shape.Shape.{Shape}, Places.{at, page_word, words}}
+use Rattle.fm_words.specs.{declared.shape.Shape.{Shape}, Places.{at, page_word}}
 use Rattle.fm_words.proofs.Tables.{at-within, words-le}
 use Rattle.fm_rule_facts.specs.{Parts.{mapping_of}, Steps.{HasPlace}, Views.{View, In, IsSound}}
 

@@ -46,8 +46,32 @@ pub fn store(pool: &Pool, pass: &mut Pass, word: u64, v: u64)
     requires { CanReach pool.now pass.old word }
     ensures { AfterAct pool.now pass.old pass.new (λ id. machine.Write id word v) machine.Fine }
 {
+    store_placed(pool, pass, word, v);
+}
+
+/// Puts `v` into the word of this index of the arena that the pass is inside, and answers its place, where it stands while
+/// the pass is inside.
+#[inline(always)]
+pub fn store_placed(pool: &Pool, pass: &mut Pass, word: u64, v: u64) -> u64
+    requires { CanReach pool.now pass.old word }
+    ensures acted { AfterAct pool.now pass.old pass.new (λ id. machine.Write id word v) machine.Fine }
+    ensures place { HasPlace pass.new word result }
+    ensures small { result < 2 ^ 32 }
+{
     let place = reach(pool, pass, word);
     step_store(pool, pass, word, place, v);
+    place
+}
+
+/// Puts `v` into the word of this index of the arena that the pass is inside, at a place that is known to be its own.
+#[inline(always)]
+pub fn store_at(pool: &Pool, pass: &mut Pass, word: u64, place: u64, v: u64)
+    requires reach { CanReach pool.now pass.old word }
+    requires place { HasPlace pass.old word place }
+    ensures acted { AfterAct pool.now pass.old pass.new (λ id. machine.Write id word v) machine.Fine }
+    ensures stand { (w : ℕ) → (at : ℕ) → HasPlace pass.old w at → HasPlace pass.new w at }
+{
+    step_store(pool, pass, word, place, v)
 }
 
 /// Puts `new` into the word of this index where it is `old`, and answers the word found.

@@ -34,7 +34,7 @@ mod opening;
 mod patching;
 mod reaching;
 
-pub use acting::{add, load, load_at, load_placed, store, swap_if};
+pub use acting::{add, load, load_at, load_placed, store, store_at, store_placed, swap_if};
 pub use alive::is_alive;
 pub use allocating::allocate;
 pub use entering::enter;

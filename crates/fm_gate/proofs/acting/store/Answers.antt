@@ -1,6 +1,4 @@
-use Rattle.std.proofs.Common.{refl}
-use Rattle.fm_gate.proofs.Acts.{after_act}
 use Rattle.fm_gate.proofs.acting.store.Goals as goal
 
 pub returns : goal.returns
-returns c = after_act (record { stays = λ a. refl }) c.reach-place.ensures.found c.step_store.ensures c.requires
+returns c = c.store_placed.ensures.acted

@@ -1,4 +1,4 @@
-use Rattle.std.proofs.{Common.{◌≡◌, ◌+◌, ◌-◌, ◌*◌, ◌%◌, ◌<◌, ◌≤◌, length, take, length-set, ap, sym, subst, ◌∙◌, arith}, Math.Nat.{mod-lt}}
+use Rattle.std.proofs.{Common.{◌≡◌, ◌%◌, ◌<◌, ◌≤◌, length, take, length-set, ap, sym, subst, ◌∙◌, arith}, Math.Nat.{mod-lt}}
 use Rattle.fm_base.specs.Learnt.{AfterLoads}
 use Rattle.fm_words.specs.declared.shape.Shape.{Shape}
 use Rattle.fm_rule_calls.specs.Told.{view_of_pass}
@@ -51,4 +51,4 @@ returns-clause-loads c =
     let one : 1 ≤ c.min-count.result = omega arith in
     let upto = c.loop-k.auto.k-end one in
     let end : c.loop-k.k ≡ c.min-count.result = omega arith in
-    subst (λ n. AfterLoads (view_of_pass c.args.self.now) (view_of_pass c.loop-k.self-inside.pass) c.args.first (take n c.loop-k.words)) end c.loop-k.invariant.loads
+    subst (λ n. AfterLoads (view_of_pass c.args.self.now) (view_of_pass c.loop-k.self-inside.pass) c.args.first (take n c.loop-k.words)) end c.loop-k.invariant.did

@@ -1,4 +1,4 @@
-use Rattle.std.proofs.{Common.{◌≡◌, ◌+◌, ◌-◌, ◌≤◌, length, drop, arith, subst}, lemmas.List.{length-take-le, length-drop, take_all}}
+use Rattle.std.proofs.{Common.{◌-◌, length, drop, arith, subst}, lemmas.List.{length-take-le, length-drop, take_all}}
 use Rattle.fm_base.{specs.Learnt.{AfterLoads}, proofs.Rows.{acts_none, reads_in_a_row}}
 use Rattle.fm_rule_calls.specs.Told.{view_of_pass}
 use Rattle.fm_arena.proofs.Pages.{behind_fits, rest_reaches, page_more}
