@@ -1,5 +1,6 @@
 mod Alone
 mod Getting
+mod Filling
 mod Going
 mod Handles
 mod Learning
