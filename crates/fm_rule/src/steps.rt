@@ -52,7 +52,14 @@ pub fn step_check(pool: &Pool, pass: &mut Pass, id: ArenaId) -> u64
     let place = pool.shape.session_place(id.slot);
     let word = load_as::<Brand>(pool, seat, place, Step::Checks(id));
     pass.is_inside = is_alive(id, word);
-    pass.current = id;
+    // Field by field: a copy of the whole name takes the bytes between its fields along, at each visit.
+    pass.current = ArenaId {
+        slot: id.slot,
+        generation: id.generation,
+        kind: id.kind,
+        owner: id.owner,
+        term: id.term,
+    };
     pass.part = NO_PART;
     word
 }

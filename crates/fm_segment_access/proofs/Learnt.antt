@@ -1,5 +1,5 @@
 -- What a caller learns of each access of this crate, from what it did.
-use Rattle.std.proofs.{Common.{◌≡◌, ℕ, ◌<◌, ◌==◌, true, false, List, [], refl, sym, subst, None, Result, Ok, arith}, lemmas.Bool.Decides.{nat_tests}}
+use Rattle.std.proofs.{Common.{◌≡◌, ℕ, ◌<◌, ◌==◌, true, false, List, [], refl, None, Result, Ok, arith}, lemmas.Bool.Decides.{nat_tests}}
 use Rattle.fm_segment_access.proofs.{Alone.{read_alone, read_shut, puts_none, changes}, Learning.{reads, puts, after_did, after_call, after_said, if_err}}
 use Rattle.fm_segment_access.proofs.{PuttingAlone.{ArePuts, pieces_put, put_alone, put_shut}, Values.{AreBytes-value, got_fits, got_kind, puts_value}}
 use Rattle.fm_segment_access.specs.{Found.{UseCause}, Learnt.{CanTouch, CanTouchNumber, AfterGet, AfterPutBy, AfterSome, AfterGetValue, AfterPutValue}}

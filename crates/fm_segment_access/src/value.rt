@@ -9,8 +9,8 @@ use std::sync::Wait;
 
 /// The value of this kind whose bytes stand at `place` in this order.
 ///
-/// Refused, in this order: `WrongThread`, `Closed`. Each kind has a branch of its own, so that the width is a constant
-/// in each.
+/// Refused, in this order: `WrongThread`, `Closed`. A long with its lowest byte first has a branch of its own: what is
+/// found needn't wait for kind and order there. The others share one, so that loops can have the call inside them.
 #[inline(always)]
 pub fn get_value<M: Memory>(
     m: &mut M,
@@ -22,13 +22,11 @@ pub fn get_value<M: Memory>(
     requires { CanTouch (M.view m.old) arena place (width_of kind) }
     ensures { AfterGetValue (M.view m.old) (M.view m.new) arena place kind order result }
 {
-    match kind {
-        ValueKind::Byte => get_as(m, arena, place, ValueKind::Byte, order),
-        ValueKind::Boolean => get_as(m, arena, place, ValueKind::Boolean, order),
-        ValueKind::Char => get_as(m, arena, place, ValueKind::Char, order),
-        ValueKind::Short => get_as(m, arena, place, ValueKind::Short, order),
-        ValueKind::Int => get_as(m, arena, place, ValueKind::Int, order),
-        ValueKind::Long => get_as(m, arena, place, ValueKind::Long, order),
+    match (kind, order) {
+        (ValueKind::Long, Order::Little) => {
+            get_as(m, arena, place, ValueKind::Long, Order::Little)
+        }
+        (kind, order) => get_as(m, arena, place, kind, order),
     }
 }
 
