@@ -3,7 +3,9 @@ pub mod Besides
 pub mod Callers
 pub mod Drawing
 pub mod Gathering
+pub mod GoingOn
 pub mod Orders
+pub mod Staying
 pub mod Turning
 pub mod Wanting
 pub mod Wholes

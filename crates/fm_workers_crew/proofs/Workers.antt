@@ -12,7 +12,7 @@ use Rattle.fm_workers_crew.specs.{declared.worker.Worker.{Worker}, Crew.{IsFresh
 use Rattle.fm_workers_crew.{specs.Rounds.{IsDrawn, IsSpare, IsWorked, tasks_of, crew_of, passes_of}, proofs.{Drawing.{made_behind}, Wholes.{NoDraws}}}
 
 -- What stands behind the same list is the same.
-same_behind : {X : Type 0} (xs ys zs : List X) → xs ++ ys ≡ xs ++ zs → ys ≡ zs
+pub same_behind : {X : Type 0} (xs ys zs : List X) → xs ++ ys ≡ xs ++ zs → ys ≡ zs
 same_behind [] ys zs e = e
 same_behind (x ∷ xs) ys zs e = same_behind xs ys zs (cc)
 
@@ -31,7 +31,7 @@ spare_drawn of n = record {
 }
 
 -- It has nothing after its work either.
-spare_worked : {pool : Pool} {d e : View} {P : List Entry → Type 0} → IsSpare pool d → Did (view_of_pass d) (view_of_pass e) P → e.inside ≡ None
+pub spare_worked : {pool : Pool} {d e : View} {P : List Entry → Type 0} → IsSpare pool d → Did (view_of_pass d) (view_of_pass e) P → e.inside ≡ None
     → IsSpare pool e
 spare_worked {pool = pool} {d = d} {e = e} s k out =
     let rest = k.makes.told.rest in

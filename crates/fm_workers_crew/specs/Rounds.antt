@@ -1,11 +1,12 @@
 -- How a crew is drawn, works, and is gathered.
-use Rattle.std.specs.{Prelude.{◌≡◌, ◌⊎◌, ◌<◌, true, List, [], ◌∷◌, ◌++◌, length, map, reverse, All, None, Result, Ok, Err}, List.{AllByRecursion}}
+use Rattle.std.specs.{Prelude.{◌≡◌, ◌⊎◌, ◌<◌, true, List, [], ◌∷◌, ◌++◌, length, map, reverse, All, None, Result, Ok, Err}, List.{AllByRecursion, AllZip}}
 use Rattle.fm_words.specs.declared.shape.Shape.{Shape}
 use Rattle.fm_base.specs.{declared.{caller.Caller.{Caller}, refusal.Refusal.{Refusal, TheVariants.{NoPass}}}, Calls.{Entry}, Histories.{made_by}}
 use Rattle.fm_base.specs.{Finds.{Find, Gathered, is_draw, is_number}, View.{Did}}
-use Rattle.fm_rule_facts.specs.{Views.{View, In, IsSound}, Splits.{view_of, as_gathered}}
+use Rattle.fm_rule_facts.specs.{Hands.{no_number}, Views.{View, In, IsSound}, Splits.{view_of, as_gathered}}
 use Rattle.fm_rule_calls.specs.Told.{view_of_pass}
-use Rattle.fm_rule.specs.{declared.pool.Pool.{Pool}, Passes.{IsOf}}
+use Rattle.fm_rule.specs.{declared.pool.Pool.{Pool}, Draws.{Gathers}, Passes.{IsOf, GoesOnFrom}}
+use Rattle.fm_arena.specs.Learnt.{AfterMeet}
 use Rattle.fm_workers_crew.specs.{declared.worker.Worker.{Worker}, Crew.{DrewEach, IsFresh, IsIn, FoundNoNumber, callers}}
 
 -- the pass looked for numbers and at the count of draws, and made no entry
@@ -102,3 +103,28 @@ module _ {T : Type 0} where
     pub apart : All (λ g. made_by g.caller more ≡ []) old.gathered
     pub is : new ≡ record old { seen = new.seen; gathered = old.gathered ++ crew_of ws }
     pub workers : AllByRecursion (λ w. IsIn w.memory new) ws
+
+  -- of `run_crew`, where each task has a worker that is done with it
+  pub record RanCrew (Does : View → T → T → List Entry → Type 0) (pool : Pool) (old now : View) (tasks : List T) (ws : List (Worker T)) : Type 0 where
+    pub drawn : List (Worker T)
+    pub called : CalledAll old now tasks drawn
+    pub worked : AllZip (IsWorked Does) drawn ws
+    pub spare : AllByRecursion (λ w. IsSpare pool w.memory) ws
+
+-- each sound pass that has seen as much can do it
+abbrev pub CanLater : (View → Type 0) → View → Type 0
+CanLater Can old = (p : View) → IsSound p → p.shape ≡ old.shape → GoesOnFrom old.seen p.seen → Can p
+
+-- the pass that is left saw what the gatherer had seen, went on, and was gathered
+pub record Finished (Goes : Caller → List Entry → Type 0) (old left new : View) : Type 0 where
+  pub cut : View
+  pub met : AfterMeet left cut old.seen
+  pub last : View
+  pub outside : last.inside ≡ None
+  pub did : Did (view_of_pass cut) (view_of_pass last) (Goes left.caller)
+  pub gathers : Gathers old last no_number new
+
+-- of `gather_then`, where the last one went on once the others were gathered
+abbrev pub GatheredThen : {T : Type 0} → (Caller → List Entry → Type 0) → (old new : View) → List (Worker T) → Type 0
+GatheredThen Goes old new [] = new ≡ old
+GatheredThen Goes old new (w ∷ ws) = (now : View) × GatheredCrew old now ws × Finished Goes now w.memory new

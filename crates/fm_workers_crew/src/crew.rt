@@ -2,7 +2,7 @@ ghost use Rattle.std.specs.Prelude.{◌≡◌, ◌+◌, ◌<◌, ◌≤◌, ◌+
 ghost use Rattle.std.specs.List.{AllByRecursion};
 ghost use Rattle.fm_gate.specs.Needs.{IsOutside};
 ghost use Rattle.fm_workers_crew.specs.Crew.{CrewRefused, CrewWorked};
-ghost use Rattle.fm_workers_crew.specs.Rounds.{AfterDraws, CalledAll, CalledUp, GatheredCrew, IsSpare, IsWorked, tasks_of};
+ghost use Rattle.fm_workers_crew.specs.Rounds.{AfterDraws, CalledAll, CalledUp, GatheredCrew, IsSpare, IsWorked, RanCrew, tasks_of};
 
 use crate::work::Work;
 use crate::worker::Worker;
@@ -167,6 +167,31 @@ pub(crate) fn work_all<R: Threads + Sync, T: Send, W: Work<T>>(
     );
 }
 
+/// A worker for each task, which is done with it. Refused as `call_all`.
+pub(crate) fn run_crew<'a, R: Threads + Wait + Sync, T: Send, W: Work<T>>(
+    rt: &R,
+    alloc: Global,
+    pool: &'a Pool,
+    pass: &mut Pass,
+    work: &W,
+    tasks: &mut Vec<T>,
+) -> Result<Vec<Worker<'a, T>>, Refusal>
+    requires outside { IsOutside pool.now pass.old }
+    requires can { All (W.can work.now pass.old) tasks.old.items }
+    ensures ran { IfOk result (λ crew. RanCrew (W.does work.now) pool.now pass.old pass.new tasks.old.items crew.items) }
+    ensures refused { IfErr result (CrewRefused pass.old pass.new tasks.old.items tasks.new.items) }
+    ensures outside { IsOutside pool.now pass.new }
+    ensures none { IfOk result (λ _. tasks.new.items ≡ []) }
+    ensures room { IfOk result (λ crew. vec_len tasks.new + vec_len crew ≤ vec_capacity tasks.new) }
+{
+    let mut crew = match call_all(rt, alloc, pool, pass, tasks) {
+        Ok(crew) => crew,
+        Err(refusal) => return Err(refusal),
+    };
+    work_all(rt, alloc, work, crew.as_mut_slice());
+    Ok(crew)
+}
+
 /// Draws a pass for each task, for the first task first, lets all of them work side by side, each at its task, and gathers
 /// them all again, after a refusal too. All memory is taken before the first draw.
 ///
@@ -185,11 +210,10 @@ pub fn work_crew<R: Threads + Wait + Sync, T: Send, W: Work<T>>(
     ensures worked { CrewWorked (W.does work.now) pass.old pass.new tasks.old.items tasks.new.items result }
     ensures outside { IsOutside pool.now pass.new }
 {
-    let mut crew = match call_all(rt, alloc, pool, pass, tasks) {
+    let crew = match run_crew(rt, alloc, pool, pass, work, tasks) {
         Ok(crew) => crew,
         Err(refusal) => return Err(refusal),
     };
-    work_all(rt, alloc, work, crew.as_mut_slice());
     gather_crew(pool, pass, crew, tasks);
     pool.whole(pass);
     Ok(())

@@ -3,6 +3,7 @@ mod ample;
 mod beside;
 mod gates;
 mod tallies;
+mod then;
 
 ghost use Rattle.std.specs.Prelude.{◌≡◌, ◌<◌, ◌≤◌, ◌≢◌, []};
 ghost use Rattle.fm_rule_calls.specs.Kept.{Lasts};
