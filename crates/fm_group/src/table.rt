@@ -61,6 +61,14 @@ impl CountTable {
         }
     }
 
+    /// The segment of its places.
+    pub fn segment(&self) -> &Segment
+        ensures segment { result.now ≡ self.now.table }
+        ensures can { CanTable self.now }
+    {
+        &self.segment
+    }
+
     /// The values that it counts.
     pub fn values(&self) -> &Values
         ensures { result.now ≡ self.now.values }

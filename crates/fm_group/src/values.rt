@@ -74,7 +74,8 @@ impl Values {
         self.number(m, ordinal)
     }
 
-    pub(crate) fn records(&self) -> &Segment
+    /// The segment of their records.
+    pub fn records(&self) -> &Segment
         ensures { result.now ≡ self.now.records }
     {
         &self.records
