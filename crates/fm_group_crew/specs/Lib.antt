@@ -1,0 +1,4 @@
+pub mod Dealt
+pub mod Tasks
+pub mod Ends
+pub mod Grouped
