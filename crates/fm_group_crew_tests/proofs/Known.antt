@@ -1,0 +1,31 @@
+-- What stays known from call to call, and where a pass is drawn.
+use Rattle.std.proofs.Common.{◌≡◌, ap, ◌∙◌, subst, le_trans, Result, Ok, IfOk}
+use Rattle.fm_rule_calls.{proofs.Going.{lasts_by, reached_by}, specs.{Kept.{Lasts}, Told.{view_of_pass}}}
+use Rattle.fm_rule_facts.specs.Views.{View}
+use Rattle.fm_rule.specs.Draws.{Drawn}
+use Rattle.fm_segment.specs.{Access.{IsKnown}, Region.{Region}}
+use Rattle.fm_group_crew.specs.Tasks.{known_later}
+
+-- What lasts over two calls, one after the other.
+pub lasts_then : {p q r : View} → Lasts p q → Lasts q r → Lasts p r
+lasts_then a b = record {
+  given = λ id. le_trans (a.given id) (b.given id);
+  known = λ id k. b.known id (a.known id k);
+  ended = λ id e. b.ended id (a.ended id e);
+  no_words = λ id e none. b.no_words id (a.ended id e) (a.no_words id e none);
+}
+
+-- The pass that a draw answered is drawn.
+pub drawn_as : {p q d : View} {E : Type 0} {r : Result View E} → IfOk r (λ x. Drawn p q x) → r ≡ Ok d → Drawn p q d
+drawn_as {p = p} {q = q} h is = subst (λ r. IfOk r (λ x. Drawn p q x)) is h
+
+-- What was known to who drew it is known still,
+pub known_drew : {p q d : View} {s : Region} → Drawn p q d → IsKnown (view_of_pass p) s → IsKnown (view_of_pass q) s
+known_drew {p = p} {q = q} k known =
+    known_later (lasts_by (reached_by {p = p} {q = q} k.asked.more k.asked.seen (ap (λ (v : View). v.shape) k.asked.is) k.giver_sound)) known
+
+-- and to the drawn one.
+pub known_new : {p q d : View} {s : Region} → Drawn p q d → IsKnown (view_of_pass p) s → IsKnown (view_of_pass d) s
+known_new {p = p} {d = d} k known =
+    known_later (lasts_by (reached_by {p = p} {q = d} k.asked.more (ap (λ (v : View). v.seen) k.is ∙ k.asked.seen)
+    (ap (λ (v : View). v.shape) k.is ∙ ap (λ (v : View). v.shape) k.asked.is) k.sound)) known

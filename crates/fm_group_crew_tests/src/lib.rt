@@ -1,0 +1,5 @@
+//! Tests alone: groups by crews of passes.
+#![tactic(auto)]
+
+#[cfg(test)]
+mod tests;

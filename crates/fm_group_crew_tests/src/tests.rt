@@ -1,0 +1,3 @@
+mod gates;
+mod groups;
+mod pools;
