@@ -13,7 +13,7 @@ use Rattle.fm_top_pooled.{specs.Stocked.{HasPagesFor, IsAlone}, proofs.{Opening.
 -- ---- nothing is wanting
 
 -- the arena's first bytes stand at its start
-nothing_given : (p : View) (a : ArenaId) → IsEmpty (view_of_pass p) a → rounded_up (given_in (view_of_pass p) a) 8 ≡ 0
+pub nothing_given : (p : View) (a : ArenaId) → IsEmpty (view_of_pass p) a → rounded_up (given_in (view_of_pass p) a) 8 ≡ 0
 nothing_given p a empty = ap (λ n. rounded_up n 8) empty.none
 
 first_room : {gs : List Gathered} (pool : Pool) (p : View) (a : ArenaId) (size : ℕ) → IsAlone gs pool p → IsEmpty (view_of_pass p) a → size ≤ limit_of pool.shape

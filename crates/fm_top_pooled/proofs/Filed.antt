@@ -2,7 +2,7 @@
 use Rattle.std.proofs.Common.{◌≡◌, ℕ, ◌+◌, ◌<◌, ◌≤◌, Bool, true, false, Option, List, [], length, take, Ok, refl, ap, sym, ◌∙◌, subst, ⊎_elim, arith, length-append}
 use Rattle.std.{specs.Prelude.{◌⊎◌}, proofs.lemmas.List.{take-take}}
 use Rattle.fm_base.specs.{declared.{arena_id.ArenaId.{ArenaId}, caller.Caller.{Caller}, kind.Kind.TheVariants.{Shared}, refusal.Refusal.{Refusal}}, Arenas.{State, arena_of}, Calls.{Entry}}
-use Rattle.fm_base.specs.{Histories.{state_after}, Outcomes.{Nature}, View.{Did, given_in}}
+use Rattle.fm_base.specs.{Histories.{state_after}, Outcomes.{Nature}, View.{Did, Makes, given_in}}
 use Rattle.fm_base_bytes.specs.Words.{bytes_in}
 use Rattle.fm_base_bytes.specs.Bytes.{AreBytes}
 use Rattle.fm_segment_access.specs.{Alone.{bytes_of_arena, with_bytes}, Runs.{DoesPutAll}}
@@ -19,8 +19,9 @@ use Rattle.fm_records.{proofs.AnsweringBytes.{length-places, places_have}, specs
 use Rattle.fm_rule.specs.{declared.pool.Pool.{Pool}, Finishing.{FinishedView, Finishes}, GivenBytes.{given_bytes, state_of}, Passes.{IsOf}}
 use Rattle.fm_segment.specs.Region.{Region, region_of}
 use Rattle.fm_words.specs.declared.shape.Shape.{Shape}
-use Rattle.fm_top_pooled.specs.Stocked.{HoldsFirst, HoldsWhole, IsLone, IsMadeFor, IsStock, PutsFile, bytes_in_pool}
-use Rattle.fm_top_pooled.proofs.{Filling.{bytes_stand, held_room, only_on, put_lone, stay_lone}, Opening.{knows_none}}
+use Rattle.fm_top_pooled.specs.Stocked.{HoldsFirst, HoldsWhole, IsLeft, IsLone, IsStock, PutsFile, bytes_in_pool, pool_passes}
+use Rattle.fm_top_pooled.proofs.{Filling.{bytes_stand, held_room, only_on, put_lone, stay_lone}, Left.{left_still}, Opening.{knows_none}}
+use Rattle.fm_top_pooled.proofs.Quiet.{LendNone, loans_kept, put_all_lends, puts_lend}
 
 -- ---- runs of bytes
 
@@ -41,11 +42,11 @@ one_known p q a none only b known = ⊎_elim (λ (e : b ≡ a). e) (λ (was : Is
 -- ---- a stock
 
 -- so many of the bytes that an arena has given are one
-pub stock_is : {pool : Pool} {p : View} {a : ArenaId} (s : Region) (count : ℕ) → IsLone pool p → IsHeld (view_of_pass p) a → count ≤ given_in (view_of_pass p) a
-    → count ≤ limit_of pool.shape → a.kind ≡ Shared → ((b : ArenaId) → IsKnown p b → b ≡ a) → IsMadeFor pool.shape.slots pool.shape → s ≡ region_of a 0 count
-    → IsStock pool p s
-stock_is {pool} {p} {a} s count lone held given room shared only made is =
-    subst (λ (r : Region). IsStock pool p r) (sym is) (record {
+pub stock_is : {beside : ℕ} {pool : Pool} {p : View} {a : ArenaId} (s : Region) (count : ℕ) → IsLone pool p → IsHeld (view_of_pass p) a → count ≤ given_in (view_of_pass p) a
+    → count ≤ limit_of pool.shape → a.kind ≡ Shared → ((b : ArenaId) → IsKnown p b → b ≡ a) → pool.shape.passes ≡ pool_passes → IsLeft beside p
+    → s ≡ region_of a 0 count → IsStock beside pool p s
+stock_is {beside} {pool} {p} {a} s count lone held given room shared only passes left is =
+    subst (λ (r : Region). IsStock beside pool p r) (sym is) (record {
       stocked = record {
         outside = lone.outside;
         sound = lone.sound;
@@ -55,13 +56,13 @@ stock_is {pool} {p} {a} s count lone held given room shared only made is =
         known = record { arena = held.known; given = omega (arith, given) };
         alive = held.alive;
         shared = shared;
-        passes = ap (λ (z : Shape). z.passes) lone.outside.of.1 ∙ made.passes;
+        passes = ap (λ (z : Shape). z.passes) lone.outside.of.1 ∙ passes;
       };
       lone = lone;
       held = held;
       room = room;
       only = only;
-      made = made;
+      left = left;
     })
 
 -- and these are its bytes
@@ -78,16 +79,16 @@ unfolding bytes_in_pool
 count_stands p s = length-places (state_in p) s
 
 -- the arena has given all of it
-given_all : {pool : Pool} {p : View} {s : Region} → IsStock pool p s → s.size ≤ given_in (view_of_pass p) s.arena
+given_all : {beside : ℕ} {pool : Pool} {p : View} {s : Region} → IsStock beside pool p s → s.size ≤ given_in (view_of_pass p) s.arena
 given_all {s = s} stock =
     let first = ap (λ (r : Region). r.first) stock.stocked.start in
     let given = stock.stocked.known.given in
     omega (arith, first, given)
 
 -- there is room for a stretch that is as long
-pub holds_room : {pool : Pool} {p m : View} {s : Region} {a : ArenaId} (stretch : Stretch) → IsStock pool p s → m ≡ p → a ≡ s.arena → stretch.most ≡ s.size
+pub holds_room : {beside : ℕ} {pool : Pool} {p m : View} {s : Region} {a : ArenaId} (stretch : Stretch) → IsStock beside pool p s → m ≡ p → a ≡ s.arena → stretch.most ≡ s.size
     → HoldsRoom stretch (view_of_pass m) (Given a)
-holds_room {pool} {p} {m} {s} {a} stretch stock at is all =
+holds_room {beside} {pool} {p} {m} {s} {a} stretch stock at is all =
     let room = stock.room in
     let limit = ap limit_of stock.lone.outside.of.1 in
     let fits : stretch.most ≤ limit_of p.shape = omega (arith, all, room, limit) in
@@ -96,9 +97,16 @@ holds_room {pool} {p} {m} {s} {a} stretch stock at is all =
 -- ---- bytes that fill it
 
 -- between the pass and its memory
-module _ {pool : Pool} {p m q r : View} {s : Region} (stock : IsStock pool p s) (at : m ≡ p) (is : r ≡ q) (outside : IsOf pool q → IsOutside pool r) (sound : IsSound r) where
+module _ {beside : ℕ} {pool : Pool} {p m q r : View} {s : Region} (stock : IsStock beside pool p s) (at : m ≡ p) (is : r ≡ q) (outside : IsOf pool q → IsOutside pool r) (sound : IsSound r) where
+  -- the pool has what it had
+  has_passes : pool.shape.passes ≡ pool_passes
+  has_passes = ap (λ (z : Shape). z.passes) (sym stock.lone.outside.of.1) ∙ stock.stocked.passes
+
+  has_left : {own : List Entry} → IsLone pool r → Makes (view_of_pass m) (view_of_pass q) own → LendNone own → IsLeft beside r
+  has_left lone makes none = left_still (lone.outside.of.1 ∙ sym stock.lone.outside.of.1) (loans_kept stock.lone at makes none is) stock.left
+
   pub stock_filled : (bytes : List ℕ) → length bytes ≡ s.size → Did (view_of_pass m) (view_of_pass q) (DoesPutAll m.caller s.arena 0 bytes (Ok tt)) → AreBytes bytes
-      → PutsHeld (view_of_pass m) (view_of_pass q) s.arena 0 bytes → IsStock pool r s × (bytes_in_pool r s ≡ bytes)
+      → PutsHeld (view_of_pass m) (view_of_pass q) s.arena 0 bytes → IsStock beside pool r s × (bytes_in_pool r s ≡ bytes)
   stock_filled bytes all did are puts =
       let a = s.arena in
       let given = given_all stock in
@@ -112,7 +120,8 @@ module _ {pool : Pool} {p m q r : View} {s : Region} (stock : IsStock pool p s) 
       let stand = ap (λ (v : View). bytes_of_arena (state_in v) a) is ∙ puts.stand
       ∙ ap (λ (v : View). with_bytes (bytes_of_arena (state_in v) a) 0 bytes) at in (
         stock_is s (length bytes) lone held (omega (arith, same, given, all)) (omega (arith, room, all)) stock.stocked.shared
-            (λ b k. stock.only b (sym ((only_on p m q r a at puts.elsewhere is).arenas b) ∙ k)) stock.made start,
+            (λ b k. stock.only b (sym ((only_on p m q r a at puts.elsewhere is).arenas b) ∙ k)) has_passes
+            (has_left lone did.makes (put_all_lends m.caller a 0 bytes (Ok tt) did.own did.does)) start,
         bytes_stand r a s (bytes_of_arena (state_in p) a) bytes start stand (omega (arith, old, all)),
       )
 
@@ -120,7 +129,7 @@ module _ {pool : Pool} {p m q r : View} {s : Region} (stock : IsStock pool p s) 
   pub stock_put : {nature : Nature} {stretch : Stretch} {told : Option Contents} {first : PortionView} {reached : Reached} (t : Region) → stretch.most ≡ s.size
       → Did (view_of_pass m) (view_of_pass q) (PutsStretch stretch told m.caller (Given s.arena) first reached)
       → Fills nature stretch told (view_of_pass m) (view_of_pass q) (Given s.arena) (Ok reached) → t ≡ region_of s.arena 0 reached.count
-      → PutsFile stretch told pool r t reached
+      → PutsFile stretch told beside pool r t reached
   stock_put {nature} {stretch} {told} {first} {reached} t all did fills here =
       let a = s.arena in
       let put = did.does in
@@ -136,7 +145,8 @@ module _ {pool : Pool} {p m q r : View} {s : Region} (stock : IsStock pool p s) 
       let fits : reached.count ≤ limit_of pool.shape = omega (arith, count, within, all, room) in
       record {
         stock = stock_is t reached.count lone held (omega (arith, same, had, count)) fits stock.stocked.shared
-            (λ b k. stock.only b (sym ((only_on p m q r a at fills.elsewhere is).arenas b) ∙ k)) stock.made here;
+            (λ b k. stock.only b (sym ((only_on p m q r a at fills.elsewhere is).arenas b) ∙ k)) has_passes
+            (has_left lone did.makes (puts_lend m.caller a put.bytes did.own put.put)) here;
         count = ap (λ (x : Region). x.size) here;
         cut = subst (λ (bs : List ℕ). IsCut stretch.limit stretch.most told stretch.name.now stretch.at bs reached.ended)
             (sym (first_bytes t reached.count lone held fits here ∙ ap (λ (v : View). take reached.count (bytes_of_arena (state_in v) a)) is)) fills.stand;
@@ -145,25 +155,26 @@ module _ {pool : Pool} {p m q r : View} {s : Region} (stock : IsStock pool p s) 
 -- ---- what was read
 
 -- all of a file
-pub whole_put : {stretch : Stretch} {told : Option Contents} {arenas : ℕ} {pool : Pool} {p : View} {s : Region} {reached : Reached} → PutsFile stretch told pool p s reached
-    → stretch.at ≡ 0 → stretch.limit ≡ record_file_limit → reached.ended ≡ true → pool.shape.slots ≡ arenas → HoldsWhole arenas told stretch.name.now pool p s
-whole_put {stretch} {told} {p = p} {s = s} put first limit ended slots =
+pub whole_put : {stretch : Stretch} {told : Option Contents} {beside : ℕ} {pool : Pool} {p : View} {s : Region} {reached : Reached}
+    → PutsFile stretch told beside pool p s reached → stretch.at ≡ 0 → stretch.limit ≡ record_file_limit → reached.ended ≡ true
+    → HoldsWhole told stretch.name.now beside pool p s
+whole_put {stretch} {told} {p = p} {s = s} put first limit ended =
     let short = put.cut.short in
     let end : stretch.at + length (bytes_in_pool p s) ≡ length (bytes_in_pool p s) = omega (arith, first) in
     record {
       stock = put.stock;
-      slots = slots;
       whole = first_to_last told stretch.name.now (bytes_in_pool p s) (subst (λ n. AreBytesFrom told stretch.name.now n (bytes_in_pool p s)) first put.cut.bytes_are)
           (subst (EndsBefore told stretch.name.now) end (put.cut.ends ended));
       short = omega (arith, short, limit);
     }
 
 -- or its first bytes
-pub first_put : {stretch : Stretch} {told now : Option Contents} {pool : Pool} {p : View} {s : Region} {reached : Reached} → PutsFile stretch told pool p s reached
-    → stretch.at ≡ 0 → stretch.limit ≡ record_file_limit → now ≡ told → HoldsFirst now stretch.name.now pool p s
-first_put {stretch} {told} {now} {pool} {p} {s} put first limit same =
+pub first_put : {stretch : Stretch} {told now : Option Contents} {beside : ℕ} {pool : Pool} {p : View} {s : Region} {reached : Reached}
+    → PutsFile stretch told beside pool p s reached → stretch.at ≡ 0 → stretch.limit ≡ record_file_limit → now ≡ told
+    → HoldsFirst now stretch.name.now beside pool p s
+first_put {stretch} {told} {now} {beside} {pool} {p} {s} put first limit same =
     let short = put.cut.short in
-    subst (λ (x : Option Contents). HoldsFirst x stretch.name.now pool p s) (sym same) (record {
+    subst (λ (x : Option Contents). HoldsFirst x stretch.name.now beside pool p s) (sym same) (record {
       stock = put.stock;
       first = subst (λ n. AreBytesFrom told stretch.name.now n (bytes_in_pool p s)) first put.cut.bytes_are;
       short = omega (arith, short, limit, count_stands p s);
@@ -174,8 +185,9 @@ is_true true n = refl
 is_true false n = absurd (n refl)
 
 -- behind which nothing came
-pub first_whole : {most : ℕ} {told : Option Contents} {name : List ℕ} {pool : Pool} {p : View} {s : Region} {next : PortionView} → HoldsFirst told name pool p s
-    → IsPortion record_file_limit most told name s.size next → 0 < most → length next.bytes ≡ 0 → HoldsWhole pool.shape.slots told name pool p s
+pub first_whole : {most : ℕ} {told : Option Contents} {name : List ℕ} {beside : ℕ} {pool : Pool} {p : View} {s : Region} {next : PortionView}
+    → HoldsFirst told name beside pool p s → IsPortion record_file_limit most told name s.size next → 0 < most → length next.bytes ≡ 0
+    → HoldsWhole told name beside pool p s
 first_whole {most} {told} {name} {p = p} {s = s} {next = next} h portion some none =
     let count = count_stands p s in
     let short = h.short in
@@ -183,17 +195,15 @@ first_whole {most} {told} {name} {p = p} {s = s} {next = next} h portion some no
     let end : s.size + length next.bytes ≡ length (bytes_in_pool p s) = omega (arith, none, count) in
     record {
       stock = h.stock;
-      slots = refl;
       whole = first_to_last told name (bytes_in_pool p s) h.first (subst (EndsBefore told name) end (portion.ends ended));
       short = omega (arith, short, count);
     }
 
 -- a list of it was put into a pool
-pub list_stands : {told : Option Contents} {name bytes : List ℕ} {arenas : ℕ} {pool : Pool} {p : View} {s : Region} → IsStock pool p s → pool.shape.slots ≡ arenas
-    → bytes_in_pool p s ≡ bytes → IsWhole told name bytes → length bytes ≤ record_file_limit → HoldsWhole arenas told name pool p s
-list_stands {told} {name} {bytes} {arenas} {pool} {p} {s} stock slots is whole short = record {
+pub list_stands : {told : Option Contents} {name bytes : List ℕ} {beside : ℕ} {pool : Pool} {p : View} {s : Region} → IsStock beside pool p s
+    → bytes_in_pool p s ≡ bytes → IsWhole told name bytes → length bytes ≤ record_file_limit → HoldsWhole told name beside pool p s
+list_stands {told} {name} {bytes} {beside} {pool} {p} {s} stock is whole short = record {
   stock = stock;
-  slots = slots;
   whole = subst (λ (bs : List ℕ). IsWhole told name bs) (sym is) whole;
   short = subst (λ (bs : List ℕ). length bs ≤ record_file_limit) (sym is) short;
 }
@@ -213,9 +223,9 @@ taken p f a count is within =
     ∙ take-take count (given_in (view_of_pass p) a) (bytes_of_arena (state_in p) a) within
 
 -- all of a stock's bytes are taken out
-pub taken_all : {pool : Pool} {p : View} {s : Region} → IsStock pool p s → (f : FinishedView) (a : ArenaId) (n : ℕ) → a ≡ s.arena → n ≡ s.size → state_of f ≡ state_in p
+pub taken_all : {beside : ℕ} {pool : Pool} {p : View} {s : Region} → IsStock beside pool p s → (f : FinishedView) (a : ArenaId) (n : ℕ) → a ≡ s.arena → n ≡ s.size → state_of f ≡ state_in p
     → take n (given_bytes f a) ≡ bytes_in_pool p s
-taken_all {pool} {p} {s} stock f a n at size is =
+taken_all {beside} {pool} {p} {s} stock f a n at size is =
     ap (λ (q : ℕ × ArenaId). take q.0 (given_bytes f q.1)) (λ i. (size i, at i)) ∙ taken p f s.arena s.size is (given_all stock)
     ∙ sym (first_bytes s s.size stock.lone stock.held stock.room stock.stocked.start)
 

@@ -1,11 +1,13 @@
--- How many pages of a pool are lent, where few arenas are known.
-use Rattle.std.proofs.Common.{◌≡◌, ℕ, zero, suc, ◌+◌, ◌-◌, ◌*◌, ◌/◌, ◌<◌, ◌≤◌, ◌==◌, not, cond, Bool, true, false, List, [], ◌∷◌, filter, refl, sym, ap, subst, ⊎_elim, arith, div-lt_iff_lt-mul}
+-- How many pages of a pool are lent, where all are lent to one arena.
+use Rattle.std.proofs.Common.{◌≡◌, ℕ, zero, suc, ◌+◌, ◌-◌, ◌*◌, ◌/◌, ◌<◌, ◌≤◌, ◌==◌, not, cond, Bool, true, false, List, [], ◌∷◌, filter, refl, sym, subst, arith, div-lt_iff_lt-mul, lt_of_not-le}
+use mathlib.Core.Logic.{dite}
+use native.Mathlib.Decide.{dec_le}
 use Rattle.std.{specs.Prelude.{Contains, ⊤}, proofs.lemmas.List.Elements.{All-filter}}
-use Rattle.fm_base.specs.{declared.arena_id.ArenaId.{ArenaId}, Arenas.{State, has_arena}, Calls.{Call, Lend, Back, Entry}, Histories.{IsLegal, state_after}}
-use Rattle.fm_base.{specs.Machine.{after}, proofs.Growing.{Grows-after}}
+use Rattle.fm_base.specs.{declared.arena_id.ArenaId.{ArenaId}, Arenas.{State}, Calls.{Call, Lend, Back, Entry}, Machine.{after}}
+use Rattle.fm_pages.proofs.Exact.{part_first}
 use Rattle.fm_rule_facts.specs.Loans.{Loan, loan_of, loans_after, loans_by, loans_of, HasPart, IsFree, IsRightlyLentFrom, IsRightlyLentIn}
-use Rattle.fm_rule_facts.specs.{Scarcity.{lacking, parts_before}, Views.{View, IsKnown, IsSound, limit_of, unlent}}
-use Rattle.fm_rule_facts.proofs.{Lending.{loan_cases, loan_was, first_loan, more_loans}, Scarcity.{block_free, has_part_not, lacking_lend, unlent_lend}}
+use Rattle.fm_rule_facts.specs.{Scarcity.{lacking, parts_before}, Views.{View, IsSound, limit_of, unlent}}
+use Rattle.fm_rule_facts.proofs.{Lending.{loan_was, first_loan, more_loans}, Scarcity.{block_free, has_part_not, lacking_lend, unlent_lend}}
 use Rattle.fm_words.specs.declared.shape.Shape.{Shape}
 
 -- ---- each block once, and as one part
@@ -39,27 +41,6 @@ pub apart_on : (size limit : ℕ) (s : State) (loans : List Loan) (es : List Ent
 apart_on size limit s loans [] r h = h
 apart_on size limit s loans (e ∷ es) r h =
     apart_on size limit (after limit s e) (loans_by loans e.call) es r.1 (apart_by size s loans e.call r.0 h)
-
--- ---- known arenas alone
-
-abbrev AreKnown : State → List Loan → Type 0
-AreKnown s loans = (l : Loan) → Contains loans l → has_arena s l.id ≡ true
-
-known_by : (size : ℕ) (s : State) (loans : List Loan) (call : Call) → IsRightlyLentIn size s loans call → AreKnown s loans → AreKnown s (loans_by loans call)
-known_by size s loans (Lend block id part) r h l i = ⊎_elim
-    (λ (e : loan_of block id part ≡ l). subst (λ (x : ArenaId). has_arena s x ≡ true) (ap (λ (x : Loan). x.id) e) r.1)
-    (λ (more : Contains loans l). h l more)
-    (loan_cases (loan_of block id part) l loans i)
-known_by size s loans (Back block) r h l i = h l (loan_was (λ x. not (x.block == block)) loans l i)
-known_by size s loans call r h l i = h l i
-
--- Each loan is to an arena that was opened.
-pub known_on : (size limit : ℕ) (s : State) (loans : List Loan) (es : List Entry) → IsLegal limit s es → IsRightlyLentFrom size limit s loans es
-    → AreKnown s loans → AreKnown (state_after limit s es) (loans_after loans es)
-known_on size limit s loans [] legal r h = h
-known_on size limit s loans (e ∷ es) legal r h =
-    let g = Grows-after limit s e legal.0 legal.1 in
-    known_on size limit (after limit s e) (loans_by loans e.call) es legal.2 r.1 (λ l i. g.has l.id (known_by size s loans e.call r.0 h l i))
 
 -- ---- counts
 
@@ -96,16 +77,13 @@ counted pages reach a (l ∷ ls) apart each =
 
 -- ---- a pass
 
--- A pass that knows one arena alone has at most as many pages lent as an arena can have.
-pub lent_to_one : (p : View) (a : ArenaId) → IsSound p → ((b : ArenaId) → IsKnown p b → b ≡ a)
-    → p.shape.pages ≤ unlent p.shape.pages (loans_of p.seen) + p.shape.reach
-lent_to_one p a sound only =
-    let size = p.shape.page_words in
-    let limit = limit_of p.shape in
-    let apart = apart_on size limit [] [] p.seen sound.lent tt in
-    let known = known_on size limit [] [] p.seen sound.legal sound.lent (λ l i. absurd (let none = i.1 in omega arith)) in
-    let all = counted p.shape.pages p.shape.reach a (loans_of p.seen) apart
-    (λ l i. record { id = only l.id (known l i); block = (sound.loans l i).0; part = (sound.loans l i).1 }) in
+-- A pass whose loans are all to one arena, as some of its first parts, has at most as many pages lent.
+pub lent_to_one : (p : View) (a : ArenaId) (n : ℕ) → IsSound p → ((l : Loan) → Contains (loans_of p.seen) l → (l.id ≡ a) × (l.part < n))
+    → p.shape.pages ≤ unlent p.shape.pages (loans_of p.seen) + n
+lent_to_one p a n sound only =
+    let apart = apart_on p.shape.page_words (limit_of p.shape) [] [] p.seen sound.lent tt in
+    let all = counted p.shape.pages n a (loans_of p.seen) apart
+    (λ l i. record { id = (only l i).0; block = (sound.loans l i).0; part = (only l i).1 }) in
     omega arith
 
 -- So many bytes lie in as many parts, where these have room for them.
@@ -116,3 +94,17 @@ parts_within z size n some fits =
     let below : size + (bytes - 1) < suc n * bytes = omega arith in
     let parts : (size + (bytes - 1)) / bytes < suc n = (div-lt_iff_lt-mul one).1 below in
     omega arith
+
+-- And these have room for them.
+pub parts_hold : (z : Shape) (size : ℕ) → 0 < z.page_words → size ≤ parts_before z size * (z.page_words * 8)
+parts_hold z size some =
+    let n = parts_before z size in
+    dite (dec_le size (n * (z.page_words * 8))) (λ y. y) (λ not.
+    let below : n < n = part_first z n size some (lt_of_not-le not) in
+    absurd (omega (arith, below)))
+
+-- So fewer bytes lie in no more parts.
+pub parts_fewer : (z : Shape) (few many : ℕ) → 0 < z.page_words → few ≤ many → parts_before z few ≤ parts_before z many
+parts_fewer z few many some less =
+    let hold = parts_hold z many some in
+    parts_within z few (parts_before z many) some (omega (arith, less, hold))

@@ -1,9 +1,12 @@
 pub mod Allocating
+pub mod Beside
 pub mod Crews
 pub mod Filling
+pub mod Left
 pub mod Lent
 pub mod Filed
 pub mod Opening
+pub mod Quiet
 pub mod Shapes
 pub mod Shows
 pub mod Tallies

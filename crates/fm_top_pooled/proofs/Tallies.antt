@@ -1,126 +1,36 @@
--- Counts beside records in a pool: room for them, and what a crew counts.
-use Rattle.std.proofs.Common.{◌≡◌, ℕ, ◌+◌, ◌*◌, ◌%◌, ◌<◌, ◌≤◌, List, [], ◌∷◌, map, Result, Ok, Err, IfErr, IfOk, refl, ap, sym, ◌∙◌, subst, inl, inr, arith}
-use Rattle.std.{specs.{Prelude.{◌⊎◌}, List.{AllByRecursion, range_with_len}}, proofs.lemmas.{Nat.{mul-le}, Result.{IfOk-weaker}}}
+-- Counts beside records in a pool, and what a crew counts.
+use Rattle.std.proofs.Common.{◌≡◌, ℕ, ◌+◌, ◌*◌, ◌%◌, ◌<◌, ◌≤◌, List, [], ◌∷◌, Result, Ok, Err, IfErr, IfOk, refl, ap, sym, ◌∙◌, subst, inl, inr, arith}
+use Rattle.std.{specs.{Prelude.{◌⊎◌}, List.{AllByRecursion}}, proofs.lemmas.{Result.{IfOk-weaker}}}
 use Rattle.fm_base.specs.declared.{arena_id.ArenaId.{ArenaId}, caller.Caller.{Caller}, kind.Kind.TheVariants.{Confined, Shared}, refusal.Refusal.{Refusal}}
-use Rattle.fm_base.specs.{declared.refusal.Refusal.TheVariants.{Unsupported, Ragged, WrongThread, Closed, NoPass, Memory}, Arenas.{Arena, arena_of}}
+use Rattle.fm_base.specs.{declared.refusal.Refusal.TheVariants.{Unsupported, Ragged, WrongThread, Closed, NoPass, Memory}}
 use Rattle.fm_base.specs.{Calls.{Add, Entry, Found}, Histories.{made_by}, Untouched.{ComesIn, Spares}, Visits.{visit}}
-use Rattle.fm_rule_calls.specs.Told.{view_of_pass}
-use Rattle.fm_base_bytes.specs.Words.{byte_at}
-use Rattle.fm_gate.specs.{Learnt.{AllBusy}, Needs.{IsOutside}}
+use Rattle.fm_gate.specs.{Needs.{IsOutside}}
 use Rattle.fm_base_lists.{specs.Among.{IsAmong}, proofs.Each.{all_both, all_weaker}}
-use Rattle.fm_top_load.specs.Held.{HoldsThen}
-use Rattle.fm_rule_facts.specs.{Loans.{loans_of}, Scarcity.{parts_before}, Views.{View, IsKnown, IsSound, limit_of, state_in, unlent}}
+use Rattle.fm_rule_facts.specs.{Views.{View, IsSound}}
 use Rattle.fm_records_query.specs.Plan.{Plan}
 use Rattle.fm_records.specs.{Answers.{answer}, Reads.{IsWordOf}}
 use Rattle.fm_rule.specs.declared.pool.Pool.{Pool}
 use Rattle.fm_segment.specs.Region.{Region, region_of}
-use Rattle.fm_words.specs.declared.shape.Shape.{Shape}
 use Rattle.fm_workers.specs.{Adding.{HasCounts}, Counts.{AreCounts, IsTally, listed}, Query.{NobodyElseWrites}}
 use Rattle.fm_workers.specs.Tally.{CanTallyWith, OnlyAddsTo, no_more, closed, one_add, OnlyTallies, TalliedWith}
 use Rattle.fm_workers_crew.specs.Crew.{callers}
-use Rattle.fm_top_pooled.specs.{Asking.{Asked, HasPasses}, Stocked.{HasPagesFor, IsLone, IsOpened, IsStock, IsStocked, KeepsArenas, bytes_in_pool}}
-use Rattle.fm_top_pooled.specs.Tallied.{CanOpenSecond, HasRoomForCounts, IsBeside}
+use Rattle.fm_top_pooled.specs.{Asking.{Asked, HasPasses}, Stocked.{IsStocked, bytes_in_pool}}
+use Rattle.fm_top_pooled.specs.{Besides.{IsBeside}, Tallied.{counts_size}}
 use Rattle.fm_top_pooled.proofs.Crews.{AllTouch, Touches, bytes_stay, crew_touches, not_stopped, only_reads_touch, records_spared, stays_alive, stocked_still}
-use Rattle.fm_top_pooled.proofs.{Lent.{lent_to_one, parts_within}, Opening.{pages_left}, Shows.{asked, can_ask, is_whole, never_wanting, pooled_is}}
+use Rattle.fm_top_pooled.proofs.{Shows.{asked, can_ask, is_whole, never_wanting, pooled_is}}
 
 -- ---- room for counts
 
--- the pass can open a second arena, where the first one is all that it knows
-pub can_second : {pool : Pool} {q : View} (s : Region) → IsStock pool q s → pool.shape.slots ≡ 2 → CanOpenSecond pool q s.arena
-can_second {pool = pool} {q = q} s h two =
-    let shape : q.shape ≡ pool.shape = h.lone.outside.of.1 in
-    let same_pages : q.shape.pages ≡ pool.shape.pages = ap (λ (z : Shape). z.pages) shape in
-    let same_reach : q.shape.reach ≡ pool.shape.reach = ap (λ (z : Shape). z.reach) shape in
-    let pages = h.made.pages in
-    record {
-      lone = h.lone;
-      only = h.only;
-      slots = ap (λ (z : Shape). z.slots) shape ∙ two;
-      more = omega (arith, same_pages, same_reach, pages, two);
-      wide = subst (λ (z : Shape). 256 ≤ z.page_words) (sym shape) h.made.wide;
-    }
+longs_of : (counts : Region) → counts ≡ region_of counts.arena 0 counts_size → HasCounts counts
+longs_of counts is = subst HasCounts (sym is) (record { size = refl; aligned = refl })
 
--- of two slots one is left, where only one arena was opened
-pub second_free : {pool : Pool} {p : View} {a : ArenaId} → CanOpenSecond pool p a → ¬ (AllBusy p)
-second_free {a = a} can busy =
-    let slots = can.slots in
-    let first = busy 0 (omega (arith, slots)) in
-    let second = busy 1 (omega (arith, slots)) in
-    let here : a.slot ≡ 0 = ap (λ (x : ArenaId). x.slot) (sym (can.only first.arena first.known)) ∙ first.in_slot in
-    let there : a.slot ≡ 1 = ap (λ (x : ArenaId). x.slot) (sym (can.only second.arena second.known)) ∙ second.in_slot in
-    absurd (omega (arith, here, there))
-
--- and of the pages, since the first arena can't have all
-pub second_pages : {pool : Pool} {p q : View} {a b : ArenaId} → CanOpenSecond pool p a → IsOpened pool p q b → HasPagesFor q 2048
-second_pages {p = p} {a = a} can opened =
-    let z = p.shape in
-    let lent_few = lent_to_one p a can.lone.sound can.only in
-    let wide = can.wide in
-    let more = can.more in
-    let one : parts_before z 2048 ≤ 1 = parts_within z 2048 1 (omega (arith, wide)) (omega (arith, wide)) in
-    let left : parts_before z 2048 ≤ unlent z.pages (loans_of p.seen) = omega (arith, lent_few, more, one) in
-    pages_left 2048 can.lone opened left
-
--- which have room for the counts
-pub second_room : {pool : Pool} {p : View} {a : ArenaId} → CanOpenSecond pool p a → 2048 ≤ limit_of pool.shape
-second_room {p = p} can =
-    let z = p.shape in
-    let page : 1 * 256 ≤ z.reach * z.page_words = mul-le 1 256 z.reach z.page_words can.lone.sound.valid.reach.0 can.wide in
-    let room : 2048 ≤ limit_of z = omega (arith, page) in
-    subst (λ (x : Shape). 2048 ≤ limit_of x) can.lone.outside.of.1 room
-
--- ---- the records stand still
-
-module _ {pool : Pool} {p r : View} {s : Region} (h : IsStocked pool p s) (keeps : KeepsArenas p r) where
-  same_arena : arena_of (state_in r) s.arena ≡ arena_of (state_in p) s.arena
-  same_arena = keeps.same s.arena h.known.arena
-
-  pub stocked_beside : IsLone pool r → IsStocked pool r s
-  stocked_beside lone = record {
-    outside = lone.outside;
-    sound = lone.sound;
-    whole = lone.whole;
-    tidy = lone.tidy;
-    start = h.start;
-    known = record {
-      arena = keeps.known s.arena h.known.arena;
-      given = subst (λ (n : ℕ). s.first + s.size ≤ n) (ap (λ (x : Arena). x.given) (sym same_arena)) h.known.given;
-    };
-    alive = ap (λ (x : Arena). x.life) same_arena ∙ h.alive;
-    shared = h.shared;
-    passes = ap (λ (z : Shape). z.passes) (lone.outside.of.1 ∙ sym h.outside.of.1) ∙ h.passes;
-  }
-
-  pub bytes_beside : bytes_in_pool r s ≡ bytes_in_pool p s
-  unfolding bytes_in_pool
-  bytes_beside = ap (λ (x : Arena). map (byte_at x.words) (range_with_len s.first s.size)) same_arena
-
-pub has_room : (r : View) (a : ArenaId) (words : List ℕ) (s : Region) → HoldsThen (view_of_pass r) a 2048 words → a.kind ≡ Shared → s ≡ region_of a 0 2048
-    → HasRoomForCounts r s
-has_room r a words s held shared is =
-    subst (λ (x : Region). HasRoomForCounts r x) (sym is) (record {
-      known = record { arena = held.held.known; given = omega (arith, held.given_is) };
-      alive = held.held.alive;
-      shared = shared;
-      longs = record { size = refl; aligned = refl };
-      written = refl;
-    })
-
--- in an arena that is new
-pub beside : {r : View} {s counts : Region} (p : View) → HasRoomForCounts r counts → IsKnown p s.arena → ¬ (IsKnown p counts.arena)
-    → IsBeside r s counts
-beside p room known unknown = record {
-  room = room;
-  other = λ is. unknown (subst (λ (a : ArenaId). IsKnown p a) (sym is) known);
-}
-
-pub can_tally : {pool : Pool} {p : View} {s counts : Region} (plan : Plan) (threads : ℕ) → IsStocked pool p s → IsBeside p s counts → 0 < threads
+pub can_tally : {pool : Pool} {p : View} {s counts : Region} (plan : Plan) (threads : ℕ) → IsStocked pool p s → IsBeside p s counts counts_size → 0 < threads
     → threads ≤ 16 → CanTallyWith pool p plan s counts threads
-can_tally plan threads h b some few = record {
+can_tally {counts = counts} plan threads h b some few = record {
   query = can_ask plan threads h some few;
-  known = b.room.known;
-  longs = b.room.longs;
-  written = b.room.written;
+  known = b.known;
+  longs = longs_of counts b.all;
+  written = ap (λ (r : Region). r.read_only) b.all;
   other = b.other;
 }
 
@@ -143,10 +53,10 @@ tallies_touch s counts c own t =
     (all_both (λ e. Touches (MayCount counts) e.call) t.reads t.adds (only_reads_touch (MayCount counts) s c t.reads t.are_reads)
     (adds_touch counts c t.adds t.are_adds))
 
-not_confined : {pool : Pool} {p : View} {s counts : Region} → IsStocked pool p s → IsBeside p s counts
+not_confined : {pool : Pool} {p : View} {s counts : Region} → IsStocked pool p s → IsBeside p s counts counts_size
     → (s.arena.kind ≡ Confined) ⊎ (counts.arena.kind ≡ Confined) → ⊥
 not_confined h b (inl is) = let kind : Confined ≡ Shared = sym is ∙ h.shared in absurd (cc)
-not_confined h b (inr is) = let kind : Confined ≡ Shared = sym is ∙ b.room.shared in absurd (cc)
+not_confined h b (inr is) = let kind : Confined ≡ Shared = sym is ∙ b.shared in absurd (cc)
 
 -- a word of the counts lies within them
 within : (counts : Region) → HasCounts counts → (a : ArenaId) (word : ℕ) → MayCount counts a word
@@ -157,7 +67,7 @@ within counts longs a word may =
     let below = may.1.below in
     (may.0, omega (arith, aligned, size, below))
 
-module _ {pool : Pool} {p q : View} {s counts : Region} {plan : Plan} {threads : ℕ} (h : IsStocked pool p s) (b : IsBeside p s counts) (sound : IsSound q) where
+module _ {pool : Pool} {p q : View} {s counts : Region} {plan : Plan} {threads : ℕ} (h : IsStocked pool p s) (b : IsBeside p s counts counts_size) (sound : IsSound q) where
   touch : {r : Result (List ℕ) Refusal} (w : TalliedWith threads p q plan s counts r) → AllTouch (MayCount counts) w.crew.more
   touch w =
       let cs = callers w.crew.crew in
@@ -171,7 +81,7 @@ module _ {pool : Pool} {p q : View} {s counts : Region} {plan : Plan} {threads :
   all_come w a (inl is) = subst (λ (x : ArenaId). AllByRecursion (ComesIn x) w.crew.more) (sym is)
       (stays_alive (MayCount counts) h w.crew sound (touch w) s.arena h.known.arena h.alive).1
   all_come w a (inr is) = subst (λ (x : ArenaId). AllByRecursion (ComesIn x) w.crew.more) (sym is)
-      (stays_alive (MayCount counts) h w.crew sound (touch w) counts.arena b.room.known.arena b.room.alive).1
+      (stays_alive (MayCount counts) h w.crew sound (touch w) counts.arena b.known.arena b.alive).1
 
   -- only memory can be wanting
   pub only_wants : (r : Result (List ℕ) Refusal) → TalliedWith threads p q plan s counts r → IsTally plan → s.size % plan.size ≡ 0 → HasPasses p threads
@@ -204,8 +114,8 @@ module _ {pool : Pool} {p q : View} {s counts : Region} {plan : Plan} {threads :
   was_tallied : (ns : List ℕ) → TalliedWith threads p q plan s counts (Ok ns) → IsOutside pool q → Asked threads pool p q plan s
   was_tallied ns w outside =
       asked threads plan h w.crew w.one_each (w.read (nobody_else w))
-      (stocked_still (MayCount counts) h w.crew sound (touch w) outside w.known counts.arena (counts.first + counts.size) b.room.known.given
-      (within counts b.room.longs))
+      (stocked_still (MayCount counts) h w.crew sound (touch w) outside w.known counts.arena (counts.first + counts.size) b.known.given
+      (within counts (longs_of counts b.all)))
       (bytes_stay (MayCount counts) h w.crew sound (touch w) (λ a word may is. b.other (sym may.0 ∙ is)))
       (records_spared (MayCount counts) h w.crew sound (touch w) (λ a word may is. b.other (sym may.0 ∙ is)))
 

@@ -1,6 +1,7 @@
 pub mod Asking
-pub mod Counted
+pub mod Besides
 pub mod Pooled
 pub mod Shown
 pub mod Stocked
 pub mod Tallied
+pub mod Views

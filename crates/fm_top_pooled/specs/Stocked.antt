@@ -1,8 +1,8 @@
 -- Where the first pass of a pool stands, before bytes are put into an arena of it, and then.
-use Rattle.std.specs.{Prelude.{◌≡◌, ◌⊎◌, ℕ, ◌+◌, ◌<◌, ◌≤◌, true, List, [], ◌∷◌, ◌++◌, Option, Result, IfOk, length}, Result.{result_err}}
+use Rattle.std.specs.{Prelude.{◌≡◌, ◌⊎◌, ℕ, ◌+◌, ◌*◌, ◌<◌, ◌≤◌, max, true, List, [], ◌∷◌, ◌++◌, Option, Result, IfOk, length}, Result.{result_err}}
 use Rattle.fm_base.specs.{declared.{arena_id.ArenaId.{ArenaId}, kind.Kind.TheVariants.{Shared}}, Arenas.{Alive, arena_of}, Finds.{Gathered}, Histories.{IsTidy}}
 use Rattle.fm_rule_calls.specs.Told.{view_of_pass}
-use Rattle.fm_gate.specs.{Learnt.{AllBusy}, Needs.{IsOutside}}
+use Rattle.fm_gate.specs.{Learnt.{AllBusy}, Needs.{IsOutside}, Pages.{LentBesides}}
 use Rattle.fm_io.specs.{Files.{Contents, AreBytesFrom}, View.{FilesView}}
 use Rattle.fm_top_load.specs.{Held.{HoldsThen, IsEmpty, IsHeld, OnlyIn, names_in, words_at}, Limits.{record_file_limit}, Reading.{ReadsSome}}
 use Rattle.fm_top_load.specs.{Whole.{ByReads, IsCut, IsWhole, TellsLoad}, declared.{load_fault.LoadFault.{LoadFault}, reached.Reached.{Reached}, stretch.Stretch.{Stretch}}}
@@ -72,6 +72,7 @@ pub record HasGiven (pool : Pool) (p q : View) (a : ArenaId) (size : ℕ) : Type
   pub lone : IsLone pool q
   pub held : HoldsThen (view_of_pass q) a size (words_at (view_of_pass p) a)
   pub elsewhere : OnlyIn a (state_in p) (state_in q)
+  pub lent : LentBesides p q a size 8
 
 -- the bytes that stand in the segment
 unfoldable pub bytes_in_pool : View → Region → List ℕ
@@ -93,49 +94,56 @@ pub record IsStockedOf (many : ℕ) (pool : Pool) (p : View) (s : Region) : Type
 abbrev pub IsStocked : Pool → View → Region → Type 0
 IsStocked pool p s = IsStockedOf pool_passes pool p s
 
--- a pool is made for so many arenas
-pub record AreArenas (arenas : ℕ) : Type 0 where
-  pub some : 0 < arenas
-  pub few : arenas ≤ 2
-
--- the pool was made for so many arenas: it has a page for each part of one, and one for another
-pub record IsMadeFor (arenas : ℕ) (z : Shape) : Type 0 where
-  pub are : AreArenas arenas
+-- The pool was made for an arena of so many bytes, and for one of so many beside it, if any: each has a slot, room, and just the pages that its
+-- parts take. A page has 256 words, or no more than 32 of them need for the greater of both
+pub record IsMadeFor (room beside : ℕ) (z : Shape) : Type 0 where
   pub passes : z.passes ≡ pool_passes
-  pub slots : z.slots ≡ arenas
-  pub pages : z.pages + 1 ≡ z.reach + arenas
+  pub one : beside ≡ 0 → z.slots ≡ 1
+  pub two : 0 < beside → z.slots ≡ 2
+  pub first : room ≤ limit_of z
+  pub second : beside ≤ limit_of z
+  pub pages : z.pages ≡ max 1 (parts_before z room) + parts_before z beside
+  pub reach : z.reach ≡ max (max 1 (parts_before z room)) (parts_before z beside)
   pub wide : 256 ≤ z.page_words
+  pub short : 256 < z.page_words → 128 * z.page_words < max room beside
 
--- bytes stand alone in a pool: its first pass, before another was drawn, knows just their arena, which it holds
-pub record IsStock (pool : Pool) (p : View) (s : Region) : Type 0 where
+-- a slot is left for an arena of so many bytes, if it is to have any, and room and the pages for them
+pub record IsLeft (beside : ℕ) (p : View) : Type 0 where
+  pub slots : 0 < beside → p.shape.slots ≡ 2
+  pub room : beside ≤ limit_of p.shape
+  pub pages : HasPagesFor p beside
+
+-- Bytes stand alone in a pool: its first pass, before another was drawn, knows just their arena, which it holds; and so many bytes are left for
+-- an arena beside it
+pub record IsStock (beside : ℕ) (pool : Pool) (p : View) (s : Region) : Type 0 where
   pub stocked : IsStocked pool p s
   pub lone : IsLone pool p
   pub held : IsHeld (view_of_pass p) s.arena
   pub room : s.size ≤ limit_of pool.shape
   pub only : (b : ArenaId) → IsKnown p b → b ≡ s.arena
-  pub made : IsMadeFor pool.shape.slots pool.shape
+  pub left : IsLeft beside p
 
--- and they are those of the whole record file, where the files tell, in a pool that was made for so many arenas
-pub record HoldsWhole (arenas : ℕ) (told : Option Contents) (name : List ℕ) (pool : Pool) (p : View) (s : Region) : Type 0 where
-  pub stock : IsStock pool p s
-  pub slots : pool.shape.slots ≡ arenas
+-- and they are those of the whole record file, where the files tell
+pub record HoldsWhole (told : Option Contents) (name : List ℕ) (beside : ℕ) (pool : Pool) (p : View) (s : Region) : Type 0 where
+  pub stock : IsStock beside pool p s
   pub whole : IsWhole told name (bytes_in_pool p s)
   pub short : length (bytes_in_pool p s) ≤ record_file_limit
 
--- The file was read whole into a pool for so many arenas, or why it wasn't.
-pub record LoadsStock (arenas : ℕ) (old new : FilesView) (name : List ℕ) (result : Result Stock LoadFault) : Type 0 where
-  pub holds : IfOk result (λ s. HoldsWhole arenas old.holds name s.pool s.pass s.segment)
+-- The file was read whole into a pool in which so many bytes are left, or why it wasn't.
+pub record LoadsStock (beside : ℕ) (old new : FilesView) (name : List ℕ) (result : Result Stock LoadFault) : Type 0 where
+  pub holds : IfOk result (λ s. HoldsWhole old.holds name s.beside s.pool s.pass s.segment)
+  pub left : IfOk result (λ s. s.beside ≡ beside)
   pub reads : ReadsSome old.reads new.reads name record_file_limit
   pub tells : TellsLoad ByReads record_file_limit old new name (result_err result)
 
 -- a stretch of a file was put where there was room for it: this much is a stock
-pub record PutsFile (stretch : Stretch) (told : Option Contents) (pool : Pool) (p : View) (s : Region) (reached : Reached) : Type 0 where
-  pub stock : IsStock pool p s
+pub record PutsFile (stretch : Stretch) (told : Option Contents) (beside : ℕ) (pool : Pool) (p : View) (s : Region) (reached : Reached) : Type 0 where
+  pub stock : IsStock beside pool p s
   pub count : s.size ≡ reached.count
   pub cut : IsCut stretch.limit stretch.most told stretch.name.now stretch.at (bytes_in_pool p s) reached.ended
 
 -- a stock has the first bytes of a record file, where the files tell
-pub record HoldsFirst (told : Option Contents) (name : List ℕ) (pool : Pool) (p : View) (s : Region) : Type 0 where
-  pub stock : IsStock pool p s
+pub record HoldsFirst (told : Option Contents) (name : List ℕ) (beside : ℕ) (pool : Pool) (p : View) (s : Region) : Type 0 where
+  pub stock : IsStock beside pool p s
   pub first : AreBytesFrom told name 0 (bytes_in_pool p s)
   pub short : s.size ≤ record_file_limit

@@ -5,6 +5,7 @@ mod asking;
 mod finishing;
 mod loading;
 mod pooled;
+mod record_file;
 mod shape;
 mod stock;
 mod stocking;
@@ -12,4 +13,5 @@ mod tallying;
 mod wanting;
 
 pub use pooled::Pooled;
-pub use tallying::PooledWithCounts;
+pub use record_file::RecordFile;
+pub use tallying::COUNTS_SIZE;

@@ -3,8 +3,9 @@ ghost use Rattle.std.specs.Result.{result_err};
 ghost use Rattle.fm_io.specs.Reads.{ReadsFile};
 ghost use Rattle.fm_top_load.specs.Reading.{GoesBy, ReadsFurther, portion_limit};
 ghost use Rattle.fm_top_load.specs.Whole.{ByReads, CanRead, IsPortion, TellsLoad};
-ghost use Rattle.fm_top_pooled.specs.Stocked.{AreArenas, HoldsFirst, HoldsWhole, IsStock, LoadsStock, PutsFile, bytes_in_pool};
+ghost use Rattle.fm_top_pooled.specs.Stocked.{HoldsFirst, HoldsWhole, IsStock, LoadsStock, PutsFile, bytes_in_pool};
 
+use crate::record_file::RecordFile;
 use crate::stock::{Stock, stock_of_bytes, stock_of_room};
 use crate::wanting::unless_wanting;
 use fm_arena::Shared;
@@ -17,7 +18,7 @@ use fm_top_load::{
 use std::alloc::{AllocError, Global};
 use std::sync::Wait;
 
-/// Reads a whole record file into a pool for so many arenas.
+/// Reads a whole record file into a pool.
 ///
 /// Where its size is guessed, the pool is made before the file is read, portion by portion, into it. If it turns out
 /// longer, or nothing is guessed, it is read into a list, and the pool is made then. What is read doesn't depend on it.
@@ -25,18 +26,16 @@ pub fn load_stock<R: Wait, F: Files>(
     rt: &R,
     alloc: Global,
     files: &mut F,
-    name: &str,
-    guess: Option<u64>,
-    arenas: u32,
+    file: &RecordFile<'_>,
 ) -> Result<Stock, LoadFault>
-    requires arenas { AreArenas arenas }
-    ensures { LoadsStock arenas (F.view files.old) (F.view files.new) name.now result }
+    requires few { file.now.beside ≤ RECORD_FILE_LIMIT }
+    ensures { LoadsStock file.now.beside (F.view files.old) (F.view files.new) file.now.name.now result }
 {
-    match guess {
+    match file.guess {
         Some(size) if 0 < size && size <= RECORD_FILE_LIMIT => {
-            load_guessed(rt, alloc, files, name, size, arenas)
+            load_guessed(rt, alloc, files, file, size)
         }
-        _ => load_list(rt, alloc, files, name, arenas),
+        _ => load_list(rt, alloc, files, file),
     }
 }
 
@@ -45,17 +44,16 @@ fn load_list<R: Wait, F: Files>(
     rt: &R,
     alloc: Global,
     files: &mut F,
-    name: &str,
-    arenas: u32,
+    file: &RecordFile<'_>,
 ) -> Result<Stock, LoadFault>
-    requires arenas { AreArenas arenas }
-    ensures { LoadsStock arenas (F.view files.old) (F.view files.new) name.now result }
+    requires few { file.now.beside ≤ RECORD_FILE_LIMIT }
+    ensures { LoadsStock file.now.beside (F.view files.old) (F.view files.new) file.now.name.now result }
 {
-    let bytes = match read_whole(alloc, files, name, RECORD_FILE_LIMIT) {
+    let bytes = match read_whole(alloc, files, file.name, RECORD_FILE_LIMIT) {
         Ok(bytes) => bytes,
         Err(fault) => return Err(fault),
     };
-    match stock_of_bytes(rt, alloc, bytes, arenas) {
+    match stock_of_bytes(rt, alloc, bytes, file.beside) {
         Ok(stock) => Ok(stock),
         Err(_) => Err(LoadFault::Memory),
     }
@@ -66,23 +64,22 @@ fn load_guessed<R: Wait, F: Files>(
     rt: &R,
     alloc: Global,
     files: &mut F,
-    name: &str,
+    file: &RecordFile<'_>,
     size: u64,
-    arenas: u32,
 ) -> Result<Stock, LoadFault>
     requires some { 0 < size }
     requires limit { size ≤ RECORD_FILE_LIMIT }
-    requires arenas { AreArenas arenas }
-    ensures { LoadsStock arenas (F.view files.old) (F.view files.new) name.now result }
+    requires few { file.now.beside ≤ RECORD_FILE_LIMIT }
+    ensures { LoadsStock file.now.beside (F.view files.old) (F.view files.new) file.now.name.now result }
 {
     let Ok(mut portion) = Portion::none(alloc) else {
         return Err(LoadFault::Memory);
     };
-    let Ok(room) = stock_of_room(rt, alloc, size, arenas) else {
+    let Ok(room) = stock_of_room(rt, alloc, size, file.beside) else {
         return Err(LoadFault::Memory);
     };
     let stretch = Stretch {
-        name,
+        name: file.name,
         limit: RECORD_FILE_LIMIT,
         at: 0,
         most: size,
@@ -97,7 +94,7 @@ fn load_guessed<R: Wait, F: Files>(
     if reached.ended {
         return Ok(stock);
     }
-    load_longer(rt, alloc, files, name, &mut portion, stock)
+    load_longer(rt, alloc, files, file.name, &mut portion, stock)
 }
 
 /// Puts a stretch of a file, whose first portion was read, where there is room for just that. What was put is the stock
@@ -109,15 +106,15 @@ fn put_file<R: Wait, F: Files>(
     portion: &mut Portion,
     room: Stock,
 ) -> Result<(Stock, Reached), LoadFault>
-    requires stock { IsStock room.pool room.pass room.segment }
+    requires stock { IsStock room.beside room.pool room.pass room.segment }
     requires all { stretch.now.most ≡ room.segment.size }
     requires some { 0 < stretch.now.most }
     requires read { CanRead stretch.now.limit stretch.now.at }
     requires next { IsPortion stretch.now.limit stretch.now.most (F.view files.old).holds stretch.now.name.now
         stretch.now.at portion.old }
     ensures put { IfOk result (λ r.
-        PutsFile stretch.now (F.view files.old).holds r.0.pool r.0.pass r.0.segment r.1) }
-    ensures pool { IfOk result (λ r. r.0.pool ≡ room.pool) }
+        PutsFile stretch.now (F.view files.old).holds r.0.beside r.0.pool r.0.pass r.0.segment r.1) }
+    ensures beside { IfOk result (λ r. r.0.beside ≡ room.beside) }
     ensures reads { ReadsFurther (F.view files.old).reads (F.view files.new).reads stretch.now.name.now
         stretch.now.limit (GoesBy portion.old.ended (stretch.now.at + length portion.old.bytes))
         (λ next. IfOk result (λ r. GoesBy r.1.ended (stretch.now.at + r.1.count) next)) }
@@ -128,6 +125,7 @@ fn put_file<R: Wait, F: Files>(
         pool,
         pass,
         segment,
+        beside,
     } = room;
     let arena = segment.arena();
     let mut memory = Shared::new(&pool, pass);
@@ -139,6 +137,7 @@ fn put_file<R: Wait, F: Files>(
         pass: memory.into_pass(),
         pool,
         segment: Segment::of(arena, 0, reached.count),
+        beside,
     };
     Ok((stock, reached))
 }
@@ -153,9 +152,11 @@ fn load_longer<R: Wait, F: Files>(
     portion: &mut Portion,
     first: Stock,
 ) -> Result<Stock, LoadFault>
-    requires { HoldsFirst (F.view files.old).holds name.now first.pool first.pass first.segment }
+    requires first { HoldsFirst (F.view files.old).holds name.now first.beside first.pool first.pass first.segment }
+    requires few { first.beside ≤ RECORD_FILE_LIMIT }
     ensures holds { IfOk result (λ s.
-        HoldsWhole first.pool.shape.slots (F.view files.old).holds name.now s.pool s.pass s.segment) }
+        HoldsWhole (F.view files.old).holds name.now s.beside s.pool s.pass s.segment) }
+    ensures beside { IfOk result (λ s. s.beside ≡ first.beside) }
     ensures reads { ReadsFile (F.view files.old).reads (F.view files.new).reads name.now portion_limit
         (RECORD_FILE_LIMIT + 1) first.segment.size (λ next. Unit {0}) }
     ensures tells { TellsLoad ByReads RECORD_FILE_LIMIT (F.view files.old) (F.view files.new) name.now
@@ -173,7 +174,7 @@ fn load_longer<R: Wait, F: Files>(
     if portion.len() == 0 {
         return Ok(first);
     }
-    let arenas = first.pool.shape().slots;
+    let beside = first.beside;
     let Ok(mut bytes) = take_out(alloc, first) else {
         return Err(LoadFault::Memory);
     };
@@ -181,7 +182,7 @@ fn load_longer<R: Wait, F: Files>(
         Ok(()) => {}
         Err(fault) => return Err(fault),
     }
-    match stock_of_bytes(rt, alloc, bytes, arenas) {
+    match stock_of_bytes(rt, alloc, bytes, beside) {
         Ok(stock) => Ok(stock),
         Err(_) => Err(LoadFault::Memory),
     }
@@ -189,13 +190,14 @@ fn load_longer<R: Wait, F: Files>(
 
 /// The bytes of a stock, whose pool is taken apart.
 fn take_out(alloc: Global, stock: Stock) -> Result<Vec<u8>, AllocError>
-    requires { IsStock stock.pool stock.pass stock.segment }
+    requires { IsStock stock.beside stock.pool stock.pass stock.segment }
     ensures { IfOk result (λ bytes. bytes.items ≡ bytes_in_pool stock.pass stock.segment) }
 {
     let Stock {
         pool,
         pass,
         segment,
+        ..
     } = stock;
     let finished = unless_wanting(pool.finish(alloc, pass))?;
     match finished.bytes_of(alloc, segment.arena()) {

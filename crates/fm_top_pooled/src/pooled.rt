@@ -5,35 +5,40 @@ ghost use Rattle.fm_top_load.specs.Whole.{ByReads, IsWhole, TellsLoad};
 ghost use Rattle.fm_top_pooled.specs.Asking.{IsCrew};
 ghost use Rattle.fm_top_pooled.specs.Shown.{ShowsBoth, ShowsQuery};
 ghost use Rattle.fm_records.specs.Answers.{answer};
+ghost use Rattle.fm_workers.specs.Counts.{AreCounts, IsTally, listed};
 
 use crate::asking::ask;
 use crate::finishing::finish;
 use crate::loading::load_stock;
+use crate::record_file::RecordFile;
 use crate::stock::{Stock, stock_of_bytes};
+use crate::stocking::open_beside;
+use crate::tallying::{COUNTS_SIZE, count};
 use fm_io::{Files, Gate};
 use fm_records::Answer;
 use fm_records_query::Query;
 use fm_rule::Finished;
 use fm_top_load::{LoadFault, RECORD_FILE_LIMIT};
+use fm_workers::Counts;
 use std::alloc::{AllocError, Global};
 use std::marker::Model;
 use std::sync::Wait;
 use std::thread::Threads;
 
-/// Bytes in the one arena of a pool of their own, which is shared.
+/// Bytes in a shared arena of a pool of their own, which has room for another arena beside it.
 #[derive(Drop)]
 pub struct Pooled {
     stock: Stock,
 }
 
 impl Model for Pooled {
-    ghost use Rattle.std.specs.Prelude.{List, ℕ};
+    ghost use Rattle.fm_top_pooled.specs.Views.{PooledView};
 
-    ghost Value = { List ℕ };
+    ghost Value = { PooledView };
 
-    ghost use Rattle.fm_top_pooled.specs.Pooled.{pooled_bytes, HoldsBytes};
+    ghost use Rattle.fm_top_pooled.specs.Pooled.{pooled_of, HoldsBytes};
 
-    ghost view = { pooled_bytes };
+    ghost view = { pooled_of };
 
     ghost invariant = { HoldsBytes };
 }
@@ -42,29 +47,29 @@ impl Pooled {
     /// Puts the bytes into a pool, which has just their room, and gives the list back.
     pub fn of_bytes<R: Wait>(rt: &R, alloc: Global, bytes: Vec<u8>) -> Result<Pooled, AllocError>
         requires { length bytes.items ≤ RECORD_FILE_LIMIT }
-        ensures { IfOk result (λ pooled. pooled ≡ bytes.items) }
+        ensures { IfOk result (λ pooled. pooled.bytes ≡ bytes.items) }
     {
-        let stock = stock_of_bytes(rt, alloc, bytes, 1)?;
+        let stock = stock_of_bytes(rt, alloc, bytes, 0)?;
         Ok(Pooled { stock })
     }
 
-    /// Reads a whole record file into a pool. A guess of its size, in bytes, saves memory where it is right or too
-    /// large; what is read doesn't depend on it.
+    /// Reads a whole record file into a pool, which has room for another arena beside that of the records.
     pub fn load<R: Wait, F: Files>(
         rt: &R,
         alloc: Global,
         files: &mut F,
-        name: &str,
-        guess: Option<u64>,
+        file: &RecordFile<'_>,
     ) -> Result<Pooled, LoadFault>
-        ensures whole { IfOk result (IsWhole (F.view files.old).holds name.now) }
-        ensures short { IfOk result (λ pooled. length pooled ≤ RECORD_FILE_LIMIT) }
-        ensures reads { ReadsSome (F.view files.old).reads (F.view files.new).reads name.now
+        requires few { file.now.beside ≤ RECORD_FILE_LIMIT }
+        ensures whole { IfOk result (λ pooled. IsWhole (F.view files.old).holds file.now.name.now pooled.bytes) }
+        ensures short { IfOk result (λ pooled. length pooled.bytes ≤ RECORD_FILE_LIMIT) }
+        ensures beside { IfOk result (λ pooled. pooled.beside ≡ file.now.beside) }
+        ensures reads { ReadsSome (F.view files.old).reads (F.view files.new).reads file.now.name.now
             RECORD_FILE_LIMIT }
-        ensures tells { TellsLoad ByReads RECORD_FILE_LIMIT (F.view files.old) (F.view files.new) name.now
+        ensures tells { TellsLoad ByReads RECORD_FILE_LIMIT (F.view files.old) (F.view files.new) file.now.name.now
             (result_err result) }
     {
-        match load_stock(rt, alloc, files, name, guess, 1) {
+        match load_stock(rt, alloc, files, file) {
             Ok(stock) => Ok(Pooled { stock }),
             Err(fault) => Err(fault),
         }
@@ -72,7 +77,7 @@ impl Pooled {
 
     /// How many bytes there are.
     pub fn len(&self) -> u64
-        ensures { result ≡ length self.now }
+        ensures { result ≡ length self.now.bytes }
     {
         self.stock.segment.size()
     }
@@ -87,15 +92,16 @@ impl Pooled {
         threads: u32,
         gate: &G,
     ) -> Result<(Answer, Finished), AllocError>
-        requires even { length self % q.now.size ≡ 0 }
+        requires even { length self.bytes % q.now.size ≡ 0 }
         requires crew { IsCrew threads }
-        ensures answer { IfOk result (λ r. r.0 ≡ answer q.now self) }
-        ensures shows { IfOk result (λ r. ShowsQuery r.1 q.now self) }
+        ensures answer { IfOk result (λ r. r.0 ≡ answer q.now self.bytes) }
+        ensures shows { IfOk result (λ r. ShowsQuery r.1 q.now self.bytes) }
     {
         let Stock {
             pool,
             mut pass,
             segment,
+            ..
         } = self.stock;
         let found = ask(rt, alloc, &pool, &mut pass, &segment, q, threads, gate)?;
         let finished = finish(alloc, pool, pass, &segment)?;
@@ -112,21 +118,54 @@ impl Pooled {
         threads: u32,
         gate: &G,
     ) -> Result<(Answer, Answer, Finished), AllocError>
-        requires first_even { length self % p.now.size ≡ 0 }
-        requires second_even { length self % q.now.size ≡ 0 }
+        requires first_even { length self.bytes % p.now.size ≡ 0 }
+        requires second_even { length self.bytes % q.now.size ≡ 0 }
         requires crew { IsCrew threads }
-        ensures first { IfOk result (λ r. r.0 ≡ answer p.now self) }
-        ensures second { IfOk result (λ r. r.1 ≡ answer q.now self) }
-        ensures shows { IfOk result (λ r. ShowsBoth r.2 p.now q.now self) }
+        ensures first { IfOk result (λ r. r.0 ≡ answer p.now self.bytes) }
+        ensures second { IfOk result (λ r. r.1 ≡ answer q.now self.bytes) }
+        ensures shows { IfOk result (λ r. ShowsBoth r.2 p.now q.now self.bytes) }
     {
         let Stock {
             pool,
             mut pass,
             segment,
+            ..
         } = self.stock;
         let first = ask(rt, alloc, &pool, &mut pass, &segment, p, threads, gate)?;
         let second = ask(rt, alloc, &pool, &mut pass, &segment, q, threads, gate)?;
         let finished = finish(alloc, pool, pass, &segment)?;
         Ok((first, second, finished))
+    }
+
+    /// How often each number comes that a query lists over the records, of which there is a whole number, by a crew of
+    /// so many passes; and the pool, once it is finished. The query lists one path, of bytes or booleans. The passes
+    /// share their counts in the arena beside.
+    pub fn tally<R: Threads + Wait + Sync, G: Gate>(
+        self,
+        rt: &R,
+        alloc: Global,
+        q: &Query,
+        threads: u32,
+        gate: &G,
+    ) -> Result<(Counts, Finished), AllocError>
+        requires tally { IsTally q.now }
+        requires even { length self.bytes % q.now.size ≡ 0 }
+        requires crew { IsCrew threads }
+        requires beside { COUNTS_SIZE ≤ self.beside }
+        ensures counts { IfOk result (λ r. AreCounts (listed (answer q.now self.bytes)) r.0) }
+        ensures shows { IfOk result (λ r. ShowsQuery r.1 q.now self.bytes) }
+    {
+        let Stock {
+            pool,
+            mut pass,
+            segment,
+            ..
+        } = self.stock;
+        let counts = open_beside(rt, &pool, &mut pass, &segment, COUNTS_SIZE);
+        let found = count(
+            rt, alloc, &pool, &mut pass, &segment, &counts, q, threads, gate,
+        )?;
+        let finished = finish(alloc, pool, pass, &segment)?;
+        Ok((found, finished))
     }
 }

@@ -1,5 +1,5 @@
 ghost use Rattle.std.specs.Prelude.{◌≡◌, ◌≤◌, length, IfOk};
-ghost use Rattle.fm_top_pooled.specs.Stocked.{AreArenas, IsStock, bytes_in_pool};
+ghost use Rattle.fm_top_pooled.specs.Stocked.{IsStock, bytes_in_pool};
 
 use crate::shape::shape_for;
 use crate::stocking::{give, open_shared};
@@ -10,28 +10,29 @@ use fm_top_load::{RECORD_FILE_LIMIT, put_held};
 use std::alloc::{AllocError, Global};
 use std::sync::Wait;
 
-/// Bytes in an arena of a pool of their own, which has a slot and a page for another one where it was made for two.
+/// Bytes in an arena of a pool of their own, which has a slot and pages left for another arena of `beside` bytes.
 #[derive(Drop)]
 pub struct Stock {
     pub pool: Pool,
     pub pass: Pass,
     pub segment: Segment,
+    pub beside: u64,
 }
 
-/// Room for so many bytes, in a pool for so many arenas, which has just that.
+/// Room for so many bytes, in a pool that has just that, and what another arena of `beside` bytes takes.
 pub fn stock_of_room<R: Wait>(
     rt: &R,
     alloc: Global,
     size: u64,
-    arenas: u32,
+    beside: u64,
 ) -> Result<Stock, AllocError>
     requires short { size ≤ RECORD_FILE_LIMIT }
-    requires arenas { AreArenas arenas }
-    ensures stock { IfOk result (λ s. IsStock s.pool s.pass s.segment) }
-    ensures slots { IfOk result (λ s. s.pool.shape.slots ≡ arenas) }
+    requires few { beside ≤ RECORD_FILE_LIMIT }
+    ensures stock { IfOk result (λ s. IsStock s.beside s.pool s.pass s.segment) }
+    ensures beside { IfOk result (λ s. s.beside ≡ beside) }
     ensures size { IfOk result (λ s. s.segment.size ≡ size) }
 {
-    let shape = shape_for(size, arenas);
+    let shape = shape_for(size, beside);
     let Ok((pool, mut pass)) = Pool::make(alloc, shape) else {
         return Err(AllocError);
     };
@@ -41,38 +42,41 @@ pub fn stock_of_room<R: Wait>(
         pool,
         pass,
         segment: Segment::of(arena, 0, size),
+        beside,
     })
 }
 
-/// Puts the bytes into a pool for so many arenas, which has just their room, and gives the list back.
+/// Puts the bytes into a pool that has just their room, and what another arena of `beside` bytes takes, and gives the
+/// list back.
 pub fn stock_of_bytes<R: Wait>(
     rt: &R,
     alloc: Global,
     bytes: Vec<u8>,
-    arenas: u32,
+    beside: u64,
 ) -> Result<Stock, AllocError>
     requires short { length bytes.items ≤ RECORD_FILE_LIMIT }
-    requires arenas { AreArenas arenas }
-    ensures stock { IfOk result (λ s. IsStock s.pool s.pass s.segment) }
-    ensures slots { IfOk result (λ s. s.pool.shape.slots ≡ arenas) }
+    requires few { beside ≤ RECORD_FILE_LIMIT }
+    ensures stock { IfOk result (λ s. IsStock s.beside s.pool s.pass s.segment) }
+    ensures beside { IfOk result (λ s. s.beside ≡ beside) }
     ensures bytes { IfOk result (λ s. bytes_in_pool s.pass s.segment ≡ bytes.items) }
 {
-    let stock = stock_of_room(rt, alloc, bytes.len() as u64, arenas)?;
+    let stock = stock_of_room(rt, alloc, bytes.len() as u64, beside)?;
     Ok(fill(rt, stock, &bytes))
 }
 
 /// Puts as many bytes as there is room for.
 fn fill<R: Wait>(rt: &R, stock: Stock, bytes: &[u8]) -> Stock
-    requires stock { IsStock stock.pool stock.pass stock.segment }
+    requires stock { IsStock stock.beside stock.pool stock.pass stock.segment }
     requires all { length bytes.now ≡ stock.segment.size }
-    ensures stock { IsStock result.pool result.pass result.segment }
-    ensures pool { result.pool ≡ stock.pool }
+    ensures stock { IsStock result.beside result.pool result.pass result.segment }
+    ensures beside { result.beside ≡ stock.beside }
     ensures bytes { bytes_in_pool result.pass result.segment ≡ bytes.now }
 {
     let Stock {
         pool,
         pass,
         segment,
+        beside,
     } = stock;
     let mut memory = Shared::new(&pool, pass);
     put_held(rt, &mut memory, segment.arena(), 0, bytes);
@@ -80,5 +84,6 @@ fn fill<R: Wait>(rt: &R, stock: Stock, bytes: &[u8]) -> Stock
         pass: memory.into_pass(),
         pool,
         segment,
+        beside,
     }
 }

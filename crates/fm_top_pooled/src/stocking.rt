@@ -1,13 +1,15 @@
-ghost use Rattle.std.specs.Prelude.{◌≤◌};
+ghost use Rattle.std.specs.Prelude.{◌≡◌, ◌≤◌, []};
 ghost use Rattle.fm_rule_calls.specs.Told.{view_of_pass};
 ghost use Rattle.fm_gate.specs.Learnt.{AllBusy};
 ghost use Rattle.fm_top_load.specs.Held.{IsEmpty};
 ghost use Rattle.fm_rule_facts.specs.Views.{limit_of};
-ghost use Rattle.fm_top_pooled.specs.Stocked.{HasGiven, HasPagesFor, IsLone, IsOpened};
+ghost use Rattle.fm_top_pooled.specs.Besides.{CanOpenBeside, IsBeside};
+ghost use Rattle.fm_top_pooled.specs.Stocked.{HasGiven, HasPagesFor, IsLone, IsOpened, IsStocked, bytes_in_pool};
 
 use fm_base::{ArenaId, Kind};
 use fm_gate::{allocate, open_arena};
 use fm_rule::{Pass, Pool};
+use fm_segment::Segment;
 use std::sync::Wait;
 
 /// Opens a shared arena, for which there is a slot. It has no page yet.
@@ -36,4 +38,19 @@ pub fn give<R: Wait>(rt: &R, pool: &Pool, pass: &mut Pass, arena: ArenaId, size:
         // There is room, and a page for each part of it.
         Err(_) => unreachable!(),
     }
+}
+
+/// Opens an arena beside that of the records, which gives just so many bytes. It comes last: what passes write there
+/// lies apart from the words that all read.
+pub fn open_beside<R: Wait>(rt: &R, pool: &Pool, pass: &mut Pass, s: &Segment, size: u64) -> Segment
+    requires stocked { IsStocked pool.now pass.old s.now }
+    requires can { CanOpenBeside pool.now pass.old s.now.arena size }
+    ensures stocked { IsStocked pool.now pass.new s.now }
+    ensures bytes { bytes_in_pool pass.new s.now ≡ bytes_in_pool pass.old s.now }
+    ensures beside { IsBeside pass.new s.now result size }
+    ensures none_gathered { pass.new.gathered ≡ [] }
+{
+    let arena = open_shared(rt, pool, pass);
+    give(rt, pool, pass, arena, size);
+    Segment::of(arena, 0, size)
 }

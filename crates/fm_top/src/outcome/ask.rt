@@ -22,7 +22,7 @@ use fm_layout::Layout;
 use fm_ljson::layout_from_json;
 use fm_records_query::check_record;
 use fm_top_load::{LAYOUT_FILE_LIMIT, read_whole};
-use fm_top_pooled::{Pooled, PooledWithCounts};
+use fm_top_pooled::{COUNTS_SIZE, Pooled, RecordFile};
 use fm_top_stream::MOST_CHUNK;
 use std::alloc::Global;
 use std::sync::Wait;
@@ -157,16 +157,23 @@ fn plan_ending<'a, R: Threads + Wait + Sync, F: Files, G: Gate>(
         query,
     } = plan;
     let threads = threads as u32;
-    let guess = files.guess(file);
+    let mut records = RecordFile {
+        name: file,
+        guess: files.guess(file),
+        beside: 0,
+    };
     match question {
         Question::Stream => streamed_ending(rt, alloc, files, file, query, threads, gate),
-        Question::Query => match Pooled::load(rt, alloc, files, file, guess) {
+        Question::Query => match Pooled::load(rt, alloc, files, &records) {
             Ok(pooled) => Ok(queried_ending(rt, alloc, pooled, query, threads, gate)?),
             Err(fault) => unloaded_ending(alloc, file, fault),
         },
-        Question::Tally => match PooledWithCounts::load(rt, alloc, files, file, guess) {
-            Ok(pooled) => Ok(tallied_ending(rt, alloc, pooled, &query, threads, gate)?),
-            Err(fault) => unloaded_ending(alloc, file, fault),
-        },
+        Question::Tally => {
+            records.beside = COUNTS_SIZE;
+            match Pooled::load(rt, alloc, files, &records) {
+                Ok(pooled) => Ok(tallied_ending(rt, alloc, pooled, &query, threads, gate)?),
+                Err(fault) => unloaded_ending(alloc, file, fault),
+            }
+        }
     }
 }

@@ -49,7 +49,7 @@ pub fn demo_ending<'a, R: Threads + Wait + Sync, G: Gate>(
 /// So many records, in a pool of their own.
 fn made_pool<R: Wait>(rt: &R, alloc: Global, count: u64) -> Result<Pooled, AllocError>
     requires { IsCount count }
-    ensures { IfOk result (λ pooled. pooled ≡ made_records count) }
+    ensures { IfOk result (λ pooled. pooled.bytes ≡ made_records count) }
 {
     let records = made_records(alloc, count as u32)?;
     Pooled::of_bytes(rt, alloc, records)

@@ -26,10 +26,10 @@ pub fn queried_ending<'a, R: Threads + Wait + Sync, G: Gate>(
     threads: u32,
     gate: &G,
 ) -> Result<Ending<'a>, AllocError>
-    requires short { length pooled ≤ RECORD_FILE_LIMIT }
+    requires short { length pooled.bytes ≤ RECORD_FILE_LIMIT }
     requires threads { AreThreads threads }
     ensures { IfOk result (λ ending. (file : List ℕ) →
-        PlanEnds (wish.Answer question.Query threads) q file (Some pooled) (shown ending)) }
+        PlanEnds (wish.Answer question.Query threads) q file (Some pooled.bytes) (shown ending)) }
 {
     let rest = rest_of(pooled.len(), &q);
     if rest != 0 {

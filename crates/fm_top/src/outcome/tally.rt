@@ -12,7 +12,7 @@ use crate::outcome::plan::rest_of;
 use fm_io::Gate;
 use fm_records_query::Query;
 use fm_top_load::RECORD_FILE_LIMIT;
-use fm_top_pooled::PooledWithCounts;
+use fm_top_pooled::{COUNTS_SIZE, Pooled};
 use fm_workers::print_counts;
 use std::alloc::{AllocError, Global};
 use std::sync::Wait;
@@ -22,16 +22,17 @@ use std::thread::Threads;
 pub fn tallied_ending<'a, R: Threads + Wait + Sync, G: Gate>(
     rt: &R,
     alloc: Global,
-    pooled: PooledWithCounts,
+    pooled: Pooled,
     q: &Query,
     threads: u32,
     gate: &G,
 ) -> Result<Ending<'a>, AllocError>
-    requires short { length pooled ≤ RECORD_FILE_LIMIT }
+    requires short { length pooled.bytes ≤ RECORD_FILE_LIMIT }
     requires threads { AreThreads threads }
     requires tally { IsTally q.now }
+    requires beside { COUNTS_SIZE ≤ pooled.beside }
     ensures { IfOk result (λ ending. (file : List ℕ) →
-        PlanEnds (wish.Answer question.Tally threads) q.now file (Some pooled) (shown ending)) }
+        PlanEnds (wish.Answer question.Tally threads) q.now file (Some pooled.bytes) (shown ending)) }
 {
     let rest = rest_of(pooled.len(), q);
     if rest != 0 {

@@ -10,11 +10,11 @@ pub returns-then-len-eq0-clause-holds : goal.returns-then-len-eq0-clause-holds
 returns-then-len-eq0-clause-holds g c =
     let told = (g.F.Files.view c.args.files.now).holds in
     let took = subst (λ n. IsPortion 67108864 67108865 told c.args.name.now n c.read.new.self) c.size.ensures.size c.in_default.ensures.took in
-    first_whole c.requires took (omega arith) (sym c.len.ensures ∙ c.if-len-eq0.true)
+    first_whole c.requires.first took (omega arith) (sym c.len.ensures ∙ c.if-len-eq0.true)
 
 pub read_rest-requires : goal.read_rest-requires
 read_rest-requires g c =
-    let h = c.requires in
+    let h = c.requires.first in
     let short = h.short in
     let size = c.size.ensures.size in
     let items = c.in-Ok.ensures in
@@ -45,6 +45,5 @@ returns-in-Ok-stock_of_bytes-clause-holds g c =
     let stock = c.in-Ok-stock_of_bytes.ensures in
     let rest = c.in-Ok-read_rest.ensures in
     let s = c.in-Ok-stock_of_bytes.stock in
-    let slots = stock.slots ∙ ap (λ z. z.slots) c.shape-arenas.ensures.shape in
-    subst (λ (x : Option Contents). HoldsWhole c.args.first.pool.shape.slots x c.args.name.now s.pool s.pass s.segment) (read_quietly c.in_default.ensures.tells).held
-    (list_stands stock.stock slots stock.bytes rest.whole rest.short)
+    subst (λ (x : Option Contents). HoldsWhole x c.args.name.now s.beside s.pool s.pass s.segment) (read_quietly c.in_default.ensures.tells).held
+    (list_stands stock.stock stock.bytes rest.whole rest.short)

@@ -14,4 +14,5 @@ returns g c = record {
   lone = allocated_lone c.args.arena c.args.size c.requires.lone c.requires.empty c.in-Ok.field-0 c.in-Ok.ensures;
   held = first_held c.args.arena c.args.size c.requires.lone c.requires.empty c.in-Ok.field-0 c.in-Ok.ensures;
   elsewhere = first_only c.args.arena c.args.size c.requires.lone c.requires.empty c.in-Ok.field-0 c.in-Ok.ensures;
+  lent = c.in-Ok.ensures.lent c.requires.lone.whole;
 }

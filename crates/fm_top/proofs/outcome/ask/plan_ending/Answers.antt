@@ -8,8 +8,8 @@ returns-in-Ok g c =
     let load = c.in-Ok.ensures in
     let file = c.args.file.now in
     let ends = c.in_ok-queried_ending-in-Ok.ensures file in
-    rw c.in-Query.is (found_ends load.reads load.tells c.in-Ok.pooled load.whole ends
-    (plan_found (Answer Query c.args.plan.threads) c.args.plan.query file c.in-Ok.pooled (Some c.in-Ok.pooled) (shown c.in_ok-queried_ending-in-Ok.field-0) refl ends))
+    rw c.in-Query.is (found_ends load.reads load.tells c.in-Ok.pooled.bytes load.whole ends
+    (plan_found (Answer Query c.args.plan.threads) c.args.plan.query file c.in-Ok.pooled.bytes (Some c.in-Ok.pooled.bytes) (shown c.in_ok-queried_ending-in-Ok.field-0) refl ends))
 
 pub returns-in_err-queried_ending-in-Ok : goal.returns-in_err-queried_ending-in-Ok
 returns-in_err-queried_ending-in-Ok g c = let load = c.in-Ok.ensures in rw c.in-Query.is (wanting_ends load.reads load.tells (search rules))
@@ -23,8 +23,8 @@ returns-in-Ok-load g c =
     let load = c.in-Ok-load.ensures in
     let file = c.args.file.now in
     let ends = c.in_ok-tallied_ending-in-Ok-load.ensures file in
-    rw c.in-Tally.is (found_ends load.reads load.tells c.in-Ok-load.pooled load.whole ends
-    (plan_found (Answer Tally c.args.plan.threads) c.args.plan.query file c.in-Ok-load.pooled (Some c.in-Ok-load.pooled) (shown c.in_ok-tallied_ending-in-Ok-load.field-0) refl ends))
+    rw c.in-Tally.is (found_ends load.reads load.tells c.in-Ok-load.pooled.bytes load.whole ends
+    (plan_found (Answer Tally c.args.plan.threads) c.args.plan.query file c.in-Ok-load.pooled.bytes (Some c.in-Ok-load.pooled.bytes) (shown c.in_ok-tallied_ending-in-Ok-load.field-0) refl ends))
 
 pub returns-in_err-tallied_ending-in-Ok-load : goal.returns-in_err-tallied_ending-in-Ok-load
 returns-in_err-tallied_ending-in-Ok-load g c = let load = c.in-Ok-load.ensures in rw c.in-Tally.is (wanting_ends load.reads load.tells (search rules))

@@ -6,7 +6,7 @@ use Rattle.fm_top.proofs.outcome.query.queried_ending.Goals as goal
 
 pub returns-then-rest-ne0 : goal.returns-then-rest-ne0
 returns-then-rest-ne0 g c =
-    ragged_ends record_file_limit c.args.q.size c.args.pooled (IsAnswered Query c.args.threads c.args.q) c.requires.short c.rest_of-rest.ensures c.len.ensures c.ragged.result
+    ragged_ends record_file_limit c.args.q.size c.args.pooled.bytes (IsAnswered Query c.args.threads c.args.q) c.requires.short c.rest_of-rest.ensures c.len.ensures c.ragged.result
     c.if-rest-ne0.true c.ragged.ensures
 
 pub answer-requires-clause-even : goal.answer-requires-clause-even
@@ -15,6 +15,6 @@ answer-requires-clause-even g c κs within =
 
 pub returns : goal.returns
 returns g c =
-    even_ends record_file_limit c.args.q.size c.args.pooled (IsAnswered Query c.args.threads c.args.q) c.requires.short c.rest_of-rest.ensures c.len.ensures
+    even_ends record_file_limit c.args.q.size c.args.pooled.bytes (IsAnswered Query c.args.threads c.args.q) c.requires.short c.rest_of-rest.ensures c.len.ensures
     (Ok c.answered_by_pool.result) c.if-rest-ne0.false
-    (queried c.args.threads c.args.q c.args.pooled _ _ _ c.in_ok-answer.ensures.answer c.in_ok-answer.ensures.shows c.answered_by_pool.ensures)
+    (queried c.args.threads c.args.q c.args.pooled.bytes _ _ _ c.in_ok-answer.ensures.answer c.in_ok-answer.ensures.shows c.answered_by_pool.ensures)

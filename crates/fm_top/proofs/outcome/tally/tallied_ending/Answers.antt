@@ -6,7 +6,7 @@ use Rattle.fm_top.proofs.outcome.tally.tallied_ending.Goals as goal
 
 pub returns-then-rest-ne0 : goal.returns-then-rest-ne0
 returns-then-rest-ne0 g c =
-    ragged_ends record_file_limit c.args.q.now.size c.args.pooled (IsAnswered Tally c.args.threads c.args.q.now) c.requires.short c.rest_of-rest.ensures c.len.ensures c.ragged.result
+    ragged_ends record_file_limit c.args.q.now.size c.args.pooled.bytes (IsAnswered Tally c.args.threads c.args.q.now) c.requires.short c.rest_of-rest.ensures c.len.ensures c.ragged.result
     c.if-rest-ne0.true c.ragged.ensures
 
 pub tally-requires-clause-even : goal.tally-requires-clause-even
@@ -15,6 +15,6 @@ tally-requires-clause-even g c κs within =
 
 pub returns-in-Ok : goal.returns-in-Ok
 returns-in-Ok g c =
-    even_ends record_file_limit c.args.q.now.size c.args.pooled (IsAnswered Tally c.args.threads c.args.q.now) c.requires.short c.rest_of-rest.ensures c.len.ensures
+    even_ends record_file_limit c.args.q.now.size c.args.pooled.bytes (IsAnswered Tally c.args.threads c.args.q.now) c.requires.short c.rest_of-rest.ensures c.len.ensures
     (Ok c.answered_by_pool.result) c.if-rest-ne0.false
-    (tallied c.args.threads c.args.q.now c.args.pooled _ _ _ _ c.in_ok-counts.ensures.counts c.in-Ok.ensures.text c.in_ok-counts.ensures.shows c.answered_by_pool.ensures)
+    (tallied c.args.threads c.args.q.now c.args.pooled.bytes _ _ _ _ c.in_ok-counts.ensures.counts c.in-Ok.ensures.text c.in_ok-counts.ensures.shows c.answered_by_pool.ensures)
