@@ -23,7 +23,7 @@ pub fn texts<R: Wait, F: Files>(
     turns: u64,
     file: &str,
 ) -> Option<u64> {
-    let mut loaded = load(rt, alloc, files, file).ok()?;
+    let mut loaded = load(rt, alloc, files, file, SIZE).ok()?;
     let mut sum: u64 = 0;
     for _ in 0..turns {
         for k in 0..loaded.len() / SIZE {

@@ -46,7 +46,7 @@ fn print<R: Wait, F: Files, O: Sink>(
 ) -> Option<()> {
     match words {
         [what, file] if what.as_str() == "load" => {
-            let loaded = load(rt, alloc, files, file).ok()?;
+            let loaded = load(rt, alloc, files, file, 1).ok()?;
             print_number(alloc, out, loaded.len())
         }
         [what, layout, text, file] if what.as_str() == "query" => {

@@ -1,12 +1,12 @@
 -- Which outcome a request has.
-use Rattle.std.proofs.Common.{◌≡◌, ◌≢◌, ◌⊎◌, inl, inr, ℕ, suc, ◌%◌, ◌<◌, ◌≤◌, List, ap, length, replicate, Option, None, Some, true, sym, ◌∙◌, subst, refl, arith}
+use Rattle.std.proofs.Common.{◌≡◌, ◌≢◌, ◌⊎◌, inl, inr, ℕ, suc, ◌%◌, ◌<◌, ◌≤◌, List, length, replicate, Option, None, Some, true, sym, subst, refl, arith}
 use Rattle.std.{proofs.lemmas.{List.{length-replicate}, Bool.Decides.{Decides-ltb}, Result.{IfOk-weaker}}, specs.Prelude.{IsSomeAnd, nat_lt, Result, IfOk}}
 use Rattle.std.specs.declared.alloc.AllocError.{AllocError}
 use Rattle.fm_io.specs.Files.{Contents, file_of}
 use Rattle.fm_layout.specs.Tree.{Tree}
 use Rattle.fm_base.specs.declared.refusal.Refusal.{Refusal, TheVariants.{Memory}}
 use Rattle.fm_top.specs.{Ending.{shown}, Found.{IsFound, OfFound}}
-use Rattle.fm_top.specs.Outcome.{Outcome, RecordsEnd, uneven, even, ragged, layout_of_file, too_long, layout_refused, query_refused, layout_file_limit}
+use Rattle.fm_top.specs.Outcome.{Outcome, RecordsEnd, even, layout_of_file, too_long, layout_refused, query_refused, layout_file_limit}
 use Rattle.fm_top.specs.{Queries.{ComesToNone, IsLayoutRefused, TextEnds, unplanned, AskEnds, bad_layout}, Run.{HasOutcome}, Words.{Ask}}
 use Rattle.fm_top.specs.declared.{outcome.ending.Ending.{Ending}, command.{layout_text.LayoutText.{LayoutText}, wish.Wish.{Wish}}}
 use Rattle.fm_top_load.specs.Whole.{IsWhole, IsOver}
@@ -68,21 +68,9 @@ module _ (w : Wish) (text file : List ℕ) (found : Option (List ℕ)) (o : Outc
   pub refused-text : (t : Tree) (e : Refusal) → (e ≢ Memory → ComesToNone w text t e) → e ≢ Memory → o ≡ query_refused e → TextEnds w text t file found o
   refused-text t e denied other is = subst (λ (x : Outcome). TextEnds w text t file found x) (sym is) (unplanned e (denied other))
 
--- the rest of so many bytes behind the last whole record was taken
-module _ (limit size : ℕ) (bytes : List ℕ) (Answers : List ℕ → Outcome → Type 0) {n rest : ℕ} (short : length bytes ≤ limit)
-    (is_rest : rest ≡ n % size) (is_count : n ≡ length bytes) where
-  same_rest : rest ≡ length bytes % size
-  same_rest = is_rest ∙ ap (λ (m : ℕ). m % size) is_count
-
-  -- there is one, and the run ends so
-  pub ragged_ends : (end : Result Ending AllocError) → (rest ≡ 0 → ⊥) → IfOk end (λ ending. shown ending ≡ ragged rest)
-      → IfOk end (λ ending. (file : List ℕ) → RecordsEnd limit size file Answers (Some bytes) (shown ending))
-  ragged_ends end some ends = IfOk-weaker end _ _ (λ ending is file.
-      subst (λ (o : Outcome). RecordsEnd limit size file Answers (Some bytes) o) (sym (is ∙ ap ragged same_rest))
-      (uneven bytes short (λ whole. some (same_rest ∙ whole)))) ends
-
-  -- there is none, and the run answers
-  pub even_ends : (end : Result Ending AllocError) → rest ≡ 0 → IfOk end (λ ending. Answers bytes (shown ending))
-      → IfOk end (λ ending. (file : List ℕ) → RecordsEnd limit size file Answers (Some bytes) (shown ending))
-  even_ends end none ends =
-      IfOk-weaker end _ _ (λ ending answers file. even bytes (shown ending) short (sym same_rest ∙ none) answers) ends
+-- whole records are answered over
+pub even_ends : (limit size : ℕ) (bytes : List ℕ) (Answers : List ℕ → Outcome → Type 0) → length bytes ≤ limit → length bytes % size ≡ 0
+    → (end : Result Ending AllocError) → IfOk end (λ ending. Answers bytes (shown ending))
+    → IfOk end (λ ending. (file : List ℕ) → RecordsEnd limit size file Answers (Some bytes) (shown ending))
+even_ends limit size bytes Answers short whole end ends =
+    IfOk-weaker end _ _ (λ ending answers file. even bytes (shown ending) short whole answers) ends

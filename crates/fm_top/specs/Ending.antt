@@ -2,7 +2,7 @@
 use Rattle.std.specs.Prelude.{◌≡◌, ◌≢◌, ◌↔◌, ℕ, List, ◌++◌, Result, Ok, Err, IfOk, IsOk, string_bytes}
 use Rattle.fm_io.specs.{Count.{Rose}, declared.fault.Fault.{Fault, TheVariants.{Failed}}}
 use Rattle.fm_records.specs.Texts.{answer_text}
-use Rattle.fm_top.specs.{Outcome.{Outcome, missing, too_long}, declared.outcome.{answered.Answered.{Answered}, ending.Ending.{Ending}, status.Status.{Status}}}
+use Rattle.fm_top.specs.{Outcome.{Outcome, missing, ragged, too_long}, declared.outcome.{answered.Answered.{Answered}, ending.Ending.{Ending}, status.Status.{Status}}}
 use Rattle.fm_top.specs.declared.outcome.{status.Status.TheVariants.{Missing}, output.Output.{Output, TheVariants.{Whole, Bytes, NoFile, Answer, Both, Texts}}}
 use Rattle.fm_top_load.specs.declared.load_fault.LoadFault.{LoadFault}
 use Rattle.fm_top_load.specs.declared.load_fault.LoadFault.TheVariants as fault
@@ -35,6 +35,7 @@ TellsMisses before now (Err fault) = now ≡ before
 abbrev pub EndsUnloaded : LoadFault → List ℕ → Outcome → Type 0
 EndsUnloaded fault.Missing name o = o ≡ missing name
 EndsUnloaded fault.TooLong name o = o ≡ too_long
+EndsUnloaded (fault.Ragged rest) name o = o ≡ ragged rest
 EndsUnloaded other name o = ⊥
 
 -- it ends so, and that it is missing takes no memory

@@ -7,7 +7,7 @@ use Rattle.fm_segment_access.specs.Alone.{bytes_of_arena}
 use Rattle.fm_segment.specs.Region.{Region, region_of}
 use Rattle.fm_top_load.specs.{Filled.{HoldsRoom}, Held.{IsHeld, IsReady, Wants, loaded_in}, Limits.{record_file_limit}, Loading.{BeginsToPut, HasBegun, HasLoaded, Stops}}
 use Rattle.fm_top_load.specs.{Portions.{PortionView}, Putting.{ArePut, DoesPutStretch, PutsStretch, none_put}, Reading.{portion_limit}, Stretches.{IsWholeStretch}, Whole.{ByPuts, IsWhole, TellsLoad}}
-use Rattle.fm_top_load.specs.declared.{load_fault.LoadFault.{LoadFault, TheVariants.{Missing, Failed, TooLong, Memory, Refused}}, reached.Reached.{Reached}, room.Room.TheVariants.{Growing}}
+use Rattle.fm_top_load.specs.declared.{load_fault.LoadFault.{LoadFault, TheVariants.{Missing, Failed, TooLong, Memory, Ragged, Refused}}, reached.Reached.{Reached}, room.Room.TheVariants.{Growing}}
 use Rattle.fm_top_load.specs.declared.stretch.Stretch.{Stretch}
 use Rattle.fm_top_load.proofs.{Alone.{stands}, FileBytes.{first_to_last}, Following.{same_reads}, GivenBytes.{loaded_first}, Telling.{tells_of}}
 
@@ -39,6 +39,7 @@ begins stretch told c a first Missing own does = inl does
 begins stretch told c a first Failed own does = inl does
 begins stretch told c a first TooLong own does = inl does
 begins stretch told c a first Memory own does = inl does
+begins stretch told c a first (Ragged rest) own does = inl does
 begins stretch told c a first (Refused r) own does = inr (r, does)
 
 -- some was
@@ -93,13 +94,14 @@ loads {stretch} {told} {now} {name} {x} {z} {a} {first} {reached} s whole room o
 
 -- ---- a fault
 
-stops_as : (nature : Nature) (x z : View) (fault : LoadFault) → ((r : Refusal) → fault ≡ Refused r → Wants nature x z r) → Stops nature x z fault
-stops_as nature x z Missing wants = tt
-stops_as nature x z Failed wants = tt
-stops_as nature x z TooLong wants = tt
-stops_as nature x z Memory wants = tt
-stops_as nature x z (Refused r) wants = wants r refl
+stops_as : (nature : Nature) (x z : View) (fault : LoadFault) → ByPuts fault → ((r : Refusal) → fault ≡ Refused r → Wants nature x z r) → Stops nature x z fault
+stops_as nature x z Missing by wants = tt
+stops_as nature x z Failed by wants = tt
+stops_as nature x z TooLong by wants = tt
+stops_as nature x z Memory by wants = tt
+stops_as nature x z (Ragged rest) by wants = absurd by
+stops_as nature x z (Refused r) by wants = wants r refl
 
 pub stops : (nature : Nature) (x z : View) {limit : ℕ} {old new : FilesView} {name : List ℕ} (fault : LoadFault) → ((r : Refusal) → fault ≡ Refused r → Wants nature x z r)
     → TellsLoad ByPuts limit old new name (Some fault) → TellsLoad (Stops nature x z) limit old new name (Some fault)
-stops nature x z fault wants tells = tells_of (λ by. stops_as nature x z fault wants) tells
+stops nature x z fault wants tells = tells_of (λ by. stops_as nature x z fault by wants) tells

@@ -6,7 +6,7 @@ use Rattle.fm_base.{specs.View.{View, Did, given_in}, proofs.Making.{Makes-then,
 use Rattle.fm_base_bytes.specs.Bytes.{AreBytes}
 use Rattle.fm_io.specs.Files.{Contents, AreBytesFrom}
 use Rattle.fm_top_load.specs.{Portions.{PortionView}, Putting.{ArePut, CanHold, CanHoldAll, DoesPutPortion, DoesPutStretch, PutsStretch, StopsPutting, none_put, put_more}, Whole.{ByReads, IsCut, IsPortion}}
-use Rattle.fm_top_load.specs.declared.load_fault.LoadFault.{LoadFault, TheVariants.{Missing, Failed, TooLong, Memory, Refused}}
+use Rattle.fm_top_load.specs.declared.load_fault.LoadFault.{LoadFault, TheVariants.{Missing, Failed, TooLong, Memory, Ragged, Refused}}
 use Rattle.fm_top_load.specs.declared.{reached.Reached.{Reached}, room.Room.{Room, TheVariants.{Given, Growing}}, stretch.Stretch.{Stretch}}
 use Rattle.fm_top_load.proofs.{FileBytes.{no_bytes_from}, Portions.{first_then, is_cut, portion_even, portion_fits}}
 
@@ -139,3 +139,4 @@ put_before stretch first Failed by put = record { own = put.own; does = (put.doe
 put_before stretch first TooLong by put = record { own = put.own; does = (put.does.bytes, put.does.put); makes = put.makes }
 put_before stretch first Memory by put = record { own = put.own; does = (put.does.bytes, put.does.put); makes = put.makes }
 put_before stretch first (Refused r) by put = absurd by
+put_before stretch first (Ragged rest) by put = absurd by

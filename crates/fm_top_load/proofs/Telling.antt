@@ -1,7 +1,8 @@
 -- What loads tell of the files.
-use Rattle.std.{proofs.Common.{ℕ, List, Option, None, Some, subst}, specs.Prelude.{IfSome}}
+use Rattle.std.{proofs.Common.{◌≤◌, ℕ, List, length, Option, None, Some, refl, sym, subst}, specs.Prelude.{IfSome}}
 use Rattle.fm_io.{specs.{Files.{Contents, IsAbsent}, View.{FilesView, Leaves}}, proofs.Left.{leaves_none, leaves_quiet, leaves_then}}
-use Rattle.fm_top_load.specs.{Whole.{ByPuts, ByReads, IsOver, TellsLoad}, declared.load_fault.LoadFault.{LoadFault, TheVariants.{Memory, Refused}}}
+use Rattle.fm_top_load.specs.{Records.{ByRecords, IsRagged, IsRest, TellsRecords}, Whole.{ByPuts, ByReads, IsOver, IsWhole, TellsLoad}}
+use Rattle.fm_top_load.specs.declared.load_fault.LoadFault.{LoadFault, TheVariants.{Memory, Ragged, Refused}}
 use Rattle.fm_base.specs.declared.refusal.Refusal.{Refusal}
 
 -- reads that came to something
@@ -35,7 +36,11 @@ tells_of more tells = record { left = tells.left; too_long = tells.too_long; abs
 -- what reads come to may come where bytes are put
 pub by_puts : {limit : ℕ} {old new : FilesView} {name : List ℕ} {fault : LoadFault} → TellsLoad ByReads limit old new name (Some fault)
     → TellsLoad ByPuts limit old new name (Some fault)
-by_puts tells = tells_of (λ by. tt) tells
+by_puts {fault = fault} tells = tells_of (put_too fault) tells
+  where
+    put_too : (f : LoadFault) → ByReads f → ByPuts f
+    put_too (Ragged rest) by = absurd by
+    put_too f by = tt
 
 -- such reads, and then want of memory
 pub tells_memory : {Says : LoadFault → Type 0} {limit : ℕ} {old new : FilesView} {name : List ℕ} → Says Memory → Leaves ⊥ ⊥ old new
@@ -56,3 +61,38 @@ tells_refused {Says} {limit} {old} {new} {name} r says first = tells_then first 
   absent = λ e. absurd (cc);
   other = says;
 })
+
+-- ---- records
+
+-- what reads come to may come where records are loaded
+record_too : (limit : ℕ) (told : Option Contents) (name : List ℕ) (size : ℕ) (f : LoadFault) → ByReads f → ByRecords limit told name size f
+record_too limit told name size (Refused r) by = by
+record_too limit told name size (Ragged rest) by = absurd by
+record_too limit told name size f by = tt
+
+pub by_records : {limit : ℕ} {old new : FilesView} {name : List ℕ} (size : ℕ) (fault : Option LoadFault) → TellsLoad ByReads limit old new name fault
+    → TellsRecords limit old new name size fault
+by_records {limit} {old} {new} {name} size None tells = tells_of (λ by. by) tells
+by_records {limit} {old} {new} {name} size (Some f) tells = tells_of (record_too limit old.holds name size f) tells
+
+-- such reads, and then a rest
+pub tells_rest : {limit size rest : ℕ} {old new : FilesView} {name : List ℕ} → Leaves ⊥ ⊥ old new → IsRagged limit old.holds name size rest
+    → TellsRecords limit old new name size (Some (Ragged rest))
+tells_rest {new = new} left ragged = record {
+  left = leaves_then left (leaves_none new (λ e. absurd {A = ⊥} (cc)) (λ e. absurd {A = ⊥} (cc)));
+  too_long = λ e. absurd (cc);
+  absent = λ e. absurd (cc);
+  other = ragged;
+}
+
+-- the bytes that were loaded leave one
+pub tells_ragged : {limit size : ℕ} {old new : FilesView} {name : List ℕ} (bytes : List ℕ) {fault : LoadFault} → Leaves ⊥ ⊥ old new → IsWhole old.holds name bytes
+    → length bytes ≤ limit → IsRest (length bytes) size fault → TellsRecords limit old new name size (Some fault)
+tells_ragged {limit} {size} {old} {new} {name} bytes {fault} left whole short rest =
+    subst (λ (f : LoadFault). TellsRecords limit old new name size (Some f)) (sym rest.is) (tells_rest left (record {
+      bytes = bytes;
+      is_file = whole;
+      short = short;
+      is = refl;
+      some = rest.some;
+    }))

@@ -10,3 +10,4 @@ pub mod Reading
 pub mod Rest
 pub mod Stretches
 pub mod Whole
+pub mod Records

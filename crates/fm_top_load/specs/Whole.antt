@@ -1,7 +1,7 @@
 -- What files tell of a file that was read, or was too long.
 use Rattle.std.specs.Prelude.{◌≡◌, ℕ, ◌+◌, ◌<◌, ◌≤◌, ⊤, List, ◌^◌, length, min, Bool, true, false, Option, Some, IfSome, IsSomeAnd}
 use Rattle.fm_io.specs.{Files.{Contents, file_of, AreBytesFrom, EndsBefore, IsAbsent}, View.{FilesView, Leaves}}
-use Rattle.fm_top_load.specs.{Portions.{PortionView, front}, Reading.{portion_limit}, declared.load_fault.LoadFault.{LoadFault, TheVariants.{Missing, Failed, TooLong, Refused}}}
+use Rattle.fm_top_load.specs.{Portions.{PortionView, front}, Reading.{portion_limit}, declared.load_fault.LoadFault.{LoadFault, TheVariants.{Missing, Failed, TooLong, Ragged, Refused}}}
 
 -- where the files tell, these are the bytes of the file of that name
 abbrev pub IsWhole : Option Contents → List ℕ → List ℕ → Type 0
@@ -15,10 +15,12 @@ IsOver told name limit = IfSome told (λ contents.
 -- a fault that reads alone may come to
 abbrev pub ByReads : LoadFault → Type 0
 ByReads (Refused r) = ⊥
+ByReads (Ragged rest) = ⊥
 ByReads fault = ⊤
 
 -- and one that may come where bytes are put, too
 abbrev pub ByPuts : LoadFault → Type 0
+ByPuts (Ragged rest) = ⊥
 ByPuts fault = ⊤
 
 -- What a load tells of the files, whose file may have so many bytes: what it leaves of them, and why it came to nothing, where it came to this

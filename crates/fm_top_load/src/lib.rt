@@ -11,6 +11,7 @@ mod reached;
 mod room;
 mod stretch;
 mod whole_file;
+mod whole_records;
 
 pub use held::{RECORD_FILE_LIMIT, open_held, put_held};
 pub use load_fault::LoadFault;
@@ -22,3 +23,4 @@ pub use reached::Reached;
 pub use room::Room;
 pub use stretch::Stretch;
 pub use whole_file::{LAYOUT_FILE_LIMIT, read_rest, read_whole};
+pub use whole_records::check_records;

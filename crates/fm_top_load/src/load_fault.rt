@@ -9,6 +9,8 @@ pub enum LoadFault {
     Failed,
     /// The file has more bytes than the limit.
     TooLong,
+    /// So many bytes stand behind the last whole record.
+    Ragged(u64),
     /// Memory ran out.
     Memory,
     /// The arena refused room for the file, or was closed.

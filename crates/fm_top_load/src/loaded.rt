@@ -1,4 +1,4 @@
-ghost use Rattle.std.specs.Prelude.{◌≡◌, ◌≢◌, ◌+◌, ◌%◌, ◌≤◌, length, take, drop, Err, IfOk};
+ghost use Rattle.std.specs.Prelude.{◌≡◌, ◌≢◌, ◌+◌, ◌%◌, ◌<◌, ◌≤◌, length, take, drop, Err, IfOk};
 ghost use Rattle.std.specs.Result.{result_err};
 ghost use Rattle.fm_layout.specs.Parts.{IsValue};
 ghost use Rattle.fm_layout.specs.Size.{size_of};
@@ -8,11 +8,13 @@ ghost use Rattle.fm_segment.specs.Alone.{Means};
 ghost use Rattle.fm_text.specs.Texts.{IsTextOf, text_bytes};
 ghost use Rattle.fm_top_load.specs.Held.{IsReady, loaded_in};
 ghost use Rattle.fm_top_load.specs.Reading.{ReadsSome};
+ghost use Rattle.fm_top_load.specs.Records.{TellsRecords};
 ghost use Rattle.fm_top_load.specs.Whole.{ByReads, IsWhole, TellsLoad};
 
 use crate::held::{RECORD_FILE_LIMIT, open_held};
 use crate::load_fault::LoadFault;
 use crate::loading::load_into;
+use crate::whole_records::check_records;
 use fm_base::{Kind, Refusal};
 use fm_io::Files;
 use fm_lanes::Value;
@@ -93,7 +95,7 @@ impl Loaded {
     }
 }
 
-/// Reads a whole record file into an arena of one thread.
+/// Reads a whole file of records of this size into an arena of one thread.
 ///
 /// It reads up to the file's end, or until more bytes than the limit came.
 pub fn load<R: Wait, F: Files>(
@@ -101,10 +103,37 @@ pub fn load<R: Wait, F: Files>(
     alloc: Global,
     files: &mut F,
     name: &str,
+    record_size: u64,
+) -> Result<Loaded, LoadFault>
+    requires { 0 < record_size }
+    ensures whole { IfOk result (IsWhole (F.view files.old).holds name.now) }
+    ensures short { IfOk result (λ bytes. length bytes ≤ RECORD_FILE_LIMIT) }
+    ensures even { IfOk result (λ bytes. length bytes % record_size ≡ 0) }
+    // It reads on where the bytes of its last read end, in portions, and up to the first byte past the limit at most.
+    ensures reads { ReadsSome (F.view files.old).reads (F.view files.new).reads name.now
+        RECORD_FILE_LIMIT }
+    ensures tells { TellsRecords RECORD_FILE_LIMIT (F.view files.old) (F.view files.new) name.now record_size
+        (result_err result) }
+{
+    let loaded = match load_bytes(rt, alloc, files, name) {
+        Ok(loaded) => loaded,
+        Err(fault) => return Err(fault),
+    };
+    match check_records(loaded.len(), record_size) {
+        Ok(()) => Ok(loaded),
+        Err(fault) => Err(fault),
+    }
+}
+
+/// Reads the whole file, whatever its bytes are.
+fn load_bytes<R: Wait, F: Files>(
+    rt: &R,
+    alloc: Global,
+    files: &mut F,
+    name: &str,
 ) -> Result<Loaded, LoadFault>
     ensures whole { IfOk result (IsWhole (F.view files.old).holds name.now) }
     ensures short { IfOk result (λ bytes. length bytes ≤ RECORD_FILE_LIMIT) }
-    // It reads on where the bytes of its last read end, in portions, and up to the first byte past the limit at most.
     ensures reads { ReadsSome (F.view files.old).reads (F.view files.new).reads name.now
         RECORD_FILE_LIMIT }
     ensures tells { TellsLoad ByReads RECORD_FILE_LIMIT (F.view files.old) (F.view files.new) name.now

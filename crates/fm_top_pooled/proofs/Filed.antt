@@ -11,7 +11,7 @@ use Rattle.fm_rule_calls.specs.Told.{view_of_pass}
 use Rattle.fm_gate.specs.Needs.{IsOutside}
 use Rattle.fm_io.specs.{Files.{Contents, AreBytesFrom, EndsBefore}}
 use Rattle.fm_top_load.specs.{Filled.{Fills, HoldsRoom}, Held.{IsHeld, PutsHeld}, Limits.{record_file_limit}, Portions.{PortionView}, Putting.{ArePut, PutsStretch, none_put, put_more}}
-use Rattle.fm_top_load.specs.{Whole.{ByReads, IsCut, IsPortion, IsWhole}, declared.{load_fault.LoadFault.{LoadFault, TheVariants.{Missing, Failed, TooLong, Memory, Refused}}, reached.Reached.{Reached}}}
+use Rattle.fm_top_load.specs.{Whole.{ByPuts, ByReads, IsCut, IsPortion, IsWhole}, declared.{load_fault.LoadFault.{LoadFault, TheVariants.{Missing, Failed, TooLong, Memory, Ragged, Refused}}, reached.Reached.{Reached}}}
 use Rattle.fm_top_load.specs.declared.{room.Room.TheVariants.{Given}, stretch.Stretch.{Stretch}}
 use Rattle.fm_top_load.proofs.{FileBytes.{first_to_last}}
 use Rattle.fm_rule_facts.specs.Views.{View, IsKnown, IsSound, limit_of, state_in}
@@ -232,9 +232,10 @@ taken_all {beside} {pool} {p} {s} stock f a n at size is =
 -- ---- a fault
 
 -- one that isn't a refusal comes of reads
-pub by_reads : (fault : LoadFault) → ((r : Refusal) → fault ≡ Refused r → ⊥) → ByReads fault
-by_reads Missing not = tt
-by_reads Failed not = tt
-by_reads TooLong not = tt
-by_reads Memory not = tt
-by_reads (Refused r) not = not r refl
+pub by_reads : (fault : LoadFault) → ByPuts fault → ((r : Refusal) → fault ≡ Refused r → ⊥) → ByReads fault
+by_reads Missing by not = tt
+by_reads Failed by not = tt
+by_reads TooLong by not = tt
+by_reads Memory by not = tt
+by_reads (Ragged rest) by not = by
+by_reads (Refused r) by not = not r refl

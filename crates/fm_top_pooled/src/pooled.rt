@@ -1,7 +1,8 @@
-ghost use Rattle.std.specs.Prelude.{◌≡◌, ◌%◌, ◌≤◌, length, IfOk};
+ghost use Rattle.std.specs.Prelude.{◌≡◌, ◌%◌, ◌<◌, ◌≤◌, length, IfOk};
 ghost use Rattle.std.specs.Result.{result_err};
 ghost use Rattle.fm_top_load.specs.Reading.{ReadsSome};
-ghost use Rattle.fm_top_load.specs.Whole.{ByReads, IsWhole, TellsLoad};
+ghost use Rattle.fm_top_load.specs.Records.{TellsRecords};
+ghost use Rattle.fm_top_load.specs.Whole.{IsWhole};
 ghost use Rattle.fm_top_pooled.specs.Asking.{IsCrew};
 ghost use Rattle.fm_top_pooled.specs.Shown.{ShowsBoth, ShowsQuery};
 ghost use Rattle.fm_records.specs.Answers.{answer};
@@ -18,7 +19,7 @@ use fm_io::{Files, Gate};
 use fm_records::Answer;
 use fm_records_query::Query;
 use fm_rule::Finished;
-use fm_top_load::{LoadFault, RECORD_FILE_LIMIT};
+use fm_top_load::{LoadFault, RECORD_FILE_LIMIT, check_records};
 use fm_workers::Counts;
 use std::alloc::{AllocError, Global};
 use std::marker::Model;
@@ -53,24 +54,30 @@ impl Pooled {
         Ok(Pooled { stock })
     }
 
-    /// Reads a whole record file into a pool, which has room for another arena beside that of the records.
+    /// Reads a whole file of records into a pool, which has room for another arena beside that of the records.
     pub fn load<R: Wait, F: Files>(
         rt: &R,
         alloc: Global,
         files: &mut F,
         file: &RecordFile<'_>,
     ) -> Result<Pooled, LoadFault>
+        requires sized { 0 < file.now.record_size }
         requires few { file.now.beside ≤ RECORD_FILE_LIMIT }
         ensures whole { IfOk result (λ pooled. IsWhole (F.view files.old).holds file.now.name.now pooled.bytes) }
         ensures short { IfOk result (λ pooled. length pooled.bytes ≤ RECORD_FILE_LIMIT) }
+        ensures even { IfOk result (λ pooled. length pooled.bytes % file.now.record_size ≡ 0) }
         ensures beside { IfOk result (λ pooled. pooled.beside ≡ file.now.beside) }
         ensures reads { ReadsSome (F.view files.old).reads (F.view files.new).reads file.now.name.now
             RECORD_FILE_LIMIT }
-        ensures tells { TellsLoad ByReads RECORD_FILE_LIMIT (F.view files.old) (F.view files.new) file.now.name.now
-            (result_err result) }
+        ensures tells { TellsRecords RECORD_FILE_LIMIT (F.view files.old) (F.view files.new) file.now.name.now
+            file.now.record_size (result_err result) }
     {
-        match load_stock(rt, alloc, files, file) {
-            Ok(stock) => Ok(Pooled { stock }),
+        let stock = match load_stock(rt, alloc, files, file) {
+            Ok(stock) => stock,
+            Err(fault) => return Err(fault),
+        };
+        match check_records(stock.segment.size(), file.record_size) {
+            Ok(()) => Ok(Pooled { stock }),
             Err(fault) => Err(fault),
         }
     }

@@ -79,7 +79,7 @@ module _ {m q : View} {s : Region} {plan : Plan} {threads : ℕ} {old new : File
       by_put : (e : Result Reached LoadFault) → TellsLoad ByPuts x.stretch.limit old new x.stretch.name.now (result_err e) → ((r : Refusal) → e ≡ Err (Refused r) → ⊥)
           → IfErr e (λ f. f ≡ fault) → ((reached : Reached) → e ≡ Ok reached → fault ≡ Memory) → TellsLoad ByReads x.stretch.limit old new x.stretch.name.now (Some fault)
       by_put (Err f) tells not is other =
-          subst (λ (k : LoadFault). TellsLoad ByReads x.stretch.limit old new x.stretch.name.now (Some k)) is (tells_of (λ by. by_reads f (λ r e. not r (ap Err e))) tells)
+          subst (λ (k : LoadFault). TellsLoad ByReads x.stretch.limit old new x.stretch.name.now (Some k)) is (tells_of (λ by. by_reads f by (λ r e. not r (ap Err e))) tells)
       by_put (Ok reached) tells not is other =
           subst (λ (k : LoadFault). TellsLoad ByReads x.stretch.limit old new x.stretch.name.now (Some k)) (sym (other reached refl)) (tells_memory tt (read_quietly tells))
 

@@ -1,7 +1,7 @@
 -- The reads of a stream, each behind those before.
-use Rattle.std.proofs.Common.{◌≡◌, ℕ, ◌+◌, List, false, Option, Some, None, refl, ◌∙◌}
-use Rattle.fm_io.{specs.{Reads.{Read, Next, ReadsFile, At}, View.{FilesView, Leaves}}, proofs.Left.{leaves_none, leaves_then}}
-use Rattle.fm_top_load.specs.{declared.load_fault.LoadFault.{LoadFault, TheVariants.{Memory}}, Reading.{GoesBy, ReadsFurther, portion_limit}, Whole.{ByReads, TellsLoad}}
+use Rattle.std.proofs.Common.{◌≡◌, ℕ, ◌+◌, List, false, Option, Some, None, refl, subst, ◌∙◌}
+use Rattle.fm_io.{specs.{Files.{Contents}, Reads.{Read, Next, ReadsFile, At}, View.{FilesView, Leaves}}, proofs.Left.{leaves_none, leaves_then}}
+use Rattle.fm_top_load.specs.{declared.load_fault.LoadFault.{LoadFault, TheVariants.{Memory}}, Reading.{GoesBy, ReadsFurther, portion_limit}, Records.{ByRecords, TellsRecords}, Whole.{ByReads, TellsLoad}}
 use Rattle.fm_top_load.proofs.{Following.{same_reads, reads_then}, Portions.{further_says}, Telling.{read_quietly, tells_memory, tells_then}}
 
 -- They were read on, and on.
@@ -40,5 +40,11 @@ module _ {limit : ℕ} {old mid stretch : FilesView} {name : List ℕ} (before :
   held_before = (read_quietly first).held ∙ before.held
 
 -- Nothing was read where memory was wanting before that.
-pub tells_no_memory : (v : FilesView) {limit : ℕ} {name : List ℕ} → TellsLoad ByReads limit v v name (Some Memory)
-tells_no_memory v = tells_memory tt (leaves_none v (λ e. e) (λ e. e))
+pub tells_no_memory : (v : FilesView) {Says : LoadFault → Type 0} {limit : ℕ} {name : List ℕ} → Says Memory → TellsLoad Says limit v v name (Some Memory)
+tells_no_memory v says = tells_memory says (leaves_none v (λ e. e) (λ e. e))
+
+-- Such reads, and then a load of records.
+pub records_then : {limit size : ℕ} {old mid new : FilesView} {name : List ℕ} {fault : Option LoadFault} → Leaves ⊥ ⊥ old mid
+    → TellsRecords limit mid new name size fault → TellsRecords limit old new name size fault
+records_then {limit} {size} {mid = mid} {new = new} {name = name} {fault = fault} first then =
+    tells_then first (subst (λ (told : Option Contents). TellsLoad (ByRecords limit told name size) limit mid new name fault) first.held then)

@@ -5,7 +5,7 @@ use Rattle.fm_base_bytes.specs.Words.{byte_at, bytes_in}
 use Rattle.fm_base_lists.{specs.Among.{IsAmong}, proofs.{Among.{among_either, among_left}, Each.{all_both, all_weaker}}}
 use Rattle.fm_base.specs.{declared.{arena_id.ArenaId.{ArenaId}, kind.Kind.TheVariants.{Confined, Shared}}, Arenas.{Arena, arena_of}, Machine.{words_within}}
 use Rattle.fm_base.specs.{Calls.{Entry}, Histories.{state_after}}
-use Rattle.fm_io.specs.Files.{Contents, AreBytesFrom, EndsBefore}
+use Rattle.fm_io.specs.{Files.{Contents, AreBytesFrom, EndsBefore}, View.{FilesView, Leaves}}
 use Rattle.fm_rule_calls.specs.Told.{view_of_pass}
 use Rattle.fm_rule_facts.specs.Views.{View, IsKnown, limit_of, state_in}
 use Rattle.fm_rule.specs.declared.pool.Pool.{Pool}
@@ -15,13 +15,13 @@ use Rattle.fm_records_query.specs.Plan.{Plan}
 use Rattle.fm_records.specs.{declared.found.Found.{Found}, Alone.{bytes_at_places}, Answers.{answer}, Few.{AreFew}, Joined.{CanJoin, joined}}
 use Rattle.fm_records.proofs.{AnsweringBytes.{places_have}, Few.{few_join}, Joining.{answer-append}}
 use Rattle.fm_words.specs.declared.shape.Shape.{Shape}
-use Rattle.fm_top_load.specs.{declared.{stretch.Stretch.{Stretch}}, Held.{IsHeld, OnlyIn, names_in}, Portions.{PortionView}}
+use Rattle.fm_top_load.specs.{declared.{load_fault.LoadFault.{LoadFault, TheVariants.{Ragged}}, stretch.Stretch.{Stretch}}, Held.{IsHeld, OnlyIn, names_in}, Portions.{PortionView}}
 use Rattle.fm_top_load.specs.Whole.{IsCut, IsPortion, IsWhole}
-use Rattle.fm_top_load.proofs.FileBytes.{first_to_last}
+use Rattle.fm_top_load.{specs.Records.{IsRest, TellsRecords}, proofs.{FileBytes.{first_to_last}, Telling.{tells_rest}}}
 use Rattle.fm_top_pooled.{specs.{Shown.{AsksWord, IsReadByOther}, Stocked.{IsAlone, IsStockedOf, bytes_in_pool}}, proofs.Filling.{held_room}}
 use Rattle.fm_top_pooled.proofs.Shows.{pooled_is, read_in}
-use Rattle.fm_top_stream.specs.{Chunks.{all_bytes}, Gone.{CanAnswer, CanAsk, CanTakeChunk, GoesByChunk, GoesThrough, GoneSoFar, GoneThrough, HasGone, HasNext}}
-use Rattle.fm_top_stream.specs.{declared.{under_way.UnderWay.{UnderWay}, gone.Gone.{Gone}, placed.Placed.{Placed}}, Shown.{ShowsChunk}}
+use Rattle.fm_top_stream.specs.{Chunks.{all_bytes}, Gone.{CanAnswer, CanAsk, CanTakeChunk, GoesByChunk, GoneSoFar, GoneThrough, HasGone, HasNext}}
+use Rattle.fm_top_stream.specs.{declared.{under_way.UnderWay.{UnderWay}, placed.Placed.{Placed}}, Shown.{ShowsChunk}}
 use Rattle.fm_top_stream.specs.Steps.{AnswersOn, CanClose, Closes, GoesOn, StandsIn, arenas_of}
 use Rattle.fm_top_stream.proofs.Runs.{all_more, count_more, cut_more, cut_whole, even_all, even_sum, first_more, is_ragged, whole_file, whole_more}
 use Rattle.fm_top_stream.proofs.Standing.{all_shown, all_zip_more, named_known}
@@ -360,13 +360,13 @@ ends_within has asks =
     omega (arith, count, short)
 
 -- The chunk leaves a rest, so it is the file's last.
-pub through_ragged : {limit most at threads : ℕ} {told : Option Contents} {name : List ℕ} {p : Plan} {pool : Pool} {g : UnderWay} {x : Placed}
-    (has : HasNext limit most told name at p pool g x) → CanAsk most threads p pool → (r : Gone) → r.rest ≡ x.chunk.count % p.size → ¬ (r.rest ≡ 0)
-    → GoesThrough limit told name most p pool r
-through_ragged {p = p} {g = g} {x = x} has asks r is other =
-    let count : length (chunk_bytes has.gone.gone.alone asks.room has.stands) ≡ x.chunk.count = long has.gone.gone.alone asks.room has.stands in
-    record {
-      whole = λ none. absurd (other none);
-      ragged = λ any. is_ragged (chunk_bytes has.gone.gone.alone asks.room has.stands) has.stands.cut (all_bytes has.gone.runs) has.gone.count has.gone.first p r.rest
-          (even_so_far has.gone asks.sized asks.even) asks.even (is ∙ ap (λ n. n % p.size) (sym count)) any;
-    }
+pub tells_chunk : {limit most at threads : ℕ} {old new : FilesView} {name : List ℕ} {p : Plan} {pool : Pool} {g : UnderWay} {x : Placed} {fault : LoadFault} (size : ℕ)
+    (has : HasNext limit most old.holds name at p pool g x) → CanAsk most threads p pool → Leaves ⊥ ⊥ old new → size ≡ p.size → IsRest x.chunk.count size fault
+    → TellsRecords limit old new name p.size (Some fault)
+tells_chunk {limit} {old = old} {new = new} {name = name} {p = p} {g = g} {x = x} size has asks left same rest =
+    let bytes = chunk_bytes has.gone.gone.alone asks.room has.stands in
+    let count : length bytes ≡ x.chunk.count = long has.gone.gone.alone asks.room has.stands in
+    let some : 0 < x.chunk.count % p.size = subst (λ n. 0 < x.chunk.count % n) same rest.some in
+    subst (λ (f : LoadFault). TellsRecords limit old new name p.size (Some f)) (sym (rest.is ∙ ap (λ n. Ragged (x.chunk.count % n)) same))
+    (tells_rest left (is_ragged bytes has.stands.cut (all_bytes has.gone.runs) has.gone.count has.gone.first p (x.chunk.count % p.size)
+    (even_so_far has.gone asks.sized asks.even) asks.even (ap (λ n. n % p.size) (sym count)) some))

@@ -1,7 +1,6 @@
 pub mod Going
 pub mod Chunking
 pub mod Waiting
-pub mod Faulty
 pub mod Reading
 pub mod Elsewhere
 pub mod Rounds

@@ -3,8 +3,8 @@ use Rattle.std.proofs.Common.{◌≡◌, ℕ, ◌+◌, ◌*◌, ◌/◌, ◌%◌
 use Rattle.std.{specs.List.{AllByRecursion}, proofs.{Math.Nat.{mul-add-mod_self_right, mul-mod_left}, lemmas.{List.{append-nil}, Nat.{div-add-mod'}}}}
 use Rattle.fm_io.{specs.Files.{Contents, AreBytesFrom, EndsBefore}, proofs.Filled.{AreBytesFrom-append}}
 use Rattle.fm_records_query.specs.Plan.{Plan}
-use Rattle.fm_top_load.{specs.{Portions.{PortionView}, Whole.{IsCut, IsPortion, IsWhole}}, proofs.FileBytes.{first_to_last}}
-use Rattle.fm_top_stream.specs.{Chunks.{AreCut, all_bytes}, Gone.{IsRagged}}
+use Rattle.fm_top_load.{specs.{Portions.{PortionView}, Records.{IsRagged}, Whole.{IsCut, IsPortion, IsWhole}}, proofs.FileBytes.{first_to_last}}
+use Rattle.fm_top_stream.specs.{Chunks.{AreCut, all_bytes}}
 
 -- ---- runs of bytes
 
@@ -66,7 +66,7 @@ module _ {limit most at : ℕ} {told : Option Contents} {name : List ℕ} (bytes
 
     -- Where it leaves a rest the file does.
     pub is_ragged : (p : Plan) (rest : ℕ) → length before % p.size ≡ 0 → most % p.size ≡ 0 → rest ≡ length bytes % p.size → 0 < rest
-        → IsRagged limit told name p rest
+        → IsRagged limit told name p.size rest
     is_ragged p rest even whole is some = record {
       bytes = before ++ bytes;
       is_file = whole_file (cut.ends (is_true ended (λ f. let all = cut.full f in omega (arith, ap (λ n. n % p.size) all, whole, is, some))));

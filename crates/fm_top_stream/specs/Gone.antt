@@ -10,7 +10,7 @@ use Rattle.fm_records.specs.{declared.found.Found.{Found}, Answers.{answer}, Few
 use Rattle.fm_top_load.specs.{Held.{names_in}, Portions.{PortionView}, Whole.{CanRead, IsPortion, IsWhole}, declared.stretch.Stretch.{Stretch}}
 use Rattle.fm_top_pooled.specs.Stocked.{IsAlone, IsStockedOf}
 use Rattle.fm_segment.specs.Region.{Region}
-use Rattle.fm_top_stream.specs.{Chunks.{AreCut, all_bytes}, Shown.{ShowsChunk}, declared.{ahead.Ahead.{Ahead}, under_way.UnderWay.{UnderWay}, gone.Gone.{Gone}}}
+use Rattle.fm_top_stream.specs.{Chunks.{AreCut, all_bytes}, Shown.{ShowsChunk}, declared.{ahead.Ahead.{Ahead}, under_way.UnderWay.{UnderWay}}}
 use Rattle.fm_top_stream.specs.{declared.placed.Placed.{Placed}, Steps.{AnswersOn, StandsIn}}
 
 -- These runs of bytes went through arenas of their own, one after the other, and this is the answer over all of them. Behind those the pool has
@@ -31,14 +31,6 @@ pub record GoneSoFar (told : Option Contents) (name : List ℕ) (most at : ℕ) 
   pub whole : AllByRecursion (λ run. length run ≡ most) runs
   pub count : length (all_bytes runs) ≡ at
   pub first : AreBytesFrom told name 0 (all_bytes runs)
-
--- the bytes of the file, which may have so many, leave this rest
-pub record IsRagged (limit : ℕ) (told : Option Contents) (name : List ℕ) (p : Plan) (rest : ℕ) : Type 0 where
-  pub bytes : List ℕ
-  pub is_file : IsWhole told name bytes
-  pub short : length bytes ≤ limit
-  pub is : rest ≡ length bytes % p.size
-  pub some : 0 < rest
 
 -- the whole file, which may have so many bytes, in chunks
 pub record GoneThrough (limit : ℕ) (told : Option Contents) (name : List ℕ) (most : ℕ) (pool : Pool) (v : View) (p : Plan) (a : List Found) : Type 0 where
@@ -113,8 +105,3 @@ pub record HasJoined (v : View) (was found : List Found) (g : UnderWay) : Type 0
 pub record GoesByChunk (stretch : Stretch) (told : Option Contents) (p : Plan) (pool : Pool) (g : UnderWay) (next : Option Placed) : Type 0 where
   pub on : IfSome next (HasNext stretch.limit stretch.most told stretch.name.now stretch.at p pool g)
   pub ends : next ≡ None → GoneThrough stretch.limit told stretch.name.now stretch.most pool g.pass p g.answer
-
--- the whole file, which may have so many bytes, was gone through, or its end is no whole record
-pub record GoesThrough (limit : ℕ) (told : Option Contents) (name : List ℕ) (most : ℕ) (p : Plan) (pool : Pool) (g : Gone) : Type 0 where
-  pub whole : g.rest ≡ 0 → GoneThrough limit told name most pool g.going.pass p g.going.answer
-  pub ragged : 0 < g.rest → IsRagged limit told name p g.rest

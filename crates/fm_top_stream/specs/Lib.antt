@@ -4,4 +4,3 @@ pub mod Steps
 pub mod Ahead
 pub mod Shown
 pub mod Gone
-pub mod Faults

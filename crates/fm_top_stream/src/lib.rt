@@ -20,17 +20,14 @@ mod asking;
 mod closing;
 mod crew;
 mod giving;
-mod gone;
 mod opening;
 mod placed;
 mod putting;
 mod round;
 mod shape;
 mod stream;
-mod stream_fault;
 mod streaming;
 mod under_way;
 
 pub use shape::MOST_CHUNK;
 pub use stream::{STREAM_FILE_LIMIT, stream_with};
-pub use stream_fault::StreamFault;

@@ -1,14 +1,12 @@
 ghost use Rattle.std.specs.Prelude.{◌≡◌, IfOk};
 ghost use Rattle.std.specs.Result.{result_err};
 ghost use Rattle.fm_top_load.specs.Reading.{ReadsSome};
-ghost use Rattle.fm_top_stream.specs.Faults.{TellsStream, fault_of_load};
+ghost use Rattle.fm_top_load.specs.Records.{TellsRecords};
 ghost use Rattle.fm_top_stream.specs.Shapes.{CanStream};
 ghost use Rattle.fm_top_stream.specs.Shown.{Streams};
 
 use crate::crew::Crew;
-use crate::gone::Gone;
 use crate::shape::{chunk_bytes, shape_of};
-use crate::stream_fault::StreamFault;
 use crate::streaming::go_through;
 use fm_io::{Files, Gate};
 use fm_records::Answer;
@@ -29,7 +27,7 @@ pub const STREAM_FILE_LIMIT: u64 = 1_099_511_627_776;
 /// Workers are numbered from 1; each share of a chunk that a worker takes is a call of the gate, counted from 0 for each
 /// worker and chunk. What a read brings is put before the next read, so the list of the file's bytes is nowhere.
 ///
-/// A fault comes when it is met, and ends the stream: `Missing`, `Read` and `TooLong` at a read, `Ragged` at the file's
+/// A fault comes when it is met, and ends the stream: `Missing`, `Failed` and `TooLong` at a read, `Ragged` at the file's
 /// end, `Memory` also before the first read.
 pub fn stream_with<R: Threads + Wait + Sync, F: Files, G: Gate>(
     rt: &R,
@@ -39,19 +37,19 @@ pub fn stream_with<R: Threads + Wait + Sync, F: Files, G: Gate>(
     q: &Query,
     threads: u32,
     gate: &G,
-) -> Result<(Answer, Finished), StreamFault>
+) -> Result<(Answer, Finished), LoadFault>
     requires { CanStream q.now threads }
     ensures streams { IfOk result (λ r. Streams threads (F.view files.old).holds name.now q.now r.0 r.1) }
     ensures reads { ReadsSome (F.view files.old).reads (F.view files.new).reads name.now
         STREAM_FILE_LIMIT }
-    ensures tells { TellsStream (F.view files.old) (F.view files.new) name.now q.now
+    ensures tells { TellsRecords STREAM_FILE_LIMIT (F.view files.old) (F.view files.new) name.now q.now.size
         (result_err result) }
 {
     let Ok((pool, pass)) = Pool::make(alloc, shape_of(threads)) else {
-        return Err(StreamFault::Memory);
+        return Err(LoadFault::Memory);
     };
     let Ok(portion) = Portion::none(alloc) else {
-        return Err(StreamFault::Memory);
+        return Err(LoadFault::Memory);
     };
     let crew = Crew {
         alloc,
@@ -64,25 +62,10 @@ pub fn stream_with<R: Threads + Wait + Sync, F: Files, G: Gate>(
     };
     let gone = match go_through(rt, files, &crew, pass, portion) {
         Ok(gone) => gone,
-        Err(fault) => return Err(fault_of(fault)),
+        Err(fault) => return Err(fault),
     };
-    let Gone { going, rest } = gone;
-    if rest != 0 {
-        return Err(StreamFault::Ragged(rest));
-    }
-    match pool.finish(alloc, going.pass) {
-        Ok(finished) => Ok((going.answer, finished)),
-        Err(_) => Err(StreamFault::Memory),
-    }
-}
-
-fn fault_of(fault: LoadFault) -> StreamFault
-    ensures { result ≡ fault_of_load fault }
-{
-    match fault {
-        LoadFault::Missing => StreamFault::Missing,
-        LoadFault::Failed => StreamFault::Read,
-        LoadFault::TooLong => StreamFault::TooLong,
-        LoadFault::Memory | LoadFault::Refused(_) => StreamFault::Memory,
+    match pool.finish(alloc, gone.pass) {
+        Ok(finished) => Ok((gone.answer, finished)),
+        Err(_) => Err(LoadFault::Memory),
     }
 }

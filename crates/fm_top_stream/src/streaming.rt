@@ -1,13 +1,13 @@
 ghost use Rattle.std.specs.Prelude.{◌≡◌, ◌+◌, length, IfOk};
 ghost use Rattle.std.specs.Result.{result_err};
 ghost use Rattle.fm_top_load.specs.Reading.{GoesBy, ReadsFurther, ReadsSome};
+ghost use Rattle.fm_top_load.specs.Records.{TellsRecords};
 ghost use Rattle.fm_top_load.specs.Whole.{ByReads, TellsLoad};
 ghost use Rattle.fm_top_stream.specs.Chunks.{stream_file_limit};
-ghost use Rattle.fm_top_stream.specs.Gone.{CanAsk, CanBegin, CanGoThrough, GoesThrough, HasNext};
+ghost use Rattle.fm_top_stream.specs.Gone.{CanAsk, CanBegin, CanGoThrough, GoneThrough, HasNext};
 
 use crate::crew::Crew;
 use crate::giving::give_chunk;
-use crate::gone::Gone;
 use crate::opening::open_chunk;
 use crate::placed::Placed;
 use crate::round::take_chunk;
@@ -17,7 +17,7 @@ use fm_arena::Shared;
 use fm_io::{Files, Gate};
 use fm_records::of_no_records;
 use fm_rule::Pass;
-use fm_top_load::{LoadFault, Portion, Room, Stretch, put_stretch};
+use fm_top_load::{LoadFault, Portion, Room, Stretch, check_records, put_stretch};
 use std::sync::Wait;
 use std::thread::Threads;
 
@@ -59,30 +59,30 @@ fn begin<R: Wait, F: Files, G: Gate>(
     Ok((going, Placed { arena, chunk }))
 }
 
-/// Has chunk after chunk answered over, each while the next one is put, up to the file's end.
+/// Has chunk after chunk answered over, each while the next one is put, up to the file's end, unless that is no whole
+/// record.
 fn take_chunks<R: Threads + Wait + Sync, F: Files, G: Gate>(
     rt: &R,
     files: &mut F,
     crew: &Crew<'_, G>,
     mut going: UnderWay,
     mut standing: Placed,
-) -> Result<Gone, LoadFault>
+) -> Result<UnderWay, LoadFault>
     requires asks { CanAsk crew.now.most crew.now.threads crew.now.q.now crew.now.pool.now }
     requires has { HasNext stream_file_limit crew.now.most (F.view files.old).holds crew.now.name.now 0
         crew.now.q.now crew.now.pool.now going standing }
-    ensures goes { IfOk result (GoesThrough stream_file_limit (F.view files.old).holds crew.now.name.now
-        crew.now.most crew.now.q.now crew.now.pool.now) }
+    ensures goes { IfOk result (λ r. GoneThrough stream_file_limit (F.view files.old).holds crew.now.name.now
+        crew.now.most crew.now.pool.now r.pass crew.now.q.now r.answer) }
     ensures reads { ReadsFurther (F.view files.old).reads (F.view files.new).reads crew.now.name.now
         stream_file_limit (GoesBy standing.chunk.ended standing.chunk.count) (λ next. Unit {0}) }
-    ensures tells { TellsLoad ByReads stream_file_limit (F.view files.old) (F.view files.new) crew.now.name.now
-        (result_err result) }
+    ensures tells { TellsRecords stream_file_limit (F.view files.old) (F.view files.new) crew.now.name.now
+        crew.now.q.now.size (result_err result) }
 {
     let mut at = 0u64;
     'chunks: loop {
         let count = standing.chunk.count;
-        let rest = count % crew.q.record_size();
-        if rest != 0 {
-            return Ok(Gone { going, rest });
+        if let Err(fault) = check_records(count, crew.q.record_size()) {
+            return Err(fault);
         }
         at += count;
         let stretch = Stretch {
@@ -98,7 +98,7 @@ fn take_chunks<R: Threads + Wait + Sync, F: Files, G: Gate>(
         going = then;
         match next {
             Some(chunk) => standing = chunk,
-            None => return Ok(Gone { going, rest }),
+            None => return Ok(going),
         }
     }
 }
@@ -110,14 +110,14 @@ pub(crate) fn go_through<R: Threads + Wait + Sync, F: Files, G: Gate>(
     crew: &Crew<'_, G>,
     pass: Pass,
     mut portion: Portion,
-) -> Result<Gone, LoadFault>
+) -> Result<UnderWay, LoadFault>
     requires can { CanGoThrough crew.now.most crew.now.threads crew.now.q.now crew.now.pool.now pass }
-    ensures goes { IfOk result (GoesThrough stream_file_limit (F.view files.old).holds crew.now.name.now
-        crew.now.most crew.now.q.now crew.now.pool.now) }
+    ensures goes { IfOk result (λ r. GoneThrough stream_file_limit (F.view files.old).holds crew.now.name.now
+        crew.now.most crew.now.pool.now r.pass crew.now.q.now r.answer) }
     ensures reads { ReadsSome (F.view files.old).reads (F.view files.new).reads crew.now.name.now
         stream_file_limit }
-    ensures tells { TellsLoad ByReads stream_file_limit (F.view files.old) (F.view files.new) crew.now.name.now
-        (result_err result) }
+    ensures tells { TellsRecords stream_file_limit (F.view files.old) (F.view files.new) crew.now.name.now
+        crew.now.q.now.size (result_err result) }
 {
     let Ok(answer) = of_no_records(crew.alloc, crew.q) else {
         return Err(LoadFault::Memory);
@@ -138,7 +138,7 @@ pub(crate) fn go_through<R: Threads + Wait + Sync, F: Files, G: Gate>(
         portion,
     };
     if none {
-        return Ok(Gone { going, rest: 0 });
+        return Ok(going);
     }
     match begin(rt, files, &stretch, crew, going) {
         Ok((going, standing)) => take_chunks(rt, files, crew, going, standing),

@@ -159,6 +159,7 @@ fn plan_ending<'a, R: Threads + Wait + Sync, F: Files, G: Gate>(
     let threads = threads as u32;
     let mut records = RecordFile {
         name: file,
+        record_size: query.record_size(),
         guess: files.guess(file),
         beside: 0,
     };

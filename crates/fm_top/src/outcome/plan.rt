@@ -1,4 +1,4 @@
-ghost use Rattle.std.specs.Prelude.{◌≡◌, ◌≢◌, ◌%◌, IfErr, IfOk};
+ghost use Rattle.std.specs.Prelude.{◌≢◌, IfErr, IfOk};
 ghost use Rattle.fm_records_query.specs.Records.{IsRecord};
 ghost use Rattle.fm_top.specs.Queries.{IsPlanned, IsUnplanned};
 ghost use Rattle.fm_top.specs.Tallies.{IsPathRefused, IsTallied};
@@ -53,11 +53,4 @@ fn parse_tally(alloc: Global, text: &str, layout: &Layout) -> Result<Query, Refu
     } else {
         Err(Refusal::Unsupported)
     }
-}
-
-/// How many of so many bytes are left behind the last whole record.
-pub fn rest_of(bytes: u64, q: &Query) -> u64
-    ensures { result ≡ bytes % q.now.size }
-{
-    bytes % q.record_size()
 }

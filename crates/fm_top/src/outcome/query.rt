@@ -1,4 +1,4 @@
-ghost use Rattle.std.specs.Prelude.{◌≤◌, ℕ, List, Some, length, IfOk};
+ghost use Rattle.std.specs.Prelude.{◌≡◌, ◌%◌, ◌≤◌, ℕ, List, Some, length, IfOk};
 ghost use Rattle.fm_top.specs.Ending.{shown};
 ghost use Rattle.fm_top.specs.Queries.{PlanEnds};
 ghost use Rattle.fm_top.specs.Words.{AreThreads};
@@ -8,7 +8,6 @@ ghost use Rattle.fm_top.specs.declared.command.wish.Wish.TheVariants as wish;
 use crate::outcome::answered::Answered;
 use crate::outcome::ending::Ending;
 use crate::outcome::output::Output;
-use crate::outcome::plan::rest_of;
 use fm_io::Gate;
 use fm_records_query::Query;
 use fm_top_load::RECORD_FILE_LIMIT;
@@ -27,14 +26,11 @@ pub fn queried_ending<'a, R: Threads + Wait + Sync, G: Gate>(
     gate: &G,
 ) -> Result<Ending<'a>, AllocError>
     requires short { length pooled.bytes ≤ RECORD_FILE_LIMIT }
+    requires even { length pooled.bytes % q.size ≡ 0 }
     requires threads { AreThreads threads }
     ensures { IfOk result (λ ending. (file : List ℕ) →
         PlanEnds (wish.Answer question.Query threads) q file (Some pooled.bytes) (shown ending)) }
 {
-    let rest = rest_of(pooled.len(), &q);
-    if rest != 0 {
-        return Ending::ragged(alloc, rest);
-    }
     let (answer, finished) = pooled.answer(rt, alloc, &q, threads, gate)?;
     Ok(Ending::answered_by_pool(Output::Answer(Answered { query: q, answer }), finished))
 }

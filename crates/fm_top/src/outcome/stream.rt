@@ -8,9 +8,10 @@ ghost use Rattle.fm_top.specs.declared.command.wish.Wish.TheVariants as wish;
 use crate::outcome::answered::Answered;
 use crate::outcome::ending::Ending;
 use crate::outcome::output::Output;
+use crate::outcome::unloaded::unloaded_ending;
 use fm_io::{Fault, Files, Gate};
 use fm_records_query::Query;
-use fm_top_stream::{MOST_CHUNK, STREAM_FILE_LIMIT, StreamFault, stream_with};
+use fm_top_stream::{MOST_CHUNK, STREAM_FILE_LIMIT, stream_with};
 use std::alloc::Global;
 use std::sync::Wait;
 use std::thread::Threads;
@@ -36,10 +37,6 @@ pub fn streamed_ending<'a, R: Threads + Wait + Sync, F: Files, G: Gate>(
         Ok((answer, finished)) => {
             Ok(Ending::answered_by_pool(Output::Answer(Answered { query: q, answer }), finished))
         }
-        Err(StreamFault::Ragged(rest)) => Ok(Ending::ragged(alloc, rest)?),
-        Err(StreamFault::Missing) => Ok(Ending::missing(file)),
-        Err(StreamFault::TooLong) => Ok(Ending::too_long(alloc)?),
-        Err(StreamFault::Read) => Err(Fault::Failed),
-        Err(StreamFault::Memory) => Err(Fault::Memory),
+        Err(fault) => unloaded_ending(alloc, file, fault),
     }
 }

@@ -1,4 +1,4 @@
-ghost use Rattle.std.specs.Prelude.{◌≤◌, ⊤, IfOk, List, None, Some, length, ℕ};
+ghost use Rattle.std.specs.Prelude.{◌≡◌, ◌%◌, ◌≤◌, ⊤, IfOk, List, None, Some, length, ℕ};
 ghost use Rattle.fm_top.specs.Ending.{shown};
 ghost use Rattle.fm_top.specs.Ends.{EndsFile};
 ghost use Rattle.fm_top.specs.Outcome.{SumEnds};
@@ -27,7 +27,7 @@ pub fn sum_ending<'a, R: Wait, F: Files>(
         (F.view files.old)
         (F.view files.new) result }
 {
-    match load(rt, alloc, files, sum.file) {
+    match load(rt, alloc, files, sum.file, sum.size) {
         Ok(mut loaded) => Ok(loaded_ending(alloc, &mut loaded, sum)?),
         Err(fault) => unloaded_ending(alloc, sum.file, fault),
     }
@@ -41,13 +41,9 @@ fn loaded_ending<'a>(
 ) -> Result<Ending<'a>, AllocError>
     requires value { HasValue sum.now.size sum.now.at sum.now.kind }
     requires short { length loaded.old ≤ RECORD_FILE_LIMIT }
+    requires even { length loaded.old % sum.now.size ≡ 0 }
     ensures { IfOk result (λ ending. (file : List ℕ) →
         SumEnds sum.now.size sum.now.at sum.now.kind file (Some loaded.old) (shown ending)) }
 {
-    let rest = loaded.len() % sum.size;
-    if rest == 0 {
-        Ending::sum(alloc, sum_values(loaded, sum.size, sum.at, sum.kind))
-    } else {
-        Ending::ragged(alloc, rest)
-    }
+    Ending::sum(alloc, sum_values(loaded, sum.size, sum.at, sum.kind))
 }

@@ -1,4 +1,4 @@
-ghost use Rattle.std.specs.Prelude.{◌≤◌, ℕ, List, Some, length, IfOk};
+ghost use Rattle.std.specs.Prelude.{◌≡◌, ◌%◌, ◌≤◌, ℕ, List, Some, length, IfOk};
 ghost use Rattle.fm_top.specs.Ending.{shown};
 ghost use Rattle.fm_top.specs.Queries.{PlanEnds};
 ghost use Rattle.fm_top.specs.Words.{AreThreads};
@@ -8,7 +8,6 @@ ghost use Rattle.fm_workers.specs.Counts.{IsTally};
 
 use crate::outcome::ending::Ending;
 use crate::outcome::output::Output;
-use crate::outcome::plan::rest_of;
 use fm_io::Gate;
 use fm_records_query::Query;
 use fm_top_load::RECORD_FILE_LIMIT;
@@ -28,16 +27,13 @@ pub fn tallied_ending<'a, R: Threads + Wait + Sync, G: Gate>(
     gate: &G,
 ) -> Result<Ending<'a>, AllocError>
     requires short { length pooled.bytes ≤ RECORD_FILE_LIMIT }
+    requires even { length pooled.bytes % q.now.size ≡ 0 }
     requires threads { AreThreads threads }
     requires tally { IsTally q.now }
     requires beside { COUNTS_SIZE ≤ pooled.beside }
     ensures { IfOk result (λ ending. (file : List ℕ) →
         PlanEnds (wish.Answer question.Tally threads) q.now file (Some pooled.bytes) (shown ending)) }
 {
-    let rest = rest_of(pooled.len(), q);
-    if rest != 0 {
-        return Ending::ragged(alloc, rest);
-    }
     let (counts, finished) = pooled.tally(rt, alloc, q, threads, gate)?;
     match print_counts(alloc, &counts) {
         Ok(text) => Ok(Ending::answered_by_pool(Output::Whole(text), finished)),

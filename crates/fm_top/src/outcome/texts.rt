@@ -1,4 +1,4 @@
-ghost use Rattle.std.specs.Prelude.{◌<◌, ◌≤◌, ⊤, IfOk, List, Some, length, ℕ};
+ghost use Rattle.std.specs.Prelude.{◌≡◌, ◌%◌, ◌<◌, ◌≤◌, ⊤, List, Some, length, ℕ};
 ghost use Rattle.fm_records_query.specs.Records.{IsRecord};
 ghost use Rattle.fm_top.specs.Ending.{shown};
 ghost use Rattle.fm_top.specs.Ends.{EndsFile};
@@ -16,7 +16,7 @@ use fm_io::{Fault, Files};
 use fm_layout::Layout;
 use fm_top_load::{Loaded, RECORD_FILE_LIMIT, load};
 use fm_top_texts::{RecordTexts, TextPlan, plan_texts};
-use std::alloc::{AllocError, Global};
+use std::alloc::Global;
 use std::sync::Wait;
 
 /// Follows the path, reads the record file, and answers how the run ends for the texts of its records.
@@ -54,28 +54,19 @@ fn file_ending<'a, R: Wait, F: Files>(
         (F.view files.old)
         (F.view files.new) result }
 {
-    match load(rt, alloc, files, file) {
-        Ok(loaded) => Ok(loaded_ending(alloc, loaded, plan)?),
+    match load(rt, alloc, files, file, plan.size) {
+        Ok(loaded) => Ok(loaded_ending(loaded, plan)),
         Err(fault) => unloaded_ending(alloc, file, fault),
     }
 }
 
 /// How the run ends for a file that was loaded whole.
-fn loaded_ending<'a>(
-    alloc: Global,
-    loaded: Loaded,
-    plan: TextPlan,
-) -> Result<Ending<'a>, AllocError>
+fn loaded_ending<'a>(loaded: Loaded, plan: TextPlan) -> Ending<'a>
     requires sized { 0 < plan.size }
     requires within { LiesWithin plan }
     requires short { length loaded ≤ RECORD_FILE_LIMIT }
-    ensures { IfOk result (λ ending. (file : List ℕ) →
-        PlanEnds wish.Texts plan file (Some loaded) (shown ending)) }
+    requires even { length loaded % plan.size ≡ 0 }
+    ensures { (file : List ℕ) → PlanEnds wish.Texts plan file (Some loaded) (shown result) }
 {
-    let rest = loaded.len() % plan.size;
-    if rest != 0 {
-        return Ending::ragged(alloc, rest);
-    }
-    let texts = RecordTexts::of(plan, loaded);
-    Ok(Ending::answered(Output::Texts(texts)))
+    Ending::answered(Output::Texts(RecordTexts::of(plan, loaded)))
 }

@@ -16,6 +16,7 @@ pub fn unloaded_ending<'a>(
     match fault {
         LoadFault::Missing => Ok(Ending::missing(file)),
         LoadFault::TooLong => Ok(Ending::too_long(alloc)?),
+        LoadFault::Ragged(rest) => Ok(Ending::ragged(alloc, rest)?),
         LoadFault::Failed => Err(Fault::Failed),
         LoadFault::Memory => Err(Fault::Memory),
         // Files are loaded into arenas that want nothing but memory.

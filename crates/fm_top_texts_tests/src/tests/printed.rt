@@ -11,12 +11,12 @@ use std::alloc::{AllocGlobal, Global};
 use std::process::Abort;
 use std::sync::Wait;
 
-/// The bytes of this hex, as a file of records.
+/// The bytes of this hex, as a file of records of one byte, so that they may leave a rest by a layout.
 fn loaded<R: AllocGlobal + Wait + Abort>(rt: &R, hex: &str) -> Loaded {
     let bytes = hex::decode(rt.alloc(), hex).expect(rt, "hex");
     let name = String::from_str(rt.alloc(), "f").expect(rt, "memory");
     let listed = vec![in rt.alloc(); (name, bytes)].expect(rt, "memory");
-    load(rt, rt.alloc(), &mut SureFiles::new(listed), "f").expect(rt, "a file")
+    load(rt, rt.alloc(), &mut SureFiles::new(listed), "f", 1).expect(rt, "a file")
 }
 
 /// Where the path leads in records of this layout, in which an apostrophe stands for each quotation mark.

@@ -25,4 +25,4 @@ returns-clause-put g c =
 pub returns-in-Err-clause-tells : goal.returns-in-Err-clause-tells
 returns-in-Err-clause-tells g c =
     let room = holds_room c.args.stretch.now c.requires.stock c.new-memory.ensures c.arena-arena.ensures c.requires.all in
-    tells_of (λ by. by_reads c.in-Err.fault (λ r e. (c.in-Err.ensures.alone room).wants r (ap Err e))) c.in-Err.ensures.tells
+    tells_of (λ by. by_reads c.in-Err.fault by (λ r e. (c.in-Err.ensures.alone room).wants r (ap Err e))) c.in-Err.ensures.tells

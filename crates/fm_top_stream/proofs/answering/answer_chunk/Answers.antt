@@ -13,7 +13,7 @@ pub returns-in-Ok-clause-tells : goal.returns-in-Ok-clause-tells
 returns-in-Ok-clause-tells g c = tells_none (leaves_none (g.F.Files.view c.args.files.now) (λ e. e) (λ e. e))
 
 pub returns-in-Err-clause-tells : goal.returns-in-Err-clause-tells
-returns-in-Err-clause-tells g c = tells_no_memory (g.F.Files.view c.args.files.now)
+returns-in-Err-clause-tells g c = tells_no_memory (g.F.Files.view c.args.files.now) tt
 
 pub returns-clause-tells : goal.returns-clause-tells
 returns-clause-tells g c = c.ask_beside.ensures.tells

@@ -1,8 +1,7 @@
 use Rattle.std.proofs.Common.{◌<◌, ap, sym, subst, ◌∙◌}
 use Rattle.fm_rule.specs.Views.{first_pass, numbers_of}
-use Rattle.fm_io.proofs.Left.{leaves_none}
-use Rattle.fm_top_load.proofs.Telling.{read_quietly}
-use Rattle.fm_top_stream.proofs.{Ends.{can_go, some_in_chunk, streamed}, Faulty.{told_memory, told_nothing}}
+use Rattle.fm_top_load.proofs.Telling.{read_quietly, tells_memory, tells_none}
+use Rattle.fm_top_stream.proofs.{Chunking.{tells_no_memory}, Ends.{can_go, some_in_chunk, streamed}}
 use Rattle.fm_top_stream.proofs.stream.stream_with.Goals as goal
 
 pub go_through-requires-clause-can : goal.go_through-requires-clause-can
@@ -15,16 +14,16 @@ pub returns-in-Ok-finish-clause-streams : goal.returns-in-Ok-finish-clause-strea
 returns-in-Ok-finish-clause-streams g c =
     let most = c.chunk_bytes.ensures in
     streamed c.chunk_bytes.result most.is (subst (λ n. 0 < n) (sym most.is) (some_in_chunk c.args.q.now.size most.sized c.requires.small))
-    (c.in-Ok.ensures.pool ∙ c.shape_of.ensures.is) (c.in-Ok-go_through.ensures.goes.whole c.if-rest-ne0.false) c.in-Ok-finish.ensures.finishes
+    (c.in-Ok.ensures.pool ∙ c.shape_of.ensures.is) c.in-Ok-go_through.ensures.goes c.in-Ok-finish.ensures.finishes
 
 pub returns-in_default-clause-tells : goal.returns-in_default-clause-tells
-returns-in_default-clause-tells g c = told_memory (leaves_none (g.F.Files.view c.args.files.now) (λ e. e) (λ e. e))
+returns-in_default-clause-tells g c = tells_no_memory (g.F.Files.view c.args.files.now) tt
 
 pub returns-in_default-none-clause-tells : goal.returns-in_default-none-clause-tells
-returns-in_default-none-clause-tells g c = told_memory (leaves_none (g.F.Files.view c.args.files.now) (λ e. e) (λ e. e))
+returns-in_default-none-clause-tells g c = tells_no_memory (g.F.Files.view c.args.files.now) tt
 
 pub returns-in-Ok-finish-clause-tells : goal.returns-in-Ok-finish-clause-tells
-returns-in-Ok-finish-clause-tells g c = told_nothing (read_quietly c.in-Ok-go_through.ensures.tells)
+returns-in-Ok-finish-clause-tells g c = tells_none (read_quietly c.in-Ok-go_through.ensures.tells)
 
 pub returns-in-Err-finish-clause-tells : goal.returns-in-Err-finish-clause-tells
-returns-in-Err-finish-clause-tells g c = told_memory (read_quietly c.in-Ok-go_through.ensures.tells)
+returns-in-Err-finish-clause-tells g c = tells_memory tt (read_quietly c.in-Ok-go_through.ensures.tells)

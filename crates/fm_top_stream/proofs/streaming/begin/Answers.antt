@@ -18,4 +18,4 @@ pub returns-in-Err-clause-tells : goal.returns-in-Err-clause-tells
 returns-in-Err-clause-tells g c =
     let put = c.in-Err.ensures in
     let fills = put.alone (room_for c.args.stretch.now c.give_chunk.ensures c.new-memory.ensures c.requires.asks.room) in
-    tells_of (λ by. by_reads c.in-Err.fault (λ r e. fills.wants r (ap Err e))) put.tells
+    tells_of (λ by. by_reads c.in-Err.fault by (λ r e. fills.wants r (ap Err e))) put.tells

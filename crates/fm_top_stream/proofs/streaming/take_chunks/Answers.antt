@@ -1,19 +1,9 @@
-use Rattle.std.{proofs.Common.{◌+◌, ◌%◌, Option, refl, sym, ap, subst, ◌∙◌, arith}, specs.Prelude.{IfSome}}
+use Rattle.std.{proofs.Common.{◌+◌, ◌%◌, Option, Some, refl, sym, ap, subst, ◌∙◌, arith}, specs.Prelude.{IfSome}}
 use Rattle.fm_io.{specs.Files.{Contents}, proofs.Left.{leaves_then}}
-use Rattle.fm_top_load.{specs.Reading.{GoesBy, ReadsFurther}, proofs.Telling.{read_quietly, tells_none, tells_then}}
+use Rattle.fm_top_load.{specs.Reading.{GoesBy, ReadsFurther}, proofs.Telling.{by_records, read_quietly, tells_none, tells_then}}
 use Rattle.fm_top_stream.specs.{Ahead.{IsFollowed}, Chunks.{stream_file_limit}, Gone.{HasNext}, declared.placed.Placed.{Placed}}
-use Rattle.fm_top_stream.proofs.{Chunking.{further_some, further_then}, GoesOn.{ends_within, through_ragged}}
+use Rattle.fm_top_stream.proofs.{Chunking.{further_some, further_then}, GoesOn.{ends_within, tells_chunk}}
 use Rattle.fm_top_stream.proofs.streaming.take_chunks.Goals as goal
-
-pub returns-then-rest-ne0-clause-goes : goal.returns-then-rest-ne0-clause-goes
-returns-then-rest-ne0-clause-goes g c =
-    through_ragged c.chunks.invariant.has c.requires.asks _ (ap (λ n. c.chunks.standing.chunk.count % n) c.record_size.ensures.size) c.if-rest-ne0.true
-
-pub returns-then-rest-ne0-clause-reads : goal.returns-then-rest-ne0-clause-reads
-returns-then-rest-ne0-clause-reads g c = further_some stream_file_limit c.chunks.invariant.reads
-
-pub returns-then-rest-ne0-clause-tells : goal.returns-then-rest-ne0-clause-tells
-returns-then-rest-ne0-clause-tells g c = tells_none c.chunks.invariant.left
 
 pub take_chunk-requires-after_bounds : goal.take_chunk-requires-after_bounds
 take_chunk-requires-after_bounds g c κs within =
@@ -24,14 +14,17 @@ take_chunk-requires-after_bounds g c κs within =
       at = refl;
       asks = c.requires.asks;
       read = record { small = omega arith; short = ends_within i.has c.requires.asks };
-      even = sym (ap (λ n. c.chunks.standing.chunk.count % n) c.record_size.ensures.size) ∙ c.if-rest-ne0.false;
+      even = sym (ap (λ n. c.chunks.standing.chunk.count % n) c.record_size.ensures.size) ∙ c.in_default.ensures.whole;
       has = subst (λ (told : Option Contents). HasNext stream_file_limit crew.most told crew.name.now c.chunks.at crew.q.now crew.pool.now c.chunks.going c.chunks.standing)
           (sym i.left.held) i.has;
     }
 
 pub returns-in-Err-clause-reads : goal.returns-in-Err-clause-reads
-returns-in-Err-clause-reads g c =
-    further_some stream_file_limit (further_then stream_file_limit c.chunks.invariant.reads c.in-Err.ensures.reads)
+returns-in-Err-clause-reads g c = further_some stream_file_limit c.chunks.invariant.reads
+
+pub returns-in-Err-take_chunk-clause-reads : goal.returns-in-Err-take_chunk-clause-reads
+returns-in-Err-take_chunk-clause-reads g c =
+    further_some stream_file_limit (further_then stream_file_limit c.chunks.invariant.reads c.in-Err-take_chunk.ensures.reads)
 
 pub returns-in-None-clause-reads : goal.returns-in-None-clause-reads
 returns-in-None-clause-reads g c =
@@ -54,7 +47,13 @@ chunks-preserved g c =
     }
 
 pub returns-in-Err-clause-tells : goal.returns-in-Err-clause-tells
-returns-in-Err-clause-tells g c = tells_then c.chunks.invariant.left c.in-Err.ensures.tells
+returns-in-Err-clause-tells g c =
+    let i = c.chunks.invariant in
+    tells_chunk c.record_size.result i.has c.requires.asks i.left c.record_size.ensures.size c.in-Err.ensures.ragged
+
+pub returns-in-Err-take_chunk-clause-tells : goal.returns-in-Err-take_chunk-clause-tells
+returns-in-Err-take_chunk-clause-tells g c =
+    by_records c.args.crew.now.q.now.size (Some c.in-Err-take_chunk.fault) (tells_then c.chunks.invariant.left c.in-Err-take_chunk.ensures.tells)
 
 pub returns-in-None-clause-tells : goal.returns-in-None-clause-tells
 returns-in-None-clause-tells g c = tells_none (leaves_then c.chunks.invariant.left (read_quietly c.in-Ok.ensures.tells))

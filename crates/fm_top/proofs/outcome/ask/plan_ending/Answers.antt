@@ -1,6 +1,6 @@
 use Rattle.std.proofs.Common.{rules, Some, refl}
-use Rattle.fm_top.{specs.{Ending.{shown}, Outcome.{no_file, too_many}, declared.command.{question.Question.TheVariants.{Query, Tally}, wish.Wish.TheVariants.{Answer}}}, proofs.Ends.{plan_found}}
-use Rattle.fm_top.proofs.Unloaded.{found_ends, unloaded_ends, wanting_ends}
+use Rattle.fm_top.{specs.{Ending.{shown}, Outcome.{no_file, too_many, uneven}, declared.command.{question.Question.TheVariants.{Query, Tally}, wish.Wish.TheVariants.{Answer}}}, proofs.Ends.{plan_found}}
+use Rattle.fm_top.proofs.Unloaded.{found_ends, records_ends, wanting_ends}
 use Rattle.fm_top.proofs.outcome.ask.plan_ending.Goals as goal
 
 pub returns-in-Ok : goal.returns-in-Ok
@@ -16,7 +16,7 @@ returns-in_err-queried_ending-in-Ok g c = let load = c.in-Ok.ensures in rw c.in-
 
 pub returns-in-Query : goal.returns-in-Query
 returns-in-Query g c =
-    rw c.in-Query.is (unloaded_ends c.in-Err.ensures.reads c.in-Err.ensures.tells c.unloaded_ending.ensures no_file (λ bytes over. too_many bytes over))
+    rw c.in-Query.is (records_ends c.in-Err.ensures.reads c.record_size.ensures.size c.in-Err.ensures.tells c.unloaded_ending.ensures no_file (λ bytes over. too_many bytes over) (λ bytes short rest. uneven bytes short rest))
 
 pub returns-in-Ok-load : goal.returns-in-Ok-load
 returns-in-Ok-load g c =
@@ -32,7 +32,7 @@ returns-in_err-tallied_ending-in-Ok-load g c = let load = c.in-Ok-load.ensures i
 pub returns : goal.returns
 returns g c =
     rw c.in-Tally.is
-    (unloaded_ends c.in-Err-load.ensures.reads c.in-Err-load.ensures.tells c.unloaded_ending-in-Err-load.ensures no_file (λ bytes over. too_many bytes over))
+    (records_ends c.in-Err-load.ensures.reads c.record_size.ensures.size c.in-Err-load.ensures.tells c.unloaded_ending-in-Err-load.ensures no_file (λ bytes over. too_many bytes over) (λ bytes short rest. uneven bytes short rest))
 
 pub returns-in-Stream : goal.returns-in-Stream
 returns-in-Stream g c = rw c.in-Stream.is c.streamed_ending.ensures

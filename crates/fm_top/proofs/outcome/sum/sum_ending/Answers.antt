@@ -1,6 +1,6 @@
-use Rattle.std.proofs.Common.{rules, None}
-use Rattle.fm_top.{specs.{Ending.{shown}, Outcome.{no_file, too_many}, Words.{Sum}}, proofs.Ends.{first_found}}
-use Rattle.fm_top.proofs.Unloaded.{found_ends, unloaded_ends, wanting_ends}
+use Rattle.std.proofs.Common.{rules, None, refl}
+use Rattle.fm_top.{specs.{Ending.{shown}, Outcome.{no_file, too_many, uneven}, Words.{Sum}}, proofs.Ends.{first_found}}
+use Rattle.fm_top.proofs.Unloaded.{found_ends, records_ends, wanting_ends}
 use Rattle.fm_top.proofs.outcome.sum.sum_ending.Goals as goal
 
 pub returns-in_ok-loaded_ending-in-Ok : goal.returns-in_ok-loaded_ending-in-Ok
@@ -16,4 +16,4 @@ returns-in_err-loaded_ending-in-Ok g c = let load = c.in-Ok.ensures in wanting_e
 
 pub returns-in-Err : goal.returns-in-Err
 returns-in-Err g c =
-    unloaded_ends c.in-Err.ensures.reads c.in-Err.ensures.tells c.unloaded_ending.ensures no_file (λ bytes over. too_many bytes over)
+    records_ends c.in-Err.ensures.reads refl c.in-Err.ensures.tells c.unloaded_ending.ensures no_file (λ bytes over. too_many bytes over) (λ bytes short rest. uneven bytes short rest)
