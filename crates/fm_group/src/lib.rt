@@ -40,5 +40,6 @@ mod values;
 pub use fm_group_lists::Groups;
 pub use laws::{numbers_by_ordinal, resolved_is_few, tries_each_place};
 pub use order::PlaceOrder;
+pub use places::count_values;
 pub use table::CountTable;
 pub use values::Values;

@@ -6,9 +6,9 @@ ghost use Rattle.fm_group.specs.Values.{indices_at};
 
 use fm_path::Dim;
 
-/// How many lists of indices there are, wrapping at 2^64.
+/// How many lists of indices there are, one index below each bound, wrapping at 2^64.
 #[cycle(count)]
-pub(crate) fn count_values(dims: &[Dim]) -> u64
+pub fn count_values(dims: &[Dim]) -> u64
     ensures { result ≡ value_count dims.now % 2 ^ 64 }
 {
     match dims {

@@ -1,15 +1,15 @@
 -- An arena that is opened beside that of the records, which stand still.
-use Rattle.std.{proofs.Common.{◌≡◌, ℕ, ◌+◌, ◌<◌, ◌≤◌, List, map, refl, ap, sym, ◌∙◌, subst, arith}, specs.List.{range_with_len}}
+use Rattle.std.{proofs.Common.{◌≡◌, ℕ, ◌+◌, ◌<◌, ◌≤◌, List, map, slice_index, refl, ap, sym, ◌∙◌, subst, arith}, specs.List.{range_with_len}}
 use Rattle.fm_base.specs.{declared.{arena_id.ArenaId.{ArenaId}, kind.Kind.TheVariants.{Shared}}, Arenas.{Arena, arena_of}}
 use Rattle.fm_base_bytes.specs.Words.{byte_at}
 use Rattle.fm_rule_calls.specs.Told.{view_of_pass}
 use Rattle.fm_gate.specs.Learnt.{AllBusy}
-use Rattle.fm_top_load.specs.Held.{HoldsThen}
+use Rattle.fm_top_load.specs.Held.{HoldsThen, words_at}
 use Rattle.fm_rule_facts.specs.Views.{View, IsKnown, limit_of, state_in}
 use Rattle.fm_rule.specs.declared.pool.Pool.{Pool}
 use Rattle.fm_segment.specs.Region.{Region, region_of}
 use Rattle.fm_words.specs.declared.shape.Shape.{Shape}
-use Rattle.fm_top_pooled.specs.{Besides.{CanOpenBeside, IsBeside}, Stocked.{HasPagesFor, IsLone, IsOpened, IsStock, IsStocked, KeepsArenas, bytes_in_pool}}
+use Rattle.fm_top_pooled.specs.{Besides.{CanOpenBeside, IsBeside}, Stocked.{HasPagesFor, IsLone, IsOpened, IsStock, IsStocked, IsZero, KeepsArenas, bytes_in_pool}}
 use Rattle.fm_top_pooled.proofs.{Left.{fewer_left}, Opening.{pages_left}}
 
 -- ---- there is room
@@ -70,13 +70,14 @@ module _ {pool : Pool} {p r : View} {s : Region} (h : IsStocked pool p s) (keeps
 -- ---- the new arena
 
 -- its first bytes, in an arena that wasn't known
-pub beside : {r : View} {s t : Region} {a : ArenaId} {words : List ℕ} {size : ℕ} (p : View) → HoldsThen (view_of_pass r) a size words → a.kind ≡ Shared
-    → t ≡ region_of a 0 size → IsKnown p s.arena → ¬ (IsKnown p a) → IsBeside r s t size
-beside {r} {s} {a = a} {size = size} p held shared is known unknown =
+pub beside : {r : View} {s t : Region} {a : ArenaId} {size : ℕ} (p q : View) → HoldsThen (view_of_pass r) a size (words_at (view_of_pass q) a) → IsZero q a
+    → a.kind ≡ Shared → t ≡ region_of a 0 size → IsKnown p s.arena → ¬ (IsKnown p a) → IsBeside r s t size
+beside {r} {s} {a = a} {size = size} p q held zero shared is known unknown =
     subst (λ (x : Region). IsBeside r s x size) (sym is) (record {
       all = refl;
       known = record { arena = held.held.known; given = omega (arith, held.given_is) };
       alive = held.held.alive;
       shared = shared;
       other = λ same. unknown (subst (λ (b : ArenaId). IsKnown p b) (sym same) known);
+      zero = λ word. ap (λ (ws : List ℕ). slice_index ws word) held.words_are ∙ zero word;
     })

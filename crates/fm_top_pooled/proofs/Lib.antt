@@ -5,9 +5,12 @@ pub mod Filling
 pub mod Left
 pub mod Lent
 pub mod Filed
+pub mod Groupings
+pub mod Unshut
 pub mod Opening
 pub mod Quiet
 pub mod Shapes
 pub mod Shows
+pub mod Tables
 pub mod Tallies
 pub mod Tidying

@@ -1,9 +1,9 @@
 -- A pool's first pass that opens an arena.
-use Rattle.std.proofs.Common.{◌≡◌, ℕ, ◌*◌, ◌≤◌, Bool, true, false, List, [], ◌∷◌, ◌++◌, Ok, Err, refl, ap, sym, ◌∙◌, subst, inl, inr, arith}
+use Rattle.std.proofs.Common.{◌≡◌, ℕ, ◌*◌, ◌≤◌, slice_index, Bool, true, false, List, [], ◌∷◌, ◌++◌, Ok, Err, refl, ap, sym, ◌∙◌, subst, inl, inr, arith}
 use Rattle.std.{specs.Prelude.{◌⊎◌, if◌then◌else◌}, proofs.lemmas.List.{map-append}}
 use Rattle.fm_base.specs.declared.{arena_id.ArenaId.{ArenaId}, kind.Kind.TheVariants.{Shared}, refusal.Refusal.{Refusal}}
 use Rattle.fm_base.specs.{Arenas.{Arena, State, arena_of, has_arena, same_id}, Calls.{Entry, Open, Fine, entry_of}, Does.{DoesOpen}, Finds.{Gathered, Rest}}
-use Rattle.fm_base.{specs.{Histories.{IsTidy, state_after}, Machine.{opened}, View.{but_loans}}, proofs.{Lookup.{arena_of-append}, Names.{same_id-true}}}
+use Rattle.fm_base.{specs.{Histories.{IsTidy, state_after}, Machine.{opened, words_within}, View.{but_loans}}, proofs.{Lookup.{arena_of-append, arena_of-opened}, Names.{same_id-true}, Tidiness.{zeros_at}}}
 use Rattle.fm_gate.specs.{Needs.{IsOutside}, Learnt.{AfterOpen, AllBusy}}
 use Rattle.fm_rule_calls.{specs.{Kept.{Kept}, Told.{view_of_pass}}, proofs.Telling.{did_of}}
 use Rattle.fm_top_load.{specs.Held.{names_in}, proofs.Holding.{did_only, opened_held}}
@@ -103,6 +103,10 @@ opens pool p q a lone after =
     record {
       lone = kept_alone lone after.did after.outside (subst AllChangeNone (sym after.did.does.2) (tt, tt));
       empty = opened_held (view_of_pass p) (view_of_pass q) a Shared (inr lone.whole) lone.sound.limit after.outside.outside did;
+      zero = λ word.
+          ap (λ (s : State). slice_index (arena_of s a).words word) state
+          ∙ ap (λ (x : Arena). slice_index x.words word) (arena_of-opened (state_in p) (opened (limit_of p.shape) a) only.legal.0.0)
+          ∙ zeros_at (words_within (limit_of p.shape)) word;
       shared = did.does.0;
       unknown = after.is_new.unknown;
       only = λ b k. opened_has (state_in p) (opened (limit_of p.shape) a) b (ap (λ (s : State). has_arena s b) (sym state) ∙ k);

@@ -48,7 +48,7 @@ pub region_is : {n : ℕ} {pool : Pool} {p : View} {s : Region} → IsStockedOf 
 region_is {p = p} {s = s} h = ap (λ n. region_of s.arena 0 n) (length-pooled p s) ∙ sym h.start
 
 -- what one of a crew that was drawn has read, others than the first pass have
-by_other : (p : View) (s : Region) (cs : List Caller) (more : List Entry) → AllByRecursion (IsFresh p) cs → (word : ℕ) → IsReadByCrew s cs more word
+pub by_other : (p : View) (s : Region) (cs : List Caller) (more : List Entry) → AllByRecursion (IsFresh p) cs → (word : ℕ) → IsReadByCrew s cs more word
     → IsReadByOther more s.arena word
 by_other p s cs more fresh word r = record {
   caller = r.caller;

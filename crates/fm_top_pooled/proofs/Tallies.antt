@@ -53,7 +53,7 @@ tallies_touch s counts c own t =
     (all_both (λ e. Touches (MayCount counts) e.call) t.reads t.adds (only_reads_touch (MayCount counts) s c t.reads t.are_reads)
     (adds_touch counts c t.adds t.are_adds))
 
-not_confined : {pool : Pool} {p : View} {s counts : Region} → IsStocked pool p s → IsBeside p s counts counts_size
+pub not_confined : {pool : Pool} {p : View} {s counts : Region} {size : ℕ} → IsStocked pool p s → IsBeside p s counts size
     → (s.arena.kind ≡ Confined) ⊎ (counts.arena.kind ≡ Confined) → ⊥
 not_confined h b (inl is) = let kind : Confined ≡ Shared = sym is ∙ h.shared in absurd (cc)
 not_confined h b (inr is) = let kind : Confined ≡ Shared = sym is ∙ b.shared in absurd (cc)

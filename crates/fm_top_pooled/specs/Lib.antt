@@ -1,5 +1,6 @@
 pub mod Asking
 pub mod Besides
+pub mod Grouped
 pub mod Pooled
 pub mod Shown
 pub mod Stocked

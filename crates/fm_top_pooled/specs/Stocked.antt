@@ -1,6 +1,6 @@
 -- Where the first pass of a pool stands, before bytes are put into an arena of it, and then.
 use Rattle.std.specs.{Prelude.{◌≡◌, ◌⊎◌, ℕ, ◌+◌, ◌*◌, ◌<◌, ◌≤◌, max, true, List, [], ◌∷◌, ◌++◌, Option, Result, IfOk, length}, Result.{result_err}}
-use Rattle.fm_base.specs.{declared.{arena_id.ArenaId.{ArenaId}, kind.Kind.TheVariants.{Shared}}, Arenas.{Alive, arena_of}, Finds.{Gathered}, Histories.{IsTidy}}
+use Rattle.fm_base.specs.{declared.{arena_id.ArenaId.{ArenaId}, kind.Kind.TheVariants.{Shared}}, Arenas.{Alive, arena_of, word_in}, Finds.{Gathered}, Histories.{IsTidy}}
 use Rattle.fm_rule_calls.specs.Told.{view_of_pass}
 use Rattle.fm_gate.specs.{Learnt.{AllBusy}, Needs.{IsOutside}, Pages.{LentBesides}}
 use Rattle.fm_io.specs.{Files.{Contents, AreBytesFrom}, View.{FilesView}}
@@ -53,10 +53,15 @@ pub record KeepsArenas (p q : View) : Type 0 where
   pub known : (b : ArenaId) → IsKnown p b → IsKnown q b
   pub same : (b : ArenaId) → IsKnown p b → arena_of (state_in q) b ≡ arena_of (state_in p) b
 
+-- all words of the arena are 0
+abbrev pub IsZero : View → ArenaId → Type 0
+IsZero p a = (word : ℕ) → word_in (state_in p) a word ≡ 0
+
 -- it opened a shared arena, and no other; nothing was lent
 pub record HasOpened (gs : List Gathered) (pool : Pool) (p q : View) (a : ArenaId) : Type 0 where
   pub lone : IsAlone gs pool q
   pub empty : IsEmpty (view_of_pass q) a
+  pub zero : IsZero q a
   pub shared : a.kind ≡ Shared
   pub unknown : ¬ (IsKnown p a)
   pub only : (b : ArenaId) → IsKnown q b → (b ≡ a) ⊎ IsKnown p b

@@ -3,6 +3,7 @@
 
 mod asking;
 mod finishing;
+mod grouping;
 mod loading;
 mod pooled;
 mod record_file;
@@ -12,6 +13,7 @@ mod stocking;
 mod tallying;
 mod wanting;
 
+pub use grouping::{TABLE_LIMIT, VALUES_LIMIT, table_size, values_in};
 pub use pooled::Pooled;
 pub use record_file::RecordFile;
 pub use tallying::COUNTS_SIZE;

@@ -4,18 +4,24 @@ ghost use Rattle.fm_top_load.specs.Reading.{ReadsSome};
 ghost use Rattle.fm_top_load.specs.Records.{TellsRecords};
 ghost use Rattle.fm_top_load.specs.Whole.{IsWhole};
 ghost use Rattle.fm_top_pooled.specs.Asking.{IsCrew};
+ghost use Rattle.fm_top_pooled.specs.Grouped.{HasTableFor, HasValues, ShowsValues, values_in};
 ghost use Rattle.fm_top_pooled.specs.Shown.{ShowsBoth, ShowsQuery};
+ghost use Rattle.fm_group_lists.specs.Groups.{AreGroups};
+ghost use Rattle.fm_group.specs.Values.{all_numbers};
 ghost use Rattle.fm_records.specs.Answers.{answer};
 ghost use Rattle.fm_workers.specs.Counts.{AreCounts, IsTally, listed};
 
 use crate::asking::ask;
 use crate::finishing::finish;
+use crate::grouping::{VALUES_LIMIT, group, table_size};
 use crate::loading::load_stock;
 use crate::record_file::RecordFile;
 use crate::stock::{Stock, stock_of_bytes};
 use crate::stocking::open_beside;
 use crate::tallying::{COUNTS_SIZE, count};
+use fm_group::{CountTable, Groups, PlaceOrder, Values};
 use fm_io::{Files, Gate};
+use fm_path::Resolved;
 use fm_records::Answer;
 use fm_records_query::Query;
 use fm_rule::Finished;
@@ -172,6 +178,38 @@ impl Pooled {
         let found = count(
             rt, alloc, &pool, &mut pass, &segment, &counts, q, threads, gate,
         )?;
+        let finished = finish(alloc, pool, pass, &segment)?;
+        Ok((found, finished))
+    }
+
+    /// How often each number comes among the values of a path in the records, of which there is a whole number, by a crew
+    /// of so many passes; and the pool, once it is finished. The passes share a table in the arena beside.
+    pub fn group<R: Threads + Wait + Sync, G: Gate>(
+        self,
+        rt: &R,
+        alloc: Global,
+        path: Resolved,
+        threads: u32,
+        gate: &G,
+    ) -> Result<(Groups, Finished), AllocError>
+        requires path { HasValues path }
+        requires even { length self.bytes % path.root_size ≡ 0 }
+        requires few { values_in path (length self.bytes) ≤ VALUES_LIMIT }
+        requires crew { IsCrew threads }
+        requires beside { HasTableFor (values_in path (length self.bytes)) self.beside }
+        ensures groups { IfOk result (λ r. AreGroups (all_numbers path self.bytes) r.0) }
+        ensures shows { IfOk result (λ r. ShowsValues r.1 path self.bytes) }
+    {
+        let Stock {
+            pool,
+            mut pass,
+            segment,
+            ..
+        } = self.stock;
+        let values = Values::of(path, segment);
+        let places = open_beside(rt, &pool, &mut pass, &segment, table_size(values.len()));
+        let table = CountTable::with_order(places, values, PlaceOrder::Mixed);
+        let found = group(rt, alloc, &pool, &mut pass, &table, threads, gate)?;
         let finished = finish(alloc, pool, pass, &segment)?;
         Ok((found, finished))
     }

@@ -48,6 +48,7 @@ module _ {pool : Pool} {p m q : View} (w : Waits pool p m) where
         opened = record {
           lone = alone_still o.lone;
           empty = o.empty;
+          zero = o.zero;
           shared = o.shared;
           unknown = λ k. o.unknown (ap (λ (s : State). has_arena s a) w.state ∙ k);
           only = λ b k. ⊎_elim (λ (e : b ≡ a). inl e) (λ (was : IsKnown m b). inr (ap (λ (s : State). has_arena s b) (sym w.state) ∙ was)) (o.only b k);

@@ -25,5 +25,5 @@ returns-clause-bytes g c =
 
 pub returns-clause-beside : goal.returns-clause-beside
 returns-clause-beside g c =
-    beside c.args.pass.now c.give.ensures.held c.open_shared-arena.ensures.shared c.of.ensures c.requires.stocked.known.arena
+    beside c.args.pass.now c.open_shared-arena.new.pass c.give.ensures.held c.open_shared-arena.ensures.zero c.open_shared-arena.ensures.shared c.of.ensures c.requires.stocked.known.arena
     c.open_shared-arena.ensures.unknown
