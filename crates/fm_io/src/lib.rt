@@ -36,6 +36,7 @@ mod sink;
 mod sure_files;
 mod sure_sink;
 mod system;
+mod turns;
 mod writing;
 
 pub use fault::Fault;
@@ -52,4 +53,5 @@ pub use sink::Sink;
 pub use sure_files::SureFiles;
 pub use sure_sink::SureSink;
 pub use system::{System, Way};
+pub use turns::{AtGate, Turns};
 pub use writing::write_text;

@@ -6,9 +6,9 @@ ghost use Rattle.fm_script_lines.specs.Ordering.{is_by};
 ghost use Rattle.fm_script_lines.specs.Report.{lines_by};
 
 use fm_arena::Shared;
-use fm_io::FreeGate;
+use fm_io::{AtGate, FreeGate};
 use fm_rule::{Pass, Pool};
-use fm_script_lines::{AtGate, Bound, Reply, Table, count_lines, play};
+use fm_script_lines::{Bound, Reply, Table, count_lines, play};
 use fm_script_text::{Line, Who};
 use std::alloc::{AllocError, AllocGlobal, Global};
 use std::random::RandomSource;

@@ -21,7 +21,6 @@ mod settling;
 mod standing;
 mod table;
 mod tokens;
-mod turns;
 mod updates;
 mod values;
 
@@ -35,4 +34,3 @@ pub use playing::play;
 pub use reply::Reply;
 pub use standing::Standing;
 pub use table::Table;
-pub use turns::{AtGate, Turns};

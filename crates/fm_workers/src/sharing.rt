@@ -8,11 +8,11 @@ ghost use Rattle.fm_workers.specs.Sharing.{SharedOut};
 use crate::crew::Crew;
 use fm_arena::Shared;
 use fm_base::Refusal;
-use fm_io::Gate;
+use fm_io::{AtGate, Gate};
 use fm_rule::{Pass, Pool};
 use fm_workers_crew::{Beside, Work, work_crew, work_crew_beside};
 use fm_workers_jobs::Jobs;
-use fm_workers_shares::{AtGate, Batch, Job, Taker, Whole, finish, take_shares};
+use fm_workers_shares::{Batch, Job, Taker, Whole, finish, take_shares};
 use std::alloc::Global;
 use std::sync::Wait;
 use std::thread::Threads;
@@ -37,11 +37,11 @@ impl<'a, P, R: Wait + Sync, G: Gate, J: Job<P> + Sync> Work<Taker<P>> for Taking
     ghost does = { λ w. by_caller (λ c old new. Takes (J.making w.job.now) w.jobs.now c new) };
 
     fn work(&self, alloc: Global, memory: &mut Shared, taker: &mut Taker<P>) {
-        let calls = AtGate {
+        let turns = AtGate {
             gate: self.gate,
-            number: taker.number,
+            worker: taker.number,
         };
-        take_shares(self.rt, alloc, &calls, self.jobs, memory, self.job, taker);
+        take_shares(self.rt, alloc, &turns, self.jobs, memory, self.job, taker);
     }
 
     ghost stays = { λ w v u t l c. (J.stays w.job.now (view_of_pass v) (view_of_pass u) (knows_later l) c.0, c.1) };

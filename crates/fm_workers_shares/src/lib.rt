@@ -9,7 +9,6 @@
 
 mod answers;
 mod batch;
-mod calls;
 mod finishing;
 mod job;
 mod joining;
@@ -20,7 +19,6 @@ mod taking;
 
 pub use answers::{Answers, Done};
 pub use batch::Batch;
-pub use calls::{AtGate, Calls};
 pub use finishing::{Whole, finish};
 pub use job::Job;
 pub use shares::{Shares, records_of};

@@ -2,20 +2,20 @@ ghost use Rattle.std.specs.Prelude.{◌≡◌, None};
 ghost use Rattle.fm_base.specs.View.{Did};
 ghost use Rattle.fm_workers_shares.specs.Taking.{IsReady, Takes};
 
-use crate::calls::Calls;
 use crate::job::Job;
 use crate::taker::Taker;
 use fm_base::Memory;
+use fm_io::Turns;
 use fm_workers_jobs::Jobs;
 use std::alloc::Global;
 use std::sync::Wait;
 
 /// Takes shares and does them, one after the other, up to the taker's stop or a refusal, and behind the stop what is left
 /// to do. Each share is a call of the gate, and a stop is none.
-pub fn take_shares<R: Wait, M: Memory, C: Calls, P, J: Job<P>>(
+pub fn take_shares<R: Wait, M: Memory, T: Turns, P, J: Job<P>>(
     rt: &R,
     alloc: Global,
-    calls: &C,
+    turns: &T,
     jobs: &Jobs,
     m: &mut M,
     job: &J,
@@ -34,9 +34,9 @@ pub fn take_shares<R: Wait, M: Memory, C: Calls, P, J: Job<P>>(
             taker.end = job.end(m, &taker.part);
             return;
         };
-        calls.before(rt, call);
+        turns.before(rt, call);
         let done = job.share(alloc, m, number, &mut taker.part);
-        calls.after(call);
+        turns.after(call);
         if let Err(refusal) = done {
             taker.end = Err(refusal);
             return;
