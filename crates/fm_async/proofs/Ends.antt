@@ -13,29 +13,7 @@ use Rattle.fm_async.specs.{Closers.{IsClosing}, Ends.{Ends, VisitedAll}, Borrows
 use Rattle.fm_async.specs.Visits.{entries_by, ClosesBy, sweeps_by, Visited}
 use Rattle.fm_async.proofs.{Closers.{can_walk, stepped_closing, visited_closing}, Visits.{visited_once, visited_then}}
 
--- No visit.
-pub visited_none : {pool : Pool} {p : View} {s : Shutting} → IsSound p → CanWalk pool p s → Visited pool p p s s
-visited_none {p = p} {s = s} sound can =
-    let e = can.walks.unfinished in
-    record {
-      goes = subst (λ b. Goes p p (entries_by b p.caller s.arena)) (sym e) (goes_none sound);
-      rest = λ j. record (rest_of p) { sweeps = sweeps_by (sym e j) s.arena p.sweeps };
-      closes = subst (λ b. ClosesBy b s.arena p.closes p.closes) (sym e) refl;
-      arena = refl;
-      stands = subst (λ b. StandsBy b p s) (sym e) can.walks;
-      over = λ f. absurd (cc);
-      outside = can.outside;
-    }
-
 -- ---- while its pass is borrowed
-
--- It has come from where it is.
-pub come_first : (start : Option BorrowView) (c : BorrowView) → start ≡ Some c → IsSound c.pass → CanWalk c.pool c.pass c.shutting
-    → IsClosing c.pool c.pass c.shutting → HasCome start c
-come_first start c e sound can is = record {
-  is = is;
-  came = subst (λ (o : Option BorrowView). IfSome o (λ old. Comes old c)) (sym e) (record { pool = refl; name = refl; visited = visited_none sound can });
-}
 
 -- Whatever it has come from, it comes further by visits.
 comes_on : (start : Option BorrowView) (c d : BorrowView) → d.pool ≡ c.pool → d.name ≡ c.name → c.shutting.ended ≡ false
@@ -93,14 +71,6 @@ closed_by h e = after_walk tt h (finished _ refl e.walked e.swept)
 pub record VisitsAll (pool : Pool) (p q : View) (s t : Shutting) : Type 0 where
   pub is : IsClosing pool q t
   pub onward : (r : View) (u : Shutting) → VisitedAll pool q r t u → VisitedAll pool p r s u
-
--- They begin where they are.
-pub all_starts : {pool : Pool} {p : View} {s : Shutting} → IsClosing pool p s → VisitsAll pool p p s s
-all_starts is = record { is = is; onward = λ r u w. w }
-
--- Where the arena has ended, all are visited.
-pub all_end : {pool : Pool} {p : View} {s : Shutting} → s.ended ≡ true → VisitedAll pool p p s s
-all_end e = record { ended = e; visited = λ f. absurd (cc); none = λ f. (refl, refl) }
 
 -- They go on by one visit.
 pub all_on : {pool : Pool} {o p q : View} {b s t : Shutting} (v : Visit) → VisitsAll pool o p b s → s.ended ≡ false → AfterVisit pool p q s t v

@@ -73,14 +73,6 @@ none_left : {A : Type 0} (xs ys : List A) → length xs ≡ length (xs ++ ys) �
 none_left xs [] e = refl
 none_left xs (y ∷ ys) e = let l = length-append xs (y ∷ ys) in absurd (omega arith)
 
--- Once all were polled, each was.
-pub round_ends : {pool : Pool} {o p : View} {was now : List Waiting} {i : ℕ} → Round pool o p was now i → i ≡ length now → PollsEach pool o p was now
-round_ends {pool = pool} {o = o} {p = p} {was = was} {now = now} r e =
-    let none : r.rest ≡ [] = none_left r.done r.rest (r.at ∙ (e ∙ ap length r.are)) in
-    let olds : r.old ≡ was = sym (r.were ∙ (ap (λ (ws : List Waiting). r.old ++ ws) none ∙ append-nil r.old)) in
-    let news : r.done ≡ now = sym (r.are ∙ (ap (λ (ws : List Waiting). r.done ++ ws) none ∙ append-nil r.done)) in
-    subst (λ (x : List Waiting × List Waiting). PollsEach pool o p x.0 x.1) (λ j. (olds j, news j)) r.each
-
 -- ---- sweeps
 
 -- Those that are left have all ended, and where they are swept too, all are swept

@@ -212,17 +212,6 @@ refused_set {pool = pool} {p = p} {q = q} {id = id} {r = r} ss h set =
       sweeps = let w : length q.sweeps ≡ length p.sweeps = ap (λ (x : Rest). length x.sweeps) h.did.rest in let d = set.sweeps in omega arith;
     }
 
--- Of no arena.
-pub no_set : {pool : Pool} {p : View} → IsSound p → IsOutside pool p → p.closes ≡ [] → p.sweeps ≡ [] → IsSet pool p []
-no_set s o c w = record {
-  sound = s;
-  outside = o;
-  stand = tt;
-  mine = tt;
-  closes = ap length c;
-  sweeps = let l = ap length w in omega arith;
-}
-
 -- ---- all are swept
 
 -- Nothing is swept of none.

@@ -176,10 +176,6 @@ pub record Advancing (pool : Pool) (o p : View) (b s : Shutting) : Type 0 where
   pub can : CanWalk pool p s
   pub onward : (q : View) (t : Shutting) (r : Option ℕ) → Advanced pool p q s t r → Advanced pool o q b t r
 
--- They begin where they are.
-pub advancing_starts : {pool : Pool} {p : View} {s : Shutting} → CanWalk pool p s → Advancing pool p p s s
-advancing_starts can = record { can = can; onward = λ q t r w. w }
-
 -- They go on by a visit that found no mark of the arena.
 pub advancing_on : {pool : Pool} {o p q : View} {b s t : Shutting} → Advancing pool o p b s → AfterVisit pool p q s t Next → Advancing pool o q b t
 advancing_on w a = record {

@@ -9,11 +9,6 @@ use Rattle.fm_segment_access.proofs.{Alone.{Puts, changes}, PuttingAlone.{words_
 use Rattle.fm_top_load.{specs.Held.{IsHeld}, proofs.Holding.{put_still}}
 use Rattle.fm_c_calls.{specs.Held.{StandFirst}, proofs.Words.{AreBytes-bytes_in, first_bytes}}
 
--- No byte stands anywhere.
-pub none_stand : (v : View) (a : ArenaId) (bytes : List ℕ) → IsHeld v a → length bytes ≡ 0 → StandFirst v a bytes
-none_stand v a [] h none = record { held = h; given = omega arith; room = omega arith; stand = refl }
-none_stand v a (b ∷ bytes) h none = absurd (omega arith)
-
 count : (bytes : List ℕ) → length (words_of bytes) ≡ word_count (length bytes)
 count bytes = length-words_from (word_count (length bytes)) bytes
 

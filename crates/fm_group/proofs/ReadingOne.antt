@@ -20,15 +20,6 @@ value_outside c v n (Err r) own h = absurd h.to
 pub read_outside : {x y : View} (v : Valued) (n : ℕ) (r : Result ℤ Refusal) → x.inside ≡ None → Did x y (ReadsValue x.caller v n r) → y.inside ≡ None
 read_outside {x} v n r outside d = d.makes.inside ∙ ap (λ i. inside_after i d.own) outside ∙ value_outside x.caller v n r d.own d.does
 
--- Only `Closed` comes of reading.
-pub read_closed : {x y : View} (v : Valued) (n : ℕ) (r : Refusal) → Did x y (ReadsValue x.caller v n (Err r)) → r ≡ Closed
-read_closed {x} v n r d = by r d.own d.does
-  where
-    by : (e : Refusal) (own : List Entry) → ReadsValue x.caller v n (Err e) own → e ≡ Closed
-    by Closed own h = refl
-    by Memory own h = absurd h.does
-    by e own h = absurd h.to
-
 -- the same, of values that are seen so
 pub read_as : {x y : View} {v u : Valued} (n : ℕ) (r : Result ℤ Refusal) → v ≡ u → Did x y (ReadsValue x.caller v n r) → Did x y (ReadsValue x.caller u n r)
 read_as {x} {y} n r e d = subst (λ (k : Valued). Did x y (ReadsValue x.caller k n r)) e d

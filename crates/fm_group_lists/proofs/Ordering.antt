@@ -49,11 +49,3 @@ not_below x y c d e = go (int_cmp y x) (int_ranks y x) e
 -- Sorted pairs climb.
 pub sorted_climb : (xs : List Group) → IsSortedBy (λ (x y : Group). is_lt (ordering_then (int_cmp x.0 y.0) (nat_cmp x.1 y.1))) xs → IsClimbing xs
 sorted_climb xs s = climbing xs (λ k d low. not_below (get_or xs k d).0 (get_or xs (k + 1) d).0 (get_or xs k d).1 (get_or xs (k + 1) d).1 (s k d (omega arith) low))
-
--- Some in another order are some.
-pub some_order : (xs ys : List Group) → IsPermutation xs ys → ys ≢ [] → xs ≢ []
-some_order xs ys p some none = some (no_items ys (length_permutation xs ys p ∙ ap (λ (zs : List Group). length zs) none))
-  where
-    no_items : (zs : List Group) → length zs ≡ 0 → zs ≡ []
-    no_items [] e = refl
-    no_items (z ∷ zs) e = absurd (omega (arith, e))

@@ -40,10 +40,6 @@ next_after-append Ended (x ∷ xs) ys = sym (not_ended ys)
 next_after-append Stopped (x ∷ xs) ys = sym (not_stopped ys)
 next_after-append (At place) (x ∷ xs) ys = next_after-append (next_by place x.answer) xs ys
 
--- a file is read from a place on by no read yet
-pub ReadsFile-none : (told : Option (List Read)) (name : List ℕ) (most end from : ℕ) → ReadsFile told told name most end from (λ next. next ≡ At from)
-ReadsFile-none told name most end from = record { reads = []; noted = ReadsOn-none told; follow = tt; goes = refl }
-
 -- what was read up to a place, and what was read from there
 pub ReadsFile-append : (old mid new : Option (List Read)) (name : List ℕ) (most end from place : ℕ) (Goes : Next → Type 0)
     → ReadsFile old mid name most end from (λ next. next ≡ At place) → ReadsFile mid new name most end place Goes → ReadsFile old new name most end from Goes

@@ -113,9 +113,3 @@ only_on p m q r a at only is =
     subst (λ (v : View). OnlyIn a (state_in p) (state_in v)) (sym is) (subst (λ (v : View). OnlyIn a (state_in v) (state_in q)) at only)
 
 -- ---- which arenas it knows
-
--- it knows the one that it opened, and what it knew
-pub only_known : {gs : List Gathered} {pool : Pool} {p o : View} {a : ArenaId} (q r : View) (s : Region) → HasOpened gs pool p o a → OnlyIn a (state_in o) (state_in q)
-    → OnlyIn a (state_in q) (state_in r) → s.arena ≡ a → (b : ArenaId) → IsKnown r b → (b ≡ s.arena) ⊎ IsKnown p b
-only_known {p = p} q r s opened first second is b known =
-    subst (λ (x : ArenaId). (b ≡ x) ⊎ IsKnown p b) (sym is) (opened.only b (sym (first.arenas b) ∙ (sym (second.arenas b) ∙ known)))

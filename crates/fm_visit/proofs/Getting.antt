@@ -11,16 +11,6 @@ use Rattle.fm_visit.specs.{Acts.{HasActs}, Runs.{GetsFrom, GetsAs}, Values.{Read
 use Rattle.fm_visit.specs.Runs as runs
 use Rattle.fm_visit.proofs.{Going.{did_then, has}, Learning.{just_act}, Runs.{GetsFind, gets_find}}
 
--- A piece that was read.
-pub part_read : {x y : View} {id : ArenaId} (place width v word : ℕ) → x.inside ≡ Some id → v ≡ lane word (place % 8) width
-    → AfterAct x y (λ a. Read a (place / 8)) (Found word) → ReadsPart x y id place width v
-part_read place width v word inside is a = record {
-  word = word;
-  value = is;
-  did = just_act (λ b. Read b (place / 8)) (Found word) inside a.did;
-  inside = a.inside ∙ inside;
-}
-
 -- It fits its bytes.
 pub part_fits : {x y : View} {id : ArenaId} {place width v : ℕ} → ReadsPart x y id place width v → v < 2 ^ (8 * width)
 part_fits {place = place} {width} {v} p = subst (λ (n : ℕ). n < 2 ^ (8 * width)) (sym p.value) (lane-lt p.word (place % 8) width)

@@ -39,6 +39,3 @@ counted_share k counts number old new more u d sums = record {
   );
   makes = d.makes;
 }
-
-pub can_add_counts : (k : Cut) (counts : Region) (v : View) → v.inside ≡ None → CanTally k counts v → CanAdd v counts
-can_add_counts k counts v outside can = record { outside = outside; known = can.known; may = λ is. absurd (can.shared is); longs = can.longs }
