@@ -8,20 +8,6 @@ use Rattle.fm_rule_facts.specs.Closes.{passed_of, dropped}
 use Rattle.fm_close.specs.declared.shutting.Shutting.{Shutting}
 use Rattle.fm_async.specs.{declared.waiting.Waiting.{Waiting}, Sets.{closes_of, unfinished}}
 
--- The walk of another arena is as far where one arena's is dropped.
-pub passed_of-dropped : {over : Stretch} (cs : List (Walk over)) (a b : ArenaId) → a ≢ b → passed_of (dropped a cs) b ≡ passed_of cs b
-passed_of-dropped [] a b n = refl
-passed_of-dropped (c ∷ cs) a b n =
-    let P : Bool → Type 0 = λ t. same_id c.arena a ≡ t
-    → passed_of (if t then cs else c ∷ dropped a cs) b ≡ (if same_id c.arena b then Some c.passed else passed_of cs b) in
-    let go : (t : Bool) → P t = λ t. elim t as P [
-      | true ↦ (λ e.
-          let f : same_id c.arena b ≡ false = ap (λ i. same_id i b) (same_id-true c.arena a e) ∙ same_id-not a b n in
-          sym (ap (λ t. if t then Some c.passed else passed_of cs b) f))
-      | false ↦ (λ e. ap (λ x. if same_id c.arena b then Some c.passed else x) (passed_of-dropped cs a b n))
-    ] in
-    go (same_id c.arena a) refl
-
 -- Where an arena has a walk, one fewer is left once it is dropped.
 pub length-dropped : {over : Stretch} (cs : List (Walk over)) (a : ArenaId) (k : ℕ) → passed_of cs a ≡ Some k → length (dropped a cs) + 1 ≡ length cs
 length-dropped [] a k e = absurd (cc)

@@ -9,25 +9,16 @@ use Rattle.fm_base_machine.proofs.Putting.{same_id-not}
 use Rattle.fm_gate.{specs.{Needs.{IsOutside}}, proofs.Outside.{made_on}}
 use Rattle.fm_close.specs.{declared.shutting.Shutting.{Shutting}, CloseLaws.{StandsBy, StandTogether}, Does.{IsBack, AreBacks}}
 use Rattle.fm_close.specs.Learnt.{IsUnderWay, IsToSweep, AfterShut, AfterSweep, CanWalk, CanSweep}
-use Rattle.fm_close.proofs.Together.{together}
+use Rattle.fm_close.proofs.{Lasting.{passed_of-dropped}, Together.{all_at, all_put, together}}
 use Rattle.fm_async.specs.{declared.waiting.Waiting.{Waiting}, Visits.{entries_by, ClosesBy, sweeps_by, Visited}}
 use Rattle.fm_async.specs.{Sets.{HasEntries, IsSet, SweepsAll, unfinished}, Polls.{Polls}}
-use Rattle.fm_async.proofs.{Counts.{passed_of-dropped, length-dropped, unfinished-among, length-among, one_left}, Entries.{entries_by_end, entries_stay, in_later, in_own}}
+use Rattle.fm_async.proofs.{Counts.{length-dropped, unfinished-among, length-among, one_left}, Entries.{entries_by_end, entries_stay, in_later, in_own}}
 
 -- ---- one among others
 
 stand_at : (p : View) (us after : List Shutting) (s : Shutting) → StandTogether p (us ++ s ∷ after) → StandsBy s.ended p s
 stand_at p [] after s t = t.0
 stand_at p (u ∷ us) after s t = stand_at p us after s t.2
-
-all_at : {A : Type 0} (P : A → Type 0) (xs ys : List A) (x : A) → AllByRecursion P (xs ++ x ∷ ys) → P x
-all_at P [] ys x h = h.0
-all_at P (z ∷ zs) ys x h = all_at P zs ys x h.1
-
--- So that one is another.
-all_put : {A : Type 0} (P : A → Type 0) (xs ys : List A) (x y : A) → P y → AllByRecursion P (xs ++ x ∷ ys) → AllByRecursion P (xs ++ y ∷ ys)
-all_put P [] ys x y n h = (n, h.1)
-all_put P (z ∷ zs) ys x y n h = (h.0, all_put P zs ys x y n h.1)
 
 all_snoc : {A : Type 0} (P : A → Type 0) (xs : List A) (y : A) → AllByRecursion P xs → P y → AllByRecursion P (xs ++ y ∷ [])
 all_snoc P [] y h n = (n, tt)

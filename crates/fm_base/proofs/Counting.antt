@@ -5,18 +5,11 @@ use Rattle.fm_base_lists.{specs.Among.{IsAmong, AreApart}, proofs.Each.{all_weak
 use Rattle.fm_base.specs.{declared.{caller.Caller.{Caller}, arena_id.ArenaId.{ArenaId}}, Arenas.{State, Arena, arena_of, same_id, word_in, are_one}}
 use Rattle.fm_base.specs.Calls.{Call, Open, Enter, Write, SwapIf, Add, Allocate, Leave, Hold, Unhold, Shut, End, Reply, Fine, Found, Given, Entry}
 use Rattle.fm_base.specs.{Machine.{MayCall, reply_to, change_of, state_by, after, written, words_within}, Histories.{made_by}}
-use Rattle.fm_base.specs.Counting.{adds_to, all_added, OnlyAdds, AddsCount, total, AddsByCallers}
+use Rattle.fm_base.specs.Counting.{LeavesWord, adds_to, all_added, OnlyAdds, AddsCount, total, AddsByCallers}
 use Rattle.fm_base.proofs.{Lookup.{Relates, Same, made_lookup, lookup_changed, arena_of-id}, Names.{same_id-true, same_id-self, are_one-self, are_one-not}}
-use Rattle.fm_base.proofs.{Placing.{there_by_way}, Tidiness.{zeros_at}}
+use Rattle.fm_base.proofs.{Placing.{there_by_way}, Tidiness.{zeros_at}, Weights.{weighs_by_callers}}
 
 -- ---- one word
-
--- whatever the words are, the call leaves this word
-abbrev Leaves : ArenaId → ℕ → Call → Type 0
-Leaves id word (Write a w v) = ¬ ((a ≡ id) × (w ≡ word))
-Leaves id word (SwapIf a w old new) = ¬ ((a ≡ id) × (w ≡ word))
-Leaves id word (Add a w n) = ¬ ((a ≡ id) × (w ≡ word))
-Leaves id word call = ⊤
 
 -- Another word is put.
 other_word : (s : State) (a id : ArenaId) (w v word : ℕ) → ¬ ((a ≡ id) × (w ≡ word)) → (arena_of s a).id ≡ id
@@ -26,7 +19,7 @@ other_word s a id w v word other e =
 
 module _ (limit : ℕ) (s : State) (c : Caller) where
   -- A call that leaves the word.
-  word_by : (call : Call) (reply : Reply) (id : ArenaId) (word : ℕ) → Leaves id word call
+  word_by : (call : Call) (reply : Reply) (id : ArenaId) (word : ℕ) → LeavesWord id word call
       → Relates (Same (λ a. slice_index a.words word) id) s (change_of limit c call reply)
   unfolding Same
   word_by (Open a) reply id word leaves = λ e. zeros_at (words_within limit) word
@@ -48,7 +41,7 @@ module _ (limit : ℕ) (s : State) (c : Caller) where
   word_by call reply id word leaves = tt
 
   -- So it stays where it is looked up.
-  word_still : (call : Call) (reply : Reply) (id : ArenaId) (word : ℕ) → Leaves id word call
+  pub word_still : (call : Call) (reply : Reply) (id : ArenaId) (word : ℕ) → LeavesWord id word call
       → word_in (state_by limit s c call reply) id word ≡ word_in s id word
   unfolding Same
   word_still call reply id word leaves =
@@ -60,7 +53,7 @@ abbrev IsAddTo : ArenaId → ℕ → Call → Type 0
 IsAddTo id word call = (n : ℕ) × (call ≡ Add id word n) × (adds_to id word call ≡ n)
 
 -- A call that only adds leaves the word, or is an Add to it.
-leaves_or_adds : (id : ArenaId) (word : ℕ) (call : Call) → OnlyAdds id word call → ((adds_to id word call ≡ 0) × Leaves id word call) ⊎ IsAddTo id word call
+leaves_or_adds : (id : ArenaId) (word : ℕ) (call : Call) → OnlyAdds id word call → ((adds_to id word call ≡ 0) × LeavesWord id word call) ⊎ IsAddTo id word call
 leaves_or_adds id word (Write a w v) only = inl (refl, only)
 leaves_or_adds id word (SwapIf a w old new) only = inl (refl, only)
 leaves_or_adds id word (Add a w n) only =
@@ -122,53 +115,10 @@ counted limit s (e ∷ es) id word legal small only =
 
 -- ---- by callers
 
-total_same : (f g : Caller → ℕ) (cs : List Caller) → ((c : Caller) → IsAmong c cs → g c ≡ f c) → total g cs ≡ total f cs
-total_same f g [] same = refl
-total_same f g (c ∷ cs) same = omega (arith, same c (inl refl), total_same f g cs (λ d i. same d (inr i)))
-
--- Where one who stands once in a list has k more, the total is k more.
-total_more : (f g : Caller → ℕ) (c : Caller) (k : ℕ) (cs : List Caller) → g c ≡ k + f c → ((d : Caller) → c ≢ d → g d ≡ f d)
-    → IsAmong c cs → AreApart cs → total g cs ≡ k + total f cs
-total_more f g c k [] more same i apart = absurd i
-total_more f g c k (d ∷ ds) more same (inl is) apart =
-    let first = subst (λ (x : Caller). g x ≡ k + f x) is more in
-    omega (arith, first, total_same f g ds (λ x i. same x (λ e. apart.0 (subst (λ (y : Caller). IsAmong y ds) (sym e ∙ is) i))))
-total_more f g c k (d ∷ ds) more same (inr i) apart =
-    let first = same d (λ e. apart.0 (subst (λ (x : Caller). IsAmong x ds) e i)) in
-    omega (arith, first, total_more f g c k ds more same i apart.1)
-
--- what a caller added, where an entry stands before the others
-added_first : (id : ArenaId) (word : ℕ) (c : Caller) (e : Entry) (es : List Entry)
-    → all_added id word (made_by c (e ∷ es)) ≡ (if are_one e.caller c then adds_to id word e.call else 0) + all_added id word (made_by c es)
-added_first id word c e es =
-    elim (are_one e.caller c) as (λ b. all_added id word (cond b (e ∷ made_by c es) (made_by c es))
-    ≡ (if b then adds_to id word e.call else 0) + all_added id word (made_by c es)) [
-      | true ↦ refl
-      | false ↦ omega arith
-    ]
-
-none_made : (id : ArenaId) (word : ℕ) (cs : List Caller) → total (λ c. all_added id word (made_by c [])) cs ≡ 0
-none_made id word [] = refl
-none_made id word (c ∷ cs) = omega (arith, none_made id word cs)
-
 -- What was added is the sum of what each of these callers added, where others add nothing.
 pub added_by : (id : ArenaId) (word : ℕ) (es : List Entry) (cs : List Caller) → AreApart cs
     → AllByRecursion (λ e. IsAmong e.caller cs ⊎ (adds_to id word e.call ≡ 0)) es → all_added id word es ≡ total (λ c. all_added id word (made_by c es)) cs
-added_by id word [] cs apart h = sym (none_made id word cs)
-added_by id word (e ∷ es) cs apart h =
-    let k = adds_to id word e.call in
-    let before : Caller → ℕ = λ c. all_added id word (made_by c es) in
-    let now : Caller → ℕ = λ c. all_added id word (made_by c (e ∷ es)) in
-    let counts : (c : Caller) (b : Bool) → are_one e.caller c ≡ b → now c ≡ (if b then k else 0) + before c =
-    λ c b t. added_first id word c e es ∙ ap (λ x. (if x then k else 0) + before c) t in
-    let one : total now cs ≡ k + total before cs = elim h.0 [
-      | inl i ↦ total_more before now e.caller k cs (counts e.caller true (are_one-self e.caller))
-          (λ d n. counts d false (are_one-not e.caller d n) ∙ omega arith) i apart
-      | inr none ↦ total_same before now cs (λ c i. added_first id word c e es
-          ∙ elim (are_one e.caller c) as (λ b. (if b then k else 0) + before c ≡ before c) [ true ↦ omega (arith, none) | false ↦ omega arith ])
-          ∙ omega (arith, none)
-    ] in
-    omega (arith, added_by id word es cs apart h.1, one)
+added_by id word = weighs_by_callers (λ e. adds_to id word e.call)
 
 -- What was added is the sum of what each caller added.
 pub by_callers : AddsByCallers

@@ -1,4 +1,5 @@
 pub mod Names
+pub mod Either
 pub mod Lookup
 pub mod Making
 pub mod Growing
@@ -13,5 +14,6 @@ pub mod Outcomes
 pub mod Alone
 pub mod Learning
 pub mod Untouched
+pub mod Weights
 pub mod Counting
 pub mod Rows

@@ -1,5 +1,5 @@
 -- When two names of arenas are one.
-use Rattle.std.proofs.{Common.{◌≡◌, ◌≢◌, ℕ, ◌==◌, Bool, true, false, refl, arith}, lemmas.Bool.Decides.{nat_tests}}
+use Rattle.std.proofs.{Common.{◌≡◌, ◌≢◌, ℕ, ◌==◌, Bool, true, false, refl, subst, arith}, lemmas.Bool.Decides.{nat_tests}}
 use Rattle.fm_base.specs.declared.{caller.Caller.{Caller}, arena_id.ArenaId.{ArenaId}, kind.Kind.{Kind, TheVariants.{Global, Automatic, Confined, Shared}}}
 use Rattle.fm_base.specs.Arenas.{same_id, kind_number, are_one}
 
@@ -14,6 +14,10 @@ not_true false n = refl
 -- a caller is the same as itself
 pub are_one-self : (c : Caller) → are_one c c ≡ true
 are_one-self c = rw (eqb_same c.number, eqb_same c.term) refl
+
+-- callers that are equal pass the test
+pub are_one-equal : (c d : Caller) → c ≡ d → are_one c d ≡ true
+are_one-equal c d e = subst (λ (x : Caller). are_one c x ≡ true) e (are_one-self c)
 
 -- callers that pass the test are equal
 pub are_one-true : (c d : Caller) → are_one c d ≡ true → c ≡ d

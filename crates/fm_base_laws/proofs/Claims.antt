@@ -5,7 +5,8 @@ use Rattle.fm_base.specs.{declared.{caller.Caller.{Caller}, arena_id.ArenaId.{Ar
 use Rattle.fm_base.specs.Calls.{Call, Write, SwapIf, Add, Reply, Found, Entry}
 use Rattle.fm_base.specs.{Machine.{MayCall, reply_to, state_by, after, swapped}, Histories.{IsLegal, state_after}}
 use Rattle.fm_base.proofs.{Lookup.{lookup_changed}, Names.{same_id-true, same_id-self}, Placing.{there_by_way}}
-use Rattle.fm_base_laws.{specs.{Claims.{ClaimedBySome, ClaimsStand, OnlyClaims, claimed_as, claims_by}, Left.{LeavesWord}}, proofs.Left.{still}}
+use Rattle.fm_base.specs.Counting.{LeavesWord}
+use Rattle.fm_base_laws.{specs.Claims.{ClaimedBySome, ClaimsStand, OnlyClaims, claimed_as, claims_by}, proofs.Left.{still}}
 
 -- the call tries to claim the word
 abbrev IsClaimOf : ArenaId → ℕ → Call → Type 0

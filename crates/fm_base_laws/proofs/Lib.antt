@@ -3,4 +3,3 @@ pub mod Counts
 pub mod Own
 pub mod Left
 pub mod Claims
-pub mod Weights

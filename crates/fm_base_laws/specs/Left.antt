@@ -1,14 +1,7 @@
 -- Words that calls leave, whatever stands there.
-use Rattle.std.specs.{Prelude.{◌≡◌, ℕ, List, ⊤}, List.{AllByRecursion}}
+use Rattle.std.specs.{Prelude.{◌≡◌, ℕ, List}, List.{AllByRecursion}}
 use Rattle.fm_base.specs.{declared.{arena_id.ArenaId.{ArenaId}}, Arenas.{State, word_in}}
-use Rattle.fm_base.specs.{Calls.{Call, Read, Write, SwapIf, Add, Found, Entry}, Histories.{IsLegal, state_after}}
-
--- the call writes nothing to the word
-abbrev pub LeavesWord : ArenaId → ℕ → Call → Type 0
-LeavesWord id word (Write a w v) = ¬ ((a ≡ id) × (w ≡ word))
-LeavesWord id word (SwapIf a w old new) = ¬ ((a ≡ id) × (w ≡ word))
-LeavesWord id word (Add a w n) = ¬ ((a ≡ id) × (w ≡ word))
-LeavesWord id word call = ⊤
+use Rattle.fm_base.specs.{Calls.{Read, Found, Entry}, Counting.{LeavesWord}, Histories.{IsLegal, state_after}}
 
 -- where the entry reads the word, it finds this
 abbrev pub FindsWord : ArenaId → ℕ → ℕ → Entry → Type 0

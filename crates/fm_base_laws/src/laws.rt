@@ -1,9 +1,9 @@
+ghost use Rattle.fm_base.specs.Counting.{WeighsByCallers};
 ghost use Rattle.fm_base_laws.specs.Claims.{ClaimedBySome, ClaimsStand};
 ghost use Rattle.fm_base_laws.specs.Counts.{GivenStays, StaysUnheld};
 ghost use Rattle.fm_base_laws.specs.Left.{LeftIsFound};
 ghost use Rattle.fm_base_laws.specs.Opened.{OpenedInOrder};
 ghost use Rattle.fm_base_laws.specs.Own.{OwnDecide};
-ghost use Rattle.fm_base_laws.specs.Weights.{WeighsByCallers};
 
 /// The arenas of a state are those that were opened, in that order.
 pub fn opened_in_order()

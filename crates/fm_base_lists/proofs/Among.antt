@@ -1,6 +1,7 @@
 -- What stands in lists that were put together, mapped or filtered.
-use Rattle.std.{proofs.Common.{◌≡◌, Bool, true, false, List, [], ◌∷◌, ◌++◌, map, refl, ap, sym, subst, cond, ◌⊎◌, inl, inr, ◌∙◌}, specs.Prelude.{filter}}
+use Rattle.std.{proofs.Common.{◌≡◌, Bool, true, false, List, [], ◌∷◌, ◌++◌, map, refl, ap, sym, subst, cond, ◌⊎◌, inl, inr, ◌∙◌}, specs.{Prelude.{filter}, List.{AllByRecursion}}}
 use Rattle.fm_base_lists.specs.Among.{IsAmong}
+use Rattle.fm_base_lists.proofs.Each.{all_among, all_of_among}
 
 -- In the first of two.
 pub among_left : {A : Type 0} (x : A) (xs ys : List A) → IsAmong x xs → IsAmong x (xs ++ ys)
@@ -41,6 +42,10 @@ among_kept {A} p x (y ∷ ys) h =
       | false ↦ (λ w. inr (among_kept p x ys w))
     ] in
     go (p y) h
+
+-- What holds of each of a list holds of each that is kept.
+pub all_filtered : {X : Type 0} (P : X → Type 0) (q : X → Bool) (xs : List X) → AllByRecursion P xs → AllByRecursion P (filter q xs)
+all_filtered P q xs h = all_of_among P (filter q xs) (λ x a. all_among P x xs h (among_kept q x xs a))
 
 -- Two functions, one after the other, that make the same of each element as a third.
 pub map_among : {A B C : Type 0} (f : B → C) (g : A → B) (h : A → C) (xs : List A) → ((x : A) → IsAmong x xs → f (g x) ≡ h x) → map f (map g xs) ≡ map h xs

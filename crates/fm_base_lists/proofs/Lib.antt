@@ -1,3 +1,4 @@
 pub mod Among
 pub mod Each
 pub mod Mapped
+pub mod Ranges

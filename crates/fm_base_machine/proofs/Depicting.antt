@@ -12,7 +12,8 @@ use Rattle.fm_base.proofs.Lookup.{KeepsName, lookup_changed, changed_has, has_ar
 use Rattle.fm_base.proofs.{Growing.{there_by_life}, Placing.{there_by_way}}
 use Rattle.fm_base_machine.specs.Functions.{Stage, Lives, Closes, Over, stage_of, put, put_at, put_by, Machine, moved, Depicts}
 use Rattle.fm_base_machine.specs.Steps.{opening, moved_by, AlwaysDepicts}
-use Rattle.fm_base_machine.proofs.Putting.{some_is, at_changed, stays_changed, zeros, put_here, put_else, at_here, at_else, by_here, by_else, are_one-equal, one_caller, by_name, changed_else, opened_else, has_else, contains_cases, contains_first, contains_more, kept_contains, contains_kept}
+use Rattle.fm_base.proofs.Names.{are_one-equal}
+use Rattle.fm_base_machine.proofs.Putting.{some_is, at_changed, stays_changed, zeros, put_here, put_else, at_here, at_else, by_here, by_else, one_caller, by_name, changed_else, opened_else, has_else, contains_cases, contains_first, contains_more, kept_contains, contains_kept}
 
 -- ---- an arena is changed
 

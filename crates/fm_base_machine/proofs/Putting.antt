@@ -53,10 +53,6 @@ module _ {A : Type 0} where
   unfolding put_by
   by_else f c x d n = ap (λ b. if b then x else f d) (are_one-not d c n)
 
--- callers that are equal pass the test
-pub are_one-equal : (c d : Caller) → c ≡ d → are_one c d ≡ true
-are_one-equal c d e = subst (λ (x : Caller). are_one c x ≡ true) e (are_one-self c)
-
 -- two callers are one or not
 pub one_caller : (c d : Caller) → Dec (c ≡ d)
 one_caller c d =

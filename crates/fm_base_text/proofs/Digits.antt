@@ -7,7 +7,7 @@ use Rattle.fm_base_text.specs.Hex.{hex_text}
 use Rattle.hex.{specs.Hex.{encode_lower, encode_with, lower_digits}, proofs.HexLemmas.{IsAscii-encode_with}}
 
 -- bytes that were tested are ASCII
-ascii_tested : (bs : List ℕ) → list_all (λ b. nat_lt b 128) bs ≡ true → IsAscii bs
+pub ascii_tested : (bs : List ℕ) → list_all (λ b. nat_lt b 128) bs ≡ true → IsAscii bs
 ascii_tested [] t = IsAscii-nil
 ascii_tested (b ∷ bs) t = let p = and_parts _ _ t in IsAscii-cons b bs (ltb-true b 128 p.0) (ascii_tested bs p.1)
 

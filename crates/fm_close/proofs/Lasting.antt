@@ -27,7 +27,7 @@ passed_of-other (c ∷ cs) a b n =
     go (same_id c.arena a) refl
 
 -- So where that other one is dropped.
-passed_of-dropped : {over : Stretch} (cs : List (Walk over)) (a b : ArenaId) → a ≢ b → passed_of (dropped a cs) b ≡ passed_of cs b
+pub passed_of-dropped : {over : Stretch} (cs : List (Walk over)) (a b : ArenaId) → a ≢ b → passed_of (dropped a cs) b ≡ passed_of cs b
 passed_of-dropped [] a b n = refl
 passed_of-dropped (c ∷ cs) a b n =
     let P : Bool → Type 0 = λ t. same_id c.arena a ≡ t

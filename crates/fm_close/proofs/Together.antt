@@ -74,11 +74,11 @@ module _ {pool : Pool} {p q : View} {id : ArenaId} {s : Shutting} (h : AfterShut
 
 -- ---- one of a list is another
 
-all_at : {A : Type 0} (P : A → Type 0) (xs ys : List A) (x : A) → AllByRecursion P (xs ++ x ∷ ys) → P x
+pub all_at : {A : Type 0} (P : A → Type 0) (xs ys : List A) (x : A) → AllByRecursion P (xs ++ x ∷ ys) → P x
 all_at P [] ys x h = h.0
 all_at P (z ∷ zs) ys x h = all_at P zs ys x h.1
 
-all_put : {A : Type 0} (P : A → Type 0) (xs ys : List A) (x y : A) → P y → AllByRecursion P (xs ++ x ∷ ys) → AllByRecursion P (xs ++ y ∷ ys)
+pub all_put : {A : Type 0} (P : A → Type 0) (xs ys : List A) (x y : A) → P y → AllByRecursion P (xs ++ x ∷ ys) → AllByRecursion P (xs ++ y ∷ ys)
 all_put P [] ys x y n h = (n, h.1)
 all_put P (z ∷ zs) ys x y n h = (h.0, all_put P zs ys x y n h.1)
 

@@ -1,30 +1,20 @@
 -- What a crew's shares come to, where nobody else changes the table's words or the records' bytes.
 use Rattle.std.proofs.Common.{◌≡◌, ℕ, zero, suc, ◌+◌, ◌-◌, ◌/◌, ◌^◌, ◌<◌, ◌≤◌, ◌==◌, ◌&&◌, if◌then◌else◌, Bool, true, false, List, [], ◌∷◌, ◌++◌, length, map, refl, sym, ap, ◌∙◌, subst, inl, inr, ◌⊎◌, ⊎_elim, arith, Option, Some, None, Result, Ok, Err}
 use Rattle.std.{specs.{Prelude.{ℤ, filter}, List.{AllByRecursion, AllZip, range_with_len}}, proofs.Math.Nat.{div-mul-le_self, mul-le-mul_left}, proofs.lemmas.{Bool.{cases_lt, Decides.{nat_tests}}, List.{map-append}, List.FromFn.{length-map-range_with_len}}}
-use Rattle.fm_base_lists.{specs.Among.{IsAmong}, proofs.{Among.{among_kept, among_map}, Each.{all_among, all_both, all_of_among, all_weaker}}}
+use Rattle.fm_base_lists.{specs.Among.{IsAmong}, proofs.{Among.{all_filtered, among_kept, among_map}, Each.{all_among, all_both, all_of_among, all_weaker}, Ranges.{range_append}}}
 use Rattle.fm_base.specs.{declared.{arena_id.ArenaId.{ArenaId}, caller.Caller.{Caller}, refusal.Refusal.{Refusal, TheVariants.{TableFull}}}, Arenas.{State, are_one, same_id, word_in}, Calls.{Call, Add, Entry, Found, Reply, SwapIf, Write}}
 use Rattle.fm_base.{specs.{Counting.{OnlyAdds, adds_to, total}, Histories.{made_by}, Untouched.{Spares}}, proofs.Counting.{counted as word_counted}}
 use Rattle.fm_base.proofs.Names.{same_id-true}
-use Rattle.fm_base_laws.{specs.{Claims.{LeavesAs, OnlyClaims, all_claims, claims_by}, Left.{LeavesWord}, Weights.{weighed}}, proofs.{Claims.{claimed_by_some, claims_stand}, Weights.{weighs_by_callers}}}
+use Rattle.fm_base.{specs.Counting.{LeavesWord, weighed}, proofs.{Either.{by_either}, Weights.{weighs_by_callers}}}
+use Rattle.fm_base_laws.{specs.Claims.{LeavesAs, OnlyClaims, all_claims, claims_by}, proofs.Claims.{claimed_by_some, claims_stand}}
 use Rattle.fm_records.{specs.{Alone.{bytes_at_places}, Shares.{IsSpared}}, proofs.{AnsweringBytes.{length-places}, Sharing.{spared_found}}}
 use Rattle.fm_group_lists.{specs.{Groups.{AreGroups, AreSummed, Group}, Settled.{AreSettled, named_below, times_of}}, proofs.Summing.{groups}}
 use Rattle.fm_group.specs.{Values.{all_numbers, count_of, number_in}, Table.{Counter, claim_word, count_word, named_by, places_in}}
 use Rattle.fm_group_laws.specs.Laws.{CountsAreGroups, NeverFull}
 use Rattle.fm_group_laws.specs.{Shares.{AreCounting, last_word, AreLined, AreShared, DoesShare, IsElsewhere, NobodyElseCounts, Share}, Standing.{Fit, claims_to, key_at, number_if}, Touching.{Touches}}
 use Rattle.fm_group.proofs.{Naming.{named_one as is_below}, Ordinals.{by_ordinal}}
-use Rattle.fm_group_laws.proofs.{Either.{by_either}, Sharing.{counted_adds, counted_settle, full_share, share_claims, share_full, share_touch, times_of-append, zip_both}}
-use Rattle.fm_group_laws.proofs.{Trying.{touch_adds, touch_claims, touch_spares}, Weighing.{added_is, bit}}
-
-range_append : (a m n : ℕ) → range_with_len a (m + n) ≡ range_with_len a m ++ range_with_len (a + m) n
-range_append a zero n =
-    let at : a + 0 ≡ a = omega arith in
-    let all : 0 + n ≡ n = omega arith in
-    ap (λ k. range_with_len a k) all ∙ ap (λ k. range_with_len k n) (sym at)
-range_append a (suc m) n =
-    let count : suc m + n ≡ suc (m + n) = omega arith in
-    let there : a + 1 + m ≡ a + suc m = omega arith in
-    ap (λ k. range_with_len a k) count ∙ ap (λ (ks : List ℕ). a ∷ ks) (range_append (a + 1) m n)
-    ∙ ap (λ k. a ∷ range_with_len (a + 1) m ++ range_with_len k n) there
+use Rattle.fm_group_laws.proofs.{Sharing.{counted_adds, counted_settle, full_share, share_claims, share_full, share_touch, times_of-append, zip_both}}
+use Rattle.fm_group_laws.proofs.{Trying.{touch_adds, touch_claims, touch_spares}, Weighing.{bit}}
 
 -- ---- words that others leave
 
@@ -161,9 +151,6 @@ claims_sum w es (suc m) h =
     let one = h m (omega arith) in
     omega (arith, step, rest, one)
 
-pub filtered : {X : Type 0} (P : X → Type 0) (q : X → Bool) (xs : List X) → AllByRecursion P xs → AllByRecursion P (filter q xs)
-filtered P q xs h = all_of_among P (filter q xs) (λ x a. all_among P x xs h (among_kept q x xs a))
-
 -- ---- where nobody else touched the table or the records
 
 module _ (limit : ℕ) (now : State) (w : Counter) (es : List Entry) (cs : List Caller) (bs : List Share) (rs : List (Result (Unit {0}) Refusal))
@@ -195,7 +182,7 @@ module _ (limit : ℕ) (now : State) (w : Counter) (es : List Entry) (cs : List 
   -- Each caller's entries fit what is left.
   pub fits : (c : Caller) → Fit w bytes word (made_by c es)
   fits c = record {
-    claims = λ p within. filtered (LeavesAs w.table.arena (claim_word w.table p) (word (claim_word w.table p))) (λ e. are_one e.caller c) es
+    claims = λ p within. all_filtered (LeavesAs w.table.arena (claim_word w.table p) (word (claim_word w.table p))) (λ e. are_one e.caller c) es
         (claims_stand limit now es w.table.arena (claim_word w.table p) h.legal (only_claims p within));
     finds = spared_found limit now es w.values.records c spared;
   }
@@ -278,13 +265,12 @@ module _ (limit : ℕ) (now : State) (w : Counter) (es : List Entry) (cs : List 
       let low : word_in now w.table.arena (count_word w.table p) < 2 ^ 64 = let z = h.no_count p within in omega (arith, z) in
       let last = word_counted limit now es w.table.arena (count_word w.table p) h.legal low (only_adds p within) in
       let zero_there = h.no_count p within in
-      let is = added_is w.table.arena (count_word w.table p) es in
       let by = weighs_by_callers (λ e. adds_to w.table.arena (count_word w.table p) e.call) es cs h.apart
       (all_weaker (λ e. IsAmong e.caller cs ⊎ IsElsewhere w e.call) (λ e. IsAmong e.caller cs ⊎ (adds_to w.table.arena (count_word w.table p) e.call ≡ 0))
       (λ e k. ⊎_elim (λ i. inl i) (λ (o : IsElsewhere w e.call). inr (leaves_unadded w.table.arena (count_word w.table p) e.call (o.counts p within))) k) es h.others) in
       let sum = adds p in
       let most = times_most p at in
-      omega (arith, last, zero_there, is, by, sum, most, long, few)
+      omega (arith, last, zero_there, by, sum, most, long, few)
 
   among_range : (m from count : ℕ) → from ≤ m → m < from + count → IsAmong m (range_with_len from count)
   among_range m from zero low below = absurd (omega (arith, low, below))

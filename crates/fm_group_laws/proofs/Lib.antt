@@ -1,5 +1,4 @@
 pub mod Crewing
-pub mod Either
 pub mod Settling
 pub mod Sharing
 pub mod Trying

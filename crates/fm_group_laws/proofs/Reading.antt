@@ -1,13 +1,14 @@
 -- What is read of a table that nobody else changes is what stands there.
 use Rattle.std.proofs.Common.{◌≡◌, ◌⊎◌, ℕ, suc, ◌+◌, ◌<◌, ◌≤◌, List, [], ◌∷◌, ◌++◌, length, refl, sym, ap, ◌∙◌, subst, inr, arith, Ok}
 use Rattle.std.{specs.{List.{AllByRecursion}}}
-use Rattle.fm_base_lists.{specs.Among.{IsAmong}, proofs.Each.{all_both, all_split, all_weaker}}
+use Rattle.fm_base_lists.{specs.Among.{IsAmong}, proofs.{Among.{all_filtered}, Each.{all_both, all_split, all_weaker}}}
 use Rattle.fm_base.specs.{declared.caller.Caller.{Caller}, Arenas.{are_one, word_in}, Calls.{Call, Enter, Entry, Leave, Read}, Histories.{made_by}, Untouched.{Spares}}
-use Rattle.fm_base_laws.{specs.Left.{FindsWord, LeavesWord}, proofs.Left.{left_is_found}}
+use Rattle.fm_base.{specs.Counting.{LeavesWord}, proofs.Either.{by_either}}
+use Rattle.fm_base_laws.{specs.Left.{FindsWord}, proofs.Left.{left_is_found}}
 use Rattle.fm_records.{specs.{Alone.{bytes_at_places}, Bytes.{FindAs}, Shares.{IsSpared}}, proofs.{AnsweringBytes.{length-places}, Sharing.{spared_found}}}
 use Rattle.fm_group_lists.specs.{Groups.{AreSummed, Group}, Settled.{named, named_below}}
 use Rattle.fm_group.{specs.{Reading.{DoesReadGroups, ReadsBelow, ReadsPlace, both_seen, free, none_read, one_read, taken}, Table.{Counter, claim_word, count_word, named_by, places_in}, Values.{AreValued}}, proofs.Naming.{named_one}}
-use Rattle.fm_group_laws.{specs.{Laws.{ReadAsItStands, ReadByItself}, Shares.{IsElsewhere, NobodyElseCounts}, Standing.{key_at, number_if}, Touching.{IsIdle}}, proofs.{Crewing.{filtered}, Either.{by_either}, Settling.{value_by}, Trying.{value_idle}}}
+use Rattle.fm_group_laws.{specs.{Laws.{ReadAsItStands, ReadByItself}, Shares.{IsElsewhere, NobodyElseCounts}, Standing.{key_at, number_if}, Touching.{IsIdle}}, proofs.{Settling.{value_by}, Trying.{value_idle}}}
 
 -- ---- a reading changes nothing
 
@@ -91,10 +92,10 @@ read_stands limit now w es c gs can legal others d =
       spared = λ place from below. all_weaker (λ e. IsElsewhere w e.call) (λ e. Spares w.values.records.arena place e.call) (λ e o. o.records place from below) es all;
     } in
     let finds : Finds w (bytes_at_places now w.values.records) (word_in now w.table.arena) (made_by c es) = record {
-      claims = λ p within. filtered (FindsWord w.table.arena (claim_word w.table p) (word_in now w.table.arena (claim_word w.table p))) (λ e. are_one e.caller c) es
+      claims = λ p within. all_filtered (FindsWord w.table.arena (claim_word w.table p) (word_in now w.table.arena (claim_word w.table p))) (λ e. are_one e.caller c) es
           (left_is_found limit now es w.table.arena (claim_word w.table p) legal
           (all_weaker (λ e. IsElsewhere w e.call) (λ e. LeavesWord w.table.arena (claim_word w.table p) e.call) (λ e o. o.claims p within) es all)).1;
-      counts = λ p within. filtered (FindsWord w.table.arena (count_word w.table p) (word_in now w.table.arena (count_word w.table p))) (λ e. are_one e.caller c) es
+      counts = λ p within. all_filtered (FindsWord w.table.arena (count_word w.table p) (word_in now w.table.arena (count_word w.table p))) (λ e. are_one e.caller c) es
           (left_is_found limit now es w.table.arena (count_word w.table p) legal
           (all_weaker (λ e. IsElsewhere w e.call) (λ e. LeavesWord w.table.arena (count_word w.table p) e.call) (λ e o. o.counts p within) es all)).1;
       finds = spared_found limit now es w.values.records c spared;

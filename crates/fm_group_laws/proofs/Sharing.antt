@@ -2,8 +2,7 @@
 use Rattle.std.proofs.Common.{◌≡◌, ◌≢◌, ℕ, ◌+◌, ◌-◌, ◌<◌, ◌≤◌, List, [], ◌∷◌, ◌++◌, length, map, refl, sym, ap, ◌∙◌, subst, arith, Some, Result, Ok, Err}
 use Rattle.std.{specs.{Prelude.{ℤ}, List.{AllByRecursion, AllZip, range_with_len}}, proofs.lemmas.{List.FromFn.{map-range_with_len_more}}}
 use Rattle.fm_base_lists.{proofs.Each.{all_both}}
-use Rattle.fm_base.specs.{declared.{caller.Caller.{Caller}, refusal.Refusal.{Refusal, TheVariants.{TableFull}}}, Calls.{Entry}, Counting.{adds_to}}
-use Rattle.fm_base_laws.specs.{Weights.{weighed}}
+use Rattle.fm_base.specs.{declared.{caller.Caller.{Caller}, refusal.Refusal.{Refusal, TheVariants.{TableFull}}}, Calls.{Entry}, Counting.{adds_to, weighed}}
 use Rattle.fm_group_lists.specs.{Settled.{times_of}}
 use Rattle.fm_group.specs.{Values.{AreValued, count_of, number_in}, Table.{Counter, claim_word, count_word, places_in}}
 use Rattle.fm_group_laws.specs.{Shares.{CountsTo, DoesShare, none_counted, one_counted}, Standing.{Fit, claims_to, key_at}, Touching.{Touches}}

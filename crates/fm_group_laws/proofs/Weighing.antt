@@ -2,10 +2,10 @@
 use Rattle.std.proofs.Common.{◌≡◌, ◌≢◌, ℕ, zero, suc, ◌+◌, ◌≤◌, ◌==◌, ◌&&◌, Bool, true, false, if◌then◌else◌, List, [], ◌∷◌, ◌++◌, refl, ap, ◌∙◌, ⊎_elim, arith, Some, Result, Ok, Err}
 use Rattle.std.{specs.{Prelude.{ℤ}, List.{AllByRecursion}}, proofs.lemmas.Bool.Decides.{nat_tests}}
 use Rattle.fm_base.specs.{declared.{arena_id.ArenaId.{ArenaId}, caller.Caller.{Caller}, refusal.Refusal.{Refusal, TheVariants.{Closed, TableFull, WrongThread}}}, Arenas.{same_id}}
-use Rattle.fm_base.specs.{Calls.{Add, Call, Enter, Entry, Found, Leave, Reply, SwapIf, Write}, Counting.{adds_to, all_added}, Visits.{refused_visit}}
+use Rattle.fm_base.specs.{Calls.{Add, Call, Enter, Entry, Found, Leave, Reply, SwapIf, Write}, Counting.{adds_to, weighed}, Visits.{refused_visit}}
 use Rattle.fm_base.specs.Calls as machine
 use Rattle.fm_base.proofs.Names.{same_id-self}
-use Rattle.fm_base_laws.specs.{Claims.{claims_by}, Weights.{weighed}}
+use Rattle.fm_base_laws.specs.{Claims.{claims_by}}
 use Rattle.fm_group.specs.{Values.{Valued}, Table.{Counter, claim_word, count_word, named_by, places_in, tried_at}}
 use Rattle.fm_group.specs.Counting.{CountsAt, DoesCount, DoesTries, EndsTries, FindsClaim, PassesBy, PassesFirst, ReadsAndTries, ReadsValue, StopsAt, add_one, claim_try, claims, meets, none_yet, one_more, other, shut, uncounted, unnamed, unread}
 use Rattle.fm_group_laws.{specs.{Standing.{claims_to}, Touching.{IsIdle}}, proofs.Trying.{value_idle}}
@@ -25,10 +25,6 @@ weighed_idle f none (e ∷ own) h = let a = none e h.0 in let b = weighed_idle f
 
 abbrev adds_of : Counter → ℕ → Entry → ℕ
 adds_of w q e = adds_to w.table.arena (count_word w.table q) e.call
-
-pub added_is : (id : ArenaId) (word : ℕ) (es : List Entry) → all_added id word es ≡ weighed (λ e. adds_to id word e.call) es
-added_is id word [] = refl
-added_is id word (e ∷ es) = let h = added_is id word es in omega (arith, h)
 
 idle_adds_none : (id : ArenaId) (word : ℕ) (call : Call) → IsIdle call → adds_to id word call ≡ 0
 idle_adds_none id word (Add a k n) i = absurd i

@@ -1,7 +1,6 @@
 -- Shares of ordinals, each counted by a caller of its own.
 use Rattle.std.specs.{Prelude.{◌≡◌, ◌⊎◌, ℕ, ◌+◌, ◌<◌, ◌≤◌, List, [], ◌∷◌, ◌++◌, Result, Ok, Err, ⊤}, List.{AllByRecursion}}
-use Rattle.fm_base.specs.{declared.{caller.Caller.{Caller}, refusal.Refusal.{Refusal}}, Calls.{Call, Entry}, Arenas.{State, word_in}, Histories.{IsLegal, made_by, state_after}, Untouched.{Spares}}
-use Rattle.fm_base_laws.specs.{Left.{LeavesWord}}
+use Rattle.fm_base.specs.{declared.{caller.Caller.{Caller}, refusal.Refusal.{Refusal}}, Calls.{Call, Entry}, Arenas.{State, word_in}, Histories.{IsLegal, made_by, state_after}, Counting.{LeavesWord}, Untouched.{Spares}}
 use Rattle.fm_base_lists.specs.Among.{AreApart, IsAmong}
 use Rattle.fm_group.specs.{Counting.{DoesCount}, Table.{CanTable, Counter, claim_word, count_word, places_in}, Values.{count_of}}
 

@@ -3,17 +3,7 @@ use Rattle.std.proofs.Common.{◌≡◌, ℕ, zero, suc, ◌+◌, ◌*◌, ◌/�
 use Rattle.std.specs.List.{flat_map, range_with_len}
 use Rattle.std.proofs.lemmas.List.{map-append}
 use Rattle.std.proofs.lemmas.Nat.{div-mul-add, mod-mul-add}
-
-range_append : (a m n : ℕ) → range_with_len a (m + n) ≡ range_with_len a m ++ range_with_len (a + m) n
-range_append a zero n =
-    let at : a + 0 ≡ a = omega arith in
-    let all : 0 + n ≡ n = omega arith in
-    ap (λ k. range_with_len a k) all ∙ ap (λ k. range_with_len k n) (sym at)
-range_append a (suc m) n =
-    let count : suc m + n ≡ suc (m + n) = omega arith in
-    let there : a + 1 + m ≡ a + suc m = omega arith in
-    ap (λ k. range_with_len a k) count ∙ ap (λ (ks : List ℕ). a ∷ ks) (range_append (a + 1) m n)
-    ∙ ap (λ k. a ∷ range_with_len (a + 1) m ++ range_with_len k n) there
+use Rattle.fm_base_lists.proofs.Ranges.{range_append}
 
 module _ {A : Type 0} (f : ℕ → ℕ → A) (width : ℕ) where
   abbrev by_parts : ℕ → A

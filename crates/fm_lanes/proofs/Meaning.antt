@@ -21,17 +21,3 @@ pub value_of-lane : (kind : ValueKind) (order : Order) (word at : ℕ) → at + 
 value_of-lane kind order word at fits =
     ap (decoded kind) (turned_number (width_of kind) (lane word at (width_of kind)) order (lane-lt word at (width_of kind))
     ∙ ap (λ bs. number_of (lowest_first order bs)) (bytes_of-lane 8 at (width_of kind) word fits))
-
--- The same among the bytes of many words.
-pub value_of-words : (kind : ValueKind) (order : Order) (words : List ℕ) (w at : ℕ) → w < length words → at + width_of kind ≤ 8
-    → decoded kind (turned (width_of kind) (lane (get_or words w 0) at (width_of kind)) order)
-    ≡ value_of kind order (take (width_of kind) (drop (8 * w + at) (bytes_in words)))
-value_of-words kind order words w at h fits =
-    let width = width_of kind in
-    ap (decoded kind) (turned_number (width_of kind) (lane (get_or words w 0) at (width_of kind)) order (lane-lt (get_or words w 0) at (width_of kind))
-    ∙ ap (λ bs. number_of (lowest_first order bs)) (sym (bytes_in-lane words w at (width_of kind) h fits)))
-
--- The bytes of a value that is encoded and turned are those that it is written as.
-pub bytes_of_value-encoded : (order : Order) (v : Value) (width : ℕ)
-    → bytes_of width (turned width (encoded v) order) ≡ lowest_first order (bytes_of width (encoded v))
-bytes_of_value-encoded order v width = bytes_of-turned_order width (encoded v) order

@@ -14,11 +14,6 @@ kind_named-text Short = refl
 kind_named-text Int = refl
 kind_named-text Long = refl
 
--- An order's name names that order.
-pub order_named-text : (order : Order) → order_named (order_text order) ≡ Some order
-order_named-text Little = refl
-order_named-text Big = refl
-
 some_one : {A : Type 0} (x y : A) → Some x ≡ Some y → x ≡ y
 some_one x y same = cc
 

@@ -8,7 +8,8 @@ use Rattle.fm_segment.specs.Region.{Region}
 use Rattle.fm_path_meaning.specs.{Walk.{offset_at, reach}, declared.dim.Dim.{Dim}}
 use Rattle.fm_path.specs.declared.value_spec.ValueSpec.{ValueSpec}
 use Rattle.fm_records.specs.{declared.found.Found.{Found}, Values.{index_lists}, Few.{HasRoom}, Adds.{AddsNumbers, with_number}, Paths.{AddsAll}}
-use Rattle.fm_records.{specs.{Reads.{GetsNumber, Sees, TakesNumber, value_places}, Words.{Seen}}, proofs.Behind.{range_append}}
+use Rattle.fm_base_lists.proofs.Ranges.{range_append}
+use Rattle.fm_records.specs.{Reads.{GetsNumber, Sees, TakesNumber, value_places}, Words.{Seen}}
 use Rattle.fm_records.proofs.{Few.{adds_room, room_less}, Seeing.{sees_err, sees_ok, sees_want}, Turns.{turn_cut, turn_none, turn_on, turn_one}}
 
 -- ---- one value

@@ -31,14 +31,6 @@ less_times i k n h = let e : i - k + k ≡ i = omega (arith, h) in times_sum (i 
     times_sum : (j k n : ℕ) → j * n + k * n ≡ (j + k) * n
     times_sum j k n = grind arith
 
--- the numbers of a range, in two parts
-pub range_append : (a m n : ℕ) → range_with_len a (m + n) ≡ range_with_len a m ++ range_with_len (a + m) n
-range_append a zero n = let e : 0 + n ≡ n = omega arith in let f : a ≡ a + 0 = omega arith in ap (range_with_len a) e ∙ ap (λ x. range_with_len x n) f
-range_append a (suc m) n =
-    let e : suc m + n ≡ suc (m + n) = omega arith in
-    let f : a + 1 + m ≡ a + suc m = omega arith in
-    ap (range_with_len a) e ∙ ap (λ xs. a ∷ xs) (range_append (a + 1) m n) ∙ ap (λ x. a ∷ (range_with_len (a + 1) m ++ range_with_len x n)) f
-
 -- ---- the places of records
 
 pub length-record_places : (count size place : ℕ) → length (record_places count size place) ≡ count

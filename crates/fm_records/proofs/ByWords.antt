@@ -8,7 +8,8 @@ use Rattle.fm_base_bytes.proofs.Bytes.{AreBytes-bytes_of, bytes_of-lane, bytes_o
 use Rattle.fm_lanes.{specs.{Coding.{decoded, lowest_first, value_of}, Kind.{width_of}, Value.{number_of_value}}, proofs.Meaning.{width_of-bounds}}
 use Rattle.fm_lanes.proofs.Turning.{turned_number}
 use Rattle.fm_path.specs.declared.value_spec.ValueSpec.{ValueSpec}
-use Rattle.fm_records.{specs.Words.{Seen, across, byte_by, bytes_by, found_at, number_by, number_of, or_zero}, proofs.Behind.{range_append}}
+use Rattle.fm_base_lists.proofs.Ranges.{range_append}
+use Rattle.fm_records.specs.Words.{Seen, across, byte_by, bytes_by, found_at, number_by, number_of, or_zero}
 use Rattle.fm_segment_access.proofs.Getting.{below_behind}
 
 -- ---- what was found at a word

@@ -2,7 +2,7 @@
 use Rattle.std.proofs.Common.{◌≡◌, ℕ, ◌+◌, ◌-◌, ◌*◌, ◌/◌, ◌%◌, ◌<◌, ◌≤◌, Bool, Some, List, [], ◌∷◌, ◌++◌, length, get_or, map, refl, sym, ap, ◌∙◌, subst, inl, inr, arith}
 use Rattle.std.{specs.{Prelude.{filter}, List.{AllByRecursion, range_with_len, slice_get}}, proofs.{Math.Nat.{zero-div}, lemmas.List.{map-append}}}
 use Rattle.std.proofs.lemmas.Nat.{div-add-mod'}
-use Rattle.fm_base_lists.proofs.{Among.{among_kept}, Each.{all_among, all_of_among, all_split}}
+use Rattle.fm_base_lists.proofs.{Among.{all_filtered}, Each.{all_among, all_of_among, all_split}, Ranges.{range_append}}
 use Rattle.fm_base.specs.{Arenas.{State, arena_of}, declared.{arena_id.ArenaId.{ArenaId}, caller.Caller.{Caller}}, Calls.{Read, Entry}, Histories.{made_by}}
 use Rattle.fm_base.{specs.Untouched.{FindsByte}, proofs.Untouched.{spared_found as byte_found}}
 use Rattle.fm_base_bytes.specs.Words.{byte_at, byte_of}
@@ -12,14 +12,11 @@ use Rattle.fm_segment.specs.Region.{Region, part_of}
 use Rattle.fm_records.specs.{Alone.{bytes_at_places}, Answers.{answer, found_over}, Bytes.{HasRead, FindsAs, FindAs, IsAnswered}, Few.{AreFew}, Joined.{joined}}
 use Rattle.fm_records.specs.{Laws.{IsAsked}, Records.{records, pieces}}
 use Rattle.fm_records.specs.Shares.{IsSpared, IsRunOf, SparedAreFound, Share, IsDone, behind, IsFirst, all_joined, SharesJoin, SharesAnswer, SharesRead}
-use Rattle.fm_records.proofs.{Behind.{get_split, length-pieces, less_times, range_append}, AnsweringBytes.{answer_of_bytes, length-places, word_at_places}}
+use Rattle.fm_records.proofs.{Behind.{get_split, length-pieces, less_times}, AnsweringBytes.{answer_of_bytes, length-places, word_at_places}}
 use Rattle.fm_records.proofs.{Covering.{asked_is_read, read_left, read_right}, Few.{answers_few, few_join, nothing_few}}
 use Rattle.fm_records.proofs.{Joining.{records-append, answer-append}, Recording.{answer-none}}
 
 -- ---- Reads of bytes that all spare
-
-all_filtered : {X : Type 0} (P : X → Type 0) (q : X → Bool) (xs : List X) → AllByRecursion P xs → AllByRecursion P (filter q xs)
-all_filtered P q xs h = all_of_among P (filter q xs) (λ x a. all_among P x xs h (among_kept q x xs a))
 
 -- found byte by byte, and so entry by entry
 by_entry : (now : State) (s : Region) (es : List Entry)

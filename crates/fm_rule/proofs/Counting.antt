@@ -228,11 +228,3 @@ drawn_of pool old p q d k c t y is sound =
       giver_sound = left_sound q y.whole y.sound;
       sound = sound;
     }
-
--- two passes that one giver drew, and whose finds it kept between, are two callers
-pub drawn_apart : {old new d later newer e : View} (x : Drawn old new d) (y : Drawn later newer e) → ((f : Find) → HasFind new f → HasFind later f)
-    → x.caller ≢ y.caller
-drawn_apart {old = old} x y keeps q =
-    let f : Find = x.drew.find in
-    y.apart f (keeps f (inl (subst (In f) (sym x.asked.found) (in_right f old.finds x.finds x.drew.among))))
-    (x.drew.drew ∙ ap (λ (c : Caller). Some c) q)

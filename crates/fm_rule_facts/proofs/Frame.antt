@@ -5,7 +5,8 @@ use Rattle.fm_base.specs.declared.{caller.Caller.{Caller}, arena_id.ArenaId.{Are
 use Rattle.fm_base.specs.Calls.{Call, Open, Enter, Read, Write, SwapIf, Add, Allocate, Leave, Hold, Unhold, Shut, End, Lend, Back, Reply, Fine, Closed, Found, Given, Entry}
 use Rattle.fm_base.{specs.Histories.{IsLegal, state_after, made_by}, proofs.Names.{are_one-not}}
 use Rattle.fm_base_machine.specs.Functions.{Fresh, Lives, Closes, Over, Machine, Depicts, moved, MayBy, reply_by, enter_stage, shut_stage, put, put_at, put_by}
-use Rattle.fm_base_machine.{specs.Steps.{moved_by}, proofs.{Putting.{by_else, by_cases, at_cases, are_one-equal}, GoingOn.{goes_on}}}
+use Rattle.fm_base.proofs.Names.{are_one-equal}
+use Rattle.fm_base_machine.{specs.Steps.{moved_by}, proofs.{Putting.{by_else, by_cases, at_cases}, GoingOn.{goes_on}}}
 use Rattle.fm_rule_facts.specs.Moves.{MayMake, Ends, NoEnd}
 
 -- what a swap does to words doesn't matter to P

@@ -1,8 +1,9 @@
 -- The lines of scripts are text.
 use Rattle.std.{proofs.Common.{◌≡◌, refl, sym, subst, ℕ, ◌<◌, ◌≤◌, ◌^◌, true, ◌||◌, nat_lt, List, [], ◌∷◌, arith, codes}, specs.Prelude.{ℤ, IsTrue}}
-use Rattle.std.{specs.{Fmt.{decimal, signed_decimal}, List.{AllByRecursion, list_all}, Str.{IsAscii, IsUtf8}}, proofs.lemmas.Bool.{and_parts, ltb-true}}
+use Rattle.std.{specs.{Fmt.{decimal, signed_decimal}, List.{AllByRecursion, list_all}, Str.{IsAscii, IsUtf8}}}
 use Rattle.std.proofs.lemmas.{Bool.Decides.{nat_tests}, Fmt.{IsAscii-decimal, IsAscii-signed}, Str.{IsUtf8-nil, IsUtf8-append, IsUtf8-from_ascii}}
 use Rattle.std.proofs.lemmas.Str.Ascii.{IsAscii-nil, IsAscii-cons}
+use Rattle.fm_base_text.proofs.Digits.{ascii_tested}
 use Rattle.fm_base.specs.declared.kind.Kind.{Kind}
 use Rattle.fm_base.specs.declared.kind.Kind.TheVariants as kind
 use Rattle.fm_lanes.specs.declared.{order.Order.{Order}, value_kind.ValueKind.{ValueKind}}
@@ -13,12 +14,7 @@ use Rattle.fm_script_text.specs.declared.command.Command.TheVariants.{Open, Allo
 use Rattle.fm_script_text.specs.declared.who.Who.{Who, TheVariants.{First, Worker, Last}}
 use Rattle.fm_script_text.specs.Syntax.{Says, SaysPool, who_text, words_of, spaced, arena_kind_text, close_text, type_text, IsWho, IsSpelled, IsOfKind, most}
 
--- bytes that were tested are ASCII
-ascii_tested : (bs : List ℕ) → list_all (λ b. nat_lt b 128) bs ≡ true → IsAscii bs
-ascii_tested [] t = IsAscii-nil
-ascii_tested (b ∷ bs) t = let p = and_parts _ _ t in IsAscii-cons b bs (ltb-true b 128 p.0) (ascii_tested bs p.1)
-
--- and text
+-- bytes that were tested are text
 text : (bs : List ℕ) → list_all (λ b. nat_lt b 128) bs ≡ true → IsUtf8 bs
 text bs t = IsUtf8-from_ascii bs (ascii_tested bs t)
 

@@ -17,7 +17,7 @@ pub is_value : (t : Tree) (k : ValueKind) → HasKind t k → IsValue t
 is_value (tree.Value k1 o l) k h = tt
 is_value t k h = absurd h
 
-value_is : (t : Tree) {k : ValueKind} {o : Order} → IsValue t → form_of t ≡ form.Value k o → (l : Label) × (t ≡ tree.Value k o l)
+pub value_is : (t : Tree) {k : ValueKind} {o : Order} → IsValue t → form_of t ≡ form.Value k o → (l : Label) × (t ≡ tree.Value k o l)
 value_is (tree.Value k1 o1 l) i e = (l, cc)
 value_is t i e = absurd i
 

@@ -15,7 +15,8 @@ use Rattle.fm_records.{specs.{Alone.{bytes_at_places}, Reads.{AreReads, read_vis
 use Rattle.fm_rule.specs.declared.pool.Pool.{Pool}
 use Rattle.fm_segment.specs.{Access.{IsKnown}, Region.{Region}}
 use Rattle.fm_workers_crew.specs.Crew.{CrewGathered}
-use Rattle.fm_workers.{specs.Query.{OnlyReads, reads, stops}, proofs.Sparing.{by_either}}
+use Rattle.fm_base.proofs.Either.{by_either}
+use Rattle.fm_workers.specs.Query.{OnlyReads, reads, stops}
 use Rattle.fm_top_pooled.{specs.Stocked.{IsStockedOf, bytes_in_pool}, proofs.Tidying.{tidy_on}}
 
 -- a visit's call that reads, or changes a word that may be changed

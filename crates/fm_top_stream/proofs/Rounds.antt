@@ -23,7 +23,8 @@ use Rattle.fm_top_load.{specs.{Whole.{IsCut}}, proofs.{Lone.{StandsAt, puts_stan
 use Rattle.fm_top_pooled.specs.{Shown.{AreRead, AsksWord, IsReadByOther}, Stocked.{IsAlone, IsStockedOf, bytes_in_pool}}
 use Rattle.fm_top_pooled.proofs.{Filed.{puts_stay}, Crews.{AllTouch, Touches, only_reads_touch, stay_below}, Shows.{NoneMayAdd, are_read, is_whole, pooled_is, read_in}}
 use Rattle.fm_top_pooled.proofs.Tidying.{tidy_on}
-use Rattle.fm_workers.{specs.{Beside.{AskedBeside}, Query.{IsAnswer, NobodyElseWrites, OnlyReads, QueriedWith}}, proofs.Sparing.{by_either}}
+use Rattle.fm_base.proofs.Either.{by_either}
+use Rattle.fm_workers.specs.{Beside.{AskedBeside}, Query.{IsAnswer, NobodyElseWrites, OnlyReads, QueriedWith}}
 use Rattle.fm_workers_crew.specs.Crew.{IsFresh, callers}
 use Rattle.fm_words.specs.declared.shape.Shape.{Shape}
 use Rattle.fm_top_stream.{specs.Steps.{AnswersBeside, GoesOn, HasChunk, Stand, StandBut}, proofs.{Elsewhere.{put_elsewhere}, Going.{goes_then}}}

@@ -48,9 +48,6 @@ piece_compared {a = a} {b} {p} {v} {w} {found} r q is =
     }) (did_then ((Read a.arena ((a.at + p.offset) / 8), Found r.word) ∷ []) ((Read b.arena ((b.at + p.offset) / 8), Found q.word) ∷ []) r.did q.did)
 
 -- A number that was read is one of so many bytes.
-pub part_fits : {x y : View} {id : ArenaId} {place width v : ℕ} → ReadsPart x y id place width v → v < 2 ^ (8 * width)
-part_fits {place = place} {width} {v} p = subst (λ (n : ℕ). n < 2 ^ (8 * width)) (sym p.value) (lane-lt p.word (place % 8) width)
-
 -- ---- all pieces of a copy
 
 abbrev pub CopiesLeft : Side → Side → ℕ → Way → ℕ → Unit {0} → Acts → Type 0

@@ -14,7 +14,7 @@ use Rattle.fm_lanes.proofs.Meaning.{width_of-bounds}
 use Rattle.fm_segment_access.proofs.Filling.{AreBytes-replicate}
 use Rattle.fm_segment_access.proofs.Values.{AreBytes-value, length-value, kind_of-decoded}
 use Rattle.fm_segment.specs.{Access.{HasKind, place_of, writable_place_of}, Fills.{checked_write}, Puts.{checked_put}, Region.{Region}}
-use Rattle.fm_segment.proofs.{Access.{is_value}, Alone.{Stands, place_stands, writable_stands, finds_there, puts_there}}
+use Rattle.fm_segment.proofs.{Access.{is_value, value_is}, Alone.{Stands, place_stands, writable_stands, finds_there, puts_there}}
 use Rattle.fm_visit.specs.{Acts.{ActsAt, HasActs, IsOfArguments}, Learnt.{IsIn, AfterInside}, Runs.{GetsAs, PutsFrom}}
 use Rattle.fm_visit.specs.Values.{AfterGet, AfterSet, AfterFill, AfterPutBytes, GetsHere, PutsHere, SetsHere, Reaches, placed_at}
 use Rattle.fm_visit.proofs.{Getting.{means_alone}, Going.{just}, Learning.{after_acts, after_refused}, Places.{placed_err}, Putting.{leaves_puts, puts_alone}}
@@ -33,11 +33,6 @@ reaches {x} {r} offset size can is fits small =
     record { inside = can.inside; given = omega arith; small = small }
 
 -- ---- values
-
--- A value layout, by its form.
-value_is : (t : Tree) {k : ValueKind} {o : Order} → IsValue t → form_of t ≡ form.Value k o → (l : Label) × (t ≡ tree.Value k o l)
-value_is (tree.Value k1 o1 l) i e = (l, cc)
-value_is t i e = absurd i
 
 module _ {x : View} {r : Region} (can : IsIn x r.arena r) (offset : ℕ) (t : Tree) where
   -- A value's place can be reached,

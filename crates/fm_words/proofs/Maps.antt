@@ -7,12 +7,6 @@ pub map_of-map_word : (page : ℕ) → map_of (map_word page) ≡ Some page
 unfolding map_of map_word
 map_of-map_word page = let e : page + 1 ≡ suc page = omega arith in ap map_of e
 
--- A word is that of the page that is read from it.
-pub map_word-map_of : (word : ℕ) → IfSome (map_of word) (λ page. map_word page ≡ word)
-unfolding map_of map_word
-map_word-map_of zero = tt
-map_word-map_of (suc page) = omega arith
-
 -- Different pages have different words.
 pub map_word-injective : (p q : ℕ) → map_word p ≡ map_word q → p ≡ q
 unfolding map_word

@@ -34,18 +34,3 @@ pub mark_word-halves : (word high low slot : ℕ) → high ≡ word / 2 ^ 32 →
     → mark_word slot low ≡ word
 unfolding mark_word
 mark_word-halves word high low slot a b h e = omega arith
-
--- Different names have different words.
-pub mark_word-injective : (s g t h : ℕ) → g < 2 ^ 32 → h < 2 ^ 32 → mark_word s g ≡ mark_word t h → (s ≡ t) × (g ≡ h)
-unfolding mark_word
-mark_word-injective s g t h a b e = (omega arith, omega arith)
-
--- The word of a mark isn't 0, the word of a pass that publishes nothing.
-pub mark_word-some : (slot generation : ℕ) → mark_word slot generation ≢ 0
-unfolding mark_word
-mark_word-some slot generation e = omega arith
-
--- The word of a mark fits 64 bits.
-pub mark_word-lt : (slot generation : ℕ) → slot < 64 → generation < 2 ^ 32 → mark_word slot generation < 2 ^ 64
-unfolding mark_word
-mark_word-lt slot generation h g = omega arith

@@ -193,16 +193,6 @@ every_word z = record { within = at-within z; apart = at-apart z; named = at-nam
 pub same_place : (z : Shape) (p q : Place) → IsPlace z p → IsPlace z q → Dec (p ≡ q)
 same_place z p q a b = dite (ℕ_discrete (at z p) (at z q)) (λ e. yes (at-apart z p q a b e)) (λ ne. no (λ e. ne (ap (at z) e)))
 
--- Where the word of a place is set, it is found there.
-pub at-set_here : (z : Shape) (table : List ℕ) (p : Place) (x : ℕ) → length table ≡ words z → IsPlace z p
-    → slice_index (set table (at z p) x) (at z p) ≡ x
-at-set_here z table p x wide h = get_or-set_same table (at z p) x 0 (let below = at-within z p h in omega arith)
-
--- Every other place keeps its word.
-pub at-set_other : (z : Shape) (table : List ℕ) (p q : Place) (x : ℕ) → IsPlace z p → IsPlace z q → q ≢ p
-    → slice_index (set table (at z p) x) (at z q) ≡ slice_index table (at z q)
-at-set_other z table p q x a b ne = get_or-set_other table (at z p) (at z q) x 0 (λ e. ne (at-apart z q p b a e))
-
 -- A table has at most 3 + 64 + 8 * 4,096 + 128 + 64 * 4,096 + 64 + 4,096 + 2^24 words.
 pub words-le : (z : Shape) → IsValid z → words z ≤ 17076483
 unfolding words

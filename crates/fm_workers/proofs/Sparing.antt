@@ -13,7 +13,7 @@ use Rattle.fm_records.proofs.Sharing.{shares_answer, shares_read}
 use Rattle.fm_workers_shares.specs.Answered.{AnsweredBy}
 use Rattle.fm_workers.specs.{Query.{OnlyReads, reads, stops, NobodyElseWrites, IsAnswer}, Tally.{OnlyAddsTo, OnlyTallies, closed, no_more, one_add}}
 use Rattle.fm_workers_crew.proofs.Working.{nobody}
-use Rattle.fm_base_machine.proofs.Putting.{are_one-equal}
+use Rattle.fm_base.proofs.Either.{by_either}
 
 visits_spare : (c : Caller) (id a : ArenaId) (place : ℕ) (rs : List (ℕ × ℕ)) → AllByRecursion (λ e. Spares id place e.call) (flat_map (read_visit c a) rs)
 visits_spare c id a place [] = tt
@@ -45,36 +45,6 @@ tallies_spare s counts place more (c ∷ cs) other h = (
       (adds_spare s counts c h.0.adds place other h.0.are_adds)),
   tallies_spare s counts place more cs other h.1,
 )
-
-module _ (P : Entry → Type 0) where
-  made_first : (c : Caller) (e : Entry) (es : List Entry) → e.caller ≡ c → AllByRecursion P (made_by c (e ∷ es)) → P e
-  made_first c e es is h =
-      let k : AllByRecursion P (cond true (e ∷ made_by c es) (made_by c es)) =
-      subst (λ (b : Bool). AllByRecursion P (cond b (e ∷ made_by c es) (made_by c es))) (are_one-equal e.caller c is) h in
-      k.0
-
-  made_later : (c : Caller) (e : Entry) (es : List Entry) → AllByRecursion P (made_by c (e ∷ es)) → AllByRecursion P (made_by c es)
-  made_later c e es h =
-      let Q : Bool → Type 0 = λ b. AllByRecursion P (cond b (e ∷ made_by c es) (made_by c es)) → AllByRecursion P (made_by c es) in
-      let go : (b : Bool) → Q b = λ b. elim b as Q [ true ↦ (λ k. k.1) | false ↦ (λ k. k) ] in
-      go (are_one e.caller c) h
-
-  first_of : (cs : List Caller) (e : Entry) (es : List Entry) → IsAmong e.caller cs → AllByRecursion (λ c. AllByRecursion P (made_by c (e ∷ es))) cs → P e
-  first_of [] e es i h = absurd i
-  first_of (c ∷ cs) e es (inl is) h = made_first c e es is h.0
-  first_of (c ∷ cs) e es (inr i) h = first_of cs e es i h.1
-
-  all_later : (cs : List Caller) (e : Entry) (es : List Entry) → AllByRecursion (λ c. AllByRecursion P (made_by c (e ∷ es))) cs
-      → AllByRecursion (λ c. AllByRecursion P (made_by c es)) cs
-  all_later [] e es h = tt
-  all_later (c ∷ cs) e es h = (made_later c e es h.0, all_later cs e es h.1)
-
-  -- What holds of the others' entries and of each caller's holds of all.
-  pub by_either : (cs : List Caller) (es : List Entry) → AllByRecursion (λ e. IsAmong e.caller cs ⊎ P e) es
-      → AllByRecursion (λ c. AllByRecursion P (made_by c es)) cs → AllByRecursion P es
-  by_either cs [] h k = tt
-  by_either cs (e ∷ es) h k =
-      (⊎_elim (λ (i : IsAmong e.caller cs). first_of cs e es i k) (λ (x : P e). x) h.0, by_either cs es h.1 (all_later cs e es k))
 
 each_spares : (s : Region) (place : ℕ) (more : List Entry) (cs : List Caller) → AllByRecursion (λ c. OnlyReads s c (made_by c more)) cs
     → AllByRecursion (λ c. AllByRecursion (λ e. Spares s.arena place e.call) (made_by c more)) cs

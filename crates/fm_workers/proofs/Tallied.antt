@@ -17,7 +17,8 @@ use Rattle.fm_workers.specs.{declared.tally.Total.{Total}, Adding.{HasCounts, co
 use Rattle.fm_workers.specs.{Query.{NobodyElseWrites}, Sharing.{HaveEnded, NoneBegun, SharedOut}, Tallies.{all_numbers, tallying}}
 use Rattle.fm_workers.specs.Tally.{AreAllRead, AreHeld, AreTheCounts, CanBeTallied, EndsTally, IsCounted, LeavesWord, OnlyTallies, TalliedBy, TalliedWith}
 use Rattle.fm_workers.proofs.{Added.{by_crew, crew_adds}, Counted.{listed_joined}, CountedShares.{counted_shares, each_counted, same_numbers, tallied_by}}
-use Rattle.fm_workers.proofs.{FewCounted.{shares_list}, Queried.{asked, even_of}, Sparing.{by_either, tallies_spare}}
+use Rattle.fm_base.proofs.Either.{by_either}
+use Rattle.fm_workers.proofs.{FewCounted.{shares_list}, Queried.{asked, even_of}, Sparing.{tallies_spare}}
 use Rattle.fm_workers.proofs.Totals.{AreTotals, PassTotals, Sums, SumsTo, passes_counted, totals_counted}
 use Rattle.fm_workers.proofs.Touching.{TallyStopped, crew_stops, crew_tallies, idle_tallies}
 

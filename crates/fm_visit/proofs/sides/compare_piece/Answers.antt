@@ -1,6 +1,6 @@
 use Rattle.std.proofs.Common.{◌+◌, ◌/◌, [], ◌∷◌, arith, sym, ◌∙◌}
 use Rattle.fm_base.specs.Calls.{Read, Found}
-use Rattle.fm_visit.proofs.{Pairs.{part_fits, piece_compared}, Putting.{reaches_word, still_reaches}}
+use Rattle.fm_visit.proofs.{Getting.{part_fits}, Pairs.{piece_compared}, Putting.{reaches_word, still_reaches}}
 use Rattle.fm_visit.proofs.sides.compare_piece.Goals as goal
 
 pub get_piece-v-requires-clause-inside : goal.get_piece-v-requires-clause-inside

@@ -1,7 +1,7 @@
 use Rattle.std.{proofs.{Common.{◌≡◌, ◌+◌, ◌++◌, [], ℕ, List, sym, ap, ◌∙◌, arith}, lemmas.List.{append-nil}}, specs.List.{flat_map, range_with_len}}
 use Rattle.std.proofs.lemmas.Grind.{flat_map-append}
 use Rattle.fm_workers.specs.Printed.{place_text, rising, total_text}
-use Rattle.fm_records.proofs.Behind.{range_append}
+use Rattle.fm_base_lists.proofs.Ranges.{range_append}
 use Rattle.fm_workers.proofs.printing.lines.Goals as goal
 
 -- One more is behind the others.

@@ -2,9 +2,8 @@
 use Rattle.std.proofs.Common.{◌≡◌, ◌≢◌, ℕ, ◌+◌, Bool, true, false, if◌then◌else◌, List, [], ◌∷◌, refl, ap, sym, ◌∙◌, subst, inl, inr, arith}
 use Rattle.std.{specs.{Prelude.{cond}}}
 use Rattle.fm_base_lists.specs.Among.{IsAmong, AreApart}
-use Rattle.fm_base.specs.{declared.{caller.Caller.{Caller}}, Arenas.{are_one}, Calls.{Entry}, Counting.{total}, Histories.{made_by}}
+use Rattle.fm_base.specs.{declared.{caller.Caller.{Caller}}, Arenas.{are_one}, Calls.{Entry}, Counting.{WeighsByCallers, total, weighed}, Histories.{made_by}}
 use Rattle.fm_base.proofs.{Names.{are_one-not, are_one-self}}
-use Rattle.fm_base_laws.specs.Weights.{WeighsByCallers, weighed}
 
 -- A total of equal numbers is the same.
 total_same : (f g : Caller → ℕ) (cs : List Caller) → ((c : Caller) → IsAmong c cs → g c ≡ f c) → total g cs ≡ total f cs
