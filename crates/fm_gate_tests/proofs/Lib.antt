@@ -1,4 +1,3 @@
 pub mod Finishing
 pub mod Holds
 mod Nothing
-mod Lasting

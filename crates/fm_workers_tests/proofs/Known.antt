@@ -1,19 +1,10 @@
 -- What stays known where a pass is drawn, and gathered.
-use Rattle.std.proofs.Common.{◌≡◌, ap, ◌∙◌, subst, le_trans, Result, Ok, IfOk}
-use Rattle.fm_rule_calls.{proofs.Going.{lasts_by, reached_by}, specs.{Kept.{Lasts}, Told.{view_of_pass}}}
+use Rattle.std.proofs.Common.{◌≡◌, ap, ◌∙◌, subst, Result, Ok, IfOk}
+use Rattle.fm_rule_calls.{proofs.Going.{lasts_by, reached_by}, specs.Told.{view_of_pass}}
 use Rattle.fm_rule_facts.specs.{Hands.{no_number}, Views.{View}}
 use Rattle.fm_rule.specs.Draws.{Drawn, Gathers}
 use Rattle.fm_segment.specs.{Access.{IsKnown}, Region.{Region}}
 use Rattle.fm_workers.specs.Asking.{known_later}
-
--- What lasts over two calls, one after the other.
-pub lasts_then : {p q r : View} → Lasts p q → Lasts q r → Lasts p r
-lasts_then a b = record {
-  given = λ id. le_trans (a.given id) (b.given id);
-  known = λ id k. b.known id (a.known id k);
-  ended = λ id e. b.ended id (a.ended id e);
-  no_words = λ id e none. b.no_words id (a.ended id e) (a.no_words id e none);
-}
 
 -- The pass that a draw answered is drawn.
 pub drawn_as : {p q d : View} {E : Type 0} {r : Result View E} → IfOk r (λ x. Drawn p q x) → r ≡ Ok d → Drawn p q d

@@ -1,5 +1,6 @@
 use Rattle.std.proofs.Common.{◌∙◌}
-use Rattle.fm_bench.proofs.Lasting.{lasts_then, pages_kept}
+use Rattle.fm_rule_calls.proofs.Lasting.{lasts_then}
+use Rattle.fm_bench.proofs.Lasting.{pages_kept}
 use Rattle.fm_bench.proofs.gates.visit.Goals as goal
 
 pub returns : goal.returns

@@ -1,4 +1,4 @@
-use Rattle.fm_bench.proofs.Lasting.{lasts_then}
+use Rattle.fm_rule_calls.proofs.Lasting.{lasts_then}
 use Rattle.fm_bench.proofs.reuse.filled.Goals as goal
 
 pub returns-clause-lasts : goal.returns-clause-lasts

@@ -1,4 +1,4 @@
-use Rattle.fm_arena_tests.proofs.Lasting.{lasts_then}
+use Rattle.fm_rule_calls.proofs.Lasting.{lasts_then}
 use Rattle.fm_arena_tests.proofs.tests.arenas.renewed.Goals as goal
 
 pub returns-clause-lasts : goal.returns-clause-lasts

@@ -1,4 +1,4 @@
-use Rattle.fm_gate_tests.proofs.Lasting.{lasts_then}
+use Rattle.fm_rule_calls.proofs.Lasting.{lasts_then}
 use Rattle.fm_gate_tests.proofs.tests.pools.word_of.Goals as goal
 
 pub returns-clause-lasts : goal.returns-clause-lasts

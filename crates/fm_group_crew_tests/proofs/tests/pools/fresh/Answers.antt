@@ -1,5 +1,6 @@
 use Rattle.std.proofs.Common.{◌∙◌}
-use Rattle.fm_group_crew_tests.proofs.{Known.{lasts_then}, Pages.{can_allocate, pages_kept}}
+use Rattle.fm_rule_calls.proofs.Lasting.{lasts_then}
+use Rattle.fm_group_crew_tests.proofs.Pages.{can_allocate, pages_kept}
 use Rattle.fm_group_crew_tests.proofs.tests.pools.fresh.Goals as goal
 
 pub allocate-requires : goal.allocate-requires

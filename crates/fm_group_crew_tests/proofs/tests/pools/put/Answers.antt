@@ -2,7 +2,7 @@ use Rattle.std.proofs.Common.{◌≡◌, ◌+◌, ◌≤◌, ap, subst, arith, I
 use Rattle.fm_rule_facts.specs.Views.{given_of}
 use Rattle.fm_gate.specs.Needs.{IsInside}
 use Rattle.fm_group_crew.specs.Tasks.{known_later}
-use Rattle.fm_group_crew_tests.proofs.Known.{lasts_then}
+use Rattle.fm_rule_calls.proofs.Lasting.{lasts_then}
 use Rattle.fm_group_crew_tests.proofs.tests.pools.put.Goals as goal
 
 pub store-requires : goal.store-requires

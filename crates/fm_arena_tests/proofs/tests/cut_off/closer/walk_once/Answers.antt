@@ -1,4 +1,4 @@
-use Rattle.fm_arena_tests.proofs.Lasting.{lasts_then}
+use Rattle.fm_rule_calls.proofs.Lasting.{lasts_then}
 use Rattle.fm_arena_tests.proofs.tests.cut_off.closer.walk_once.Goals as goal
 
 pub returns-in-Next-visit-clause-lasts : goal.returns-in-Next-visit-clause-lasts
