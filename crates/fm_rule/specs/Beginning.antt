@@ -1,7 +1,7 @@
 -- The bits of a new pool's words.
 use Rattle.std.specs.{Prelude.{◌≡◌, ◌≢◌, ℕ, ◌<◌, ◌≤◌, List}, Int.{bit_at}}
 use Rattle.fm_words.specs.{declared.shape.Shape.{Shape}, Bits.{number_at}}
-use Rattle.fm_rule_facts.specs.{Memory.{Shows}, Beginning.{first_memory}}
+use Rattle.fm_rule_facts.specs.{PoolWords.{Shows}, Beginning.{first_words}}
 
 -- a group's word of bits for so many things: each has its bit 1, and no other bit is 1
 pub record IsFull (count group word : ℕ) : Type 0 where
@@ -18,7 +18,7 @@ pub record AreFirst (z : Shape) (group word : ℕ) : Type 0 where
 pub record IsBegun (z : Shape) (words : List ℕ) (pages numbers : ℕ) : Type 0 where
   pub page_bits : ℕ → ℕ
   pub number_bits : ℕ → ℕ
-  pub shows : Shows z words (first_memory z page_bits number_bits)
+  pub shows : Shows z words (first_words z page_bits number_bits)
   pub pages_set : (g : ℕ) → g < pages → IsFull z.pages g (page_bits g)
   pub pages_left : (g : ℕ) → pages ≤ g → page_bits g ≡ 0
   pub numbers_set : (g : ℕ) → g < numbers → AreFirst z g (number_bits g)

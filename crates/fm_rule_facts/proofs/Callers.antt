@@ -6,7 +6,7 @@ use Rattle.fm_base.specs.{declared.caller.Caller.{Caller}, Arenas.{are_one}, Cal
 use Rattle.fm_base.proofs.Names.{are_one-self}
 use Rattle.fm_base_machine.{specs.Functions.{Machine}, proofs.Putting.{one_caller}}
 use Rattle.fm_rule_facts.specs.Views.{Met, View, In, HasCaller, KnowsCallers, all_gathered, brought}
-use Rattle.fm_rule_facts.specs.Facts.{Memory, Owners, WasDrawn, HasGathered, IsSilent, IsOnce, Owns}
+use Rattle.fm_rule_facts.specs.Facts.{PoolWords, Owners, WasDrawn, HasGathered, IsSilent, IsOnce, Owns}
 use Rattle.fm_rule_facts.proofs.Counting.{ranks, ranks_long, has_rank, in_ranks, ranks_apart, one_rank, at_most, at_least, all_below, Distinct}
 
 -- ---- who made an entry
@@ -39,7 +39,7 @@ drawn_or draw who rank c = elim (cases_lt (rank c) draw) [
 
 -- ---- the callers of a view that has met nobody
 
-module _ (z : Shape) (h : List Entry) (m : Memory) (t : Machine) (o : Owners) (j : ℕ) (v : View) (lone : v.met ≡ []) (u : Owns z h m t o j v) where
+module _ (z : Shape) (h : List Entry) (m : PoolWords) (t : Machine) (o : Owners) (j : ℕ) (v : View) (lone : v.met ≡ []) (u : Owns z h m t o j v) where
   pub all_now : all_gathered v ≡ v.gathered
   all_now = ap (λ (x : List Met). v.gathered ++ brought x) lone ∙ append-nil v.gathered
 

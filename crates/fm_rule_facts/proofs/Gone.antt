@@ -3,7 +3,7 @@ use Rattle.std.proofs.{Common.{◌≡◌, ◌⊎◌, ℕ, true, false, List, [],
 use Rattle.fm_words.specs.declared.shape.Shape.{Shape}
 use Rattle.fm_base.specs.{declared.{caller.Caller.{Caller}, arena_id.ArenaId.{ArenaId}}, Calls.{Entry}, Finds.{Find, is_slot, is_page}}
 use Rattle.fm_base_machine.specs.{Functions.{Stage, Machine}, Steps.{moved_by}}
-use Rattle.fm_rule_facts.specs.{Views.{View, In, all_gathered}, Memory.{Memory}, Gone.{IsTakenBy, OpenedBy, IsGone, FoundBy, IsFounded}, Splits.{gather}}
+use Rattle.fm_rule_facts.specs.{Views.{View, In, all_gathered}, PoolWords.{PoolWords}, Gone.{IsTakenBy, OpenedBy, IsGone, FoundBy, IsFounded}, Splits.{gather}}
 use Rattle.fm_rule_facts.{specs.{Steps.{note_draw}, Moves.{told}}, proofs.{Frame.{still_known}, Keeping.{begins_on, in_append, all_gather}}}
 
 -- what is noted has no find of slots or pages
@@ -12,7 +12,7 @@ NoSlots fs = (n : ℕ) (f : Find) → In f (fs n) → (is_slot f.step ≡ false)
 
 -- ---- over entries
 
-module _ (z : Shape) (h : List Entry) (m : Memory) (t : Machine) (taker : ℕ → Option Caller) (es : List Entry) (m' : Memory) (taker' : ℕ → Option Caller)
+module _ (z : Shape) (h : List Entry) (m : PoolWords) (t : Machine) (taker : ℕ → Option Caller) (es : List Entry) (m' : PoolWords) (taker' : ℕ → Option Caller)
     (frame : (s : ℕ) (k : Caller) → IsTakenBy z m.bits m.sessions taker s k
     → IsTakenBy z m'.bits m'.sessions taker' s k ⊎ OpenedBy (moved_by t es).life s k) where
   gone_on : (before : List Entry) (c : Caller) (s : ℕ) → IsGone z before m taker t.life c s → IsGone z before m' taker' (moved_by t es).life c s
@@ -44,7 +44,7 @@ module _ (z : Shape) (h : List Entry) (m : Memory) (t : Machine) (taker : ℕ �
 
 -- ---- where another memory has the same slots
 
-module _ (z : Shape) (h : List Entry) (m m' : Memory) (taker : ℕ → Option Caller) (life : ArenaId → Stage)
+module _ (z : Shape) (h : List Entry) (m m' : PoolWords) (taker : ℕ → Option Caller) (life : ArenaId → Stage)
     (same : (s : ℕ) (k : Caller) → IsTakenBy z m.bits m.sessions taker s k → IsTakenBy z m'.bits m'.sessions taker s k) where
   gone_same : (before : List Entry) (c : Caller) (s : ℕ) → IsGone z before m taker life c s → IsGone z before m' taker life c s
   gone_same before c s (inl o) = inl o
@@ -63,7 +63,7 @@ module _ (z : Shape) (h : List Entry) (m m' : Memory) (taker : ℕ → Option Ca
 
 -- ---- over steps, splits and joins
 
-module _ (z : Shape) (h : List Entry) (m : Memory) (taker : ℕ → Option Caller) (life : ArenaId → Stage) where
+module _ (z : Shape) (h : List Entry) (m : PoolWords) (taker : ℕ → Option Caller) (life : ArenaId → Stage) where
   pub founded_told : (v p : View) (zs es : List Entry) (fs : ℕ → List Find) → p.caller ≡ v.caller → p.finds ≡ v.finds → all_gathered p ≡ all_gathered v
       → ((f : Find) → In f (fs (length (p.seen ++ zs))) → FoundBy z h m taker life v.caller f) → IsFounded z h m taker life v
       → IsFounded z h m taker life (told p zs es fs)
@@ -94,7 +94,7 @@ draw_no_slots expected x v n f (inl q) = (ap (λ (g : Find). is_slot g.step) q, 
 draw_no_slots expected x v n f (inr i) = absurd i
 
 -- where nothing was noted of slots, all that was is so
-pub none_founded : (z : Shape) (h : List Entry) (m : Memory) (taker : ℕ → Option Caller) (life : ArenaId → Stage) (c : Caller) (fs : ℕ → List Find)
+pub none_founded : (z : Shape) (h : List Entry) (m : PoolWords) (taker : ℕ → Option Caller) (life : ArenaId → Stage) (c : Caller) (fs : ℕ → List Find)
     → NoSlots fs → (n : ℕ) (f : Find) → In f (fs n) → FoundBy z h m taker life c f
 none_founded z h m taker life c fs slots n f i = record {
   slot = λ e. let q : true ≡ false = sym e ∙ (slots n f i).0 in absurd (cc);

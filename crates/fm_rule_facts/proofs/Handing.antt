@@ -3,7 +3,7 @@ use Rattle.std.{proofs.Common.{◌≡◌, ℕ, ◌+◌, ◌<◌, ◌∙◌, Opti
 use Rattle.fm_base.specs.{declared.caller.Caller.{Caller}, Calls.{Entry}, Finds.{Gathered}}
 use Rattle.fm_words.specs.declared.shape.Shape.{Shape}
 use Rattle.fm_rule_facts.specs.Hands.{Hand, nothing, taken, learnt, retired, HasSlot, IsTaker, Number, no_number, number_taken, number_learnt, number_drawn, number_left, number_joined, HasNumberIn}
-use Rattle.fm_rule_facts.specs.{Views.{View, In, all_gathered}, Facts.{Session, free, IsHeld, HasInHand, Memory, Owners, IsLoose, IsUndrawn, HasNumberInHand}}
+use Rattle.fm_rule_facts.specs.{Views.{View, In, all_gathered}, Facts.{Session, free, IsHeld, HasInHand, PoolWords, Owners, IsLoose, IsUndrawn, HasNumberInHand}}
 use Rattle.fm_base_machine.specs.Functions.{Machine}
 
 module _ (z : Shape) (bits bits' : ℕ) (sessions sessions' : ℕ → Session) (holder holder' : ℕ → ℕ) (j : ℕ)
@@ -37,7 +37,7 @@ slot_below z bits sessions holder j s (retired x) h i = let l = h.1.slot in let 
 
 -- ---- numbers
 
-module _ (z : Shape) (h : List Entry) (m : Memory) (t : Machine) (o : Owners) (j : ℕ) (v : View) where
+module _ (z : Shape) (h : List Entry) (m : PoolWords) (t : Machine) (o : Owners) (j : ℕ) (v : View) where
   -- another view with the same caller and the same gathered ones has the number too
   pub hand_view : (p : View) → p.caller ≡ v.caller → ((g : Gathered) → In g (all_gathered p) → In g (all_gathered v))
       → ((g : Gathered) → In g (all_gathered v) → In g (all_gathered p)) → (x : Number) → HasNumberInHand z h m t o j v x → HasNumberInHand z h m t o j p x
@@ -91,7 +91,7 @@ module _ (z : Shape) (h : List Entry) (m : Memory) (t : Machine) (o : Owners) (j
     hand_owners (number_joined k) a b y = record { loose = loose_to k.number (a k.number refl) y.loose; term = y.term; left = y.left; gathered = y.gathered }
 
 -- the seat of a number in the hand
-pub hand_owner : (z : Shape) (h : List Entry) (m : Memory) (t : Machine) (o : Owners) (j : ℕ) (v : View) (x : Number) (n : ℕ) → HasNumberIn n x
+pub hand_owner : (z : Shape) (h : List Entry) (m : PoolWords) (t : Machine) (o : Owners) (j : ℕ) (v : View) (x : Number) (n : ℕ) → HasNumberIn n x
     → HasNumberInHand z h m t o j v x → IsLoose z m o j n
 hand_owner z h m t o j v no_number n i y = absurd i
 hand_owner z h m t o j v (number_taken k) n i y = subst (IsLoose z m o j) (sym i) y.loose

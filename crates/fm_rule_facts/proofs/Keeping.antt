@@ -10,7 +10,7 @@ use Rattle.fm_words.specs.declared.shape.Shape.{Shape}
 use Rattle.fm_base.specs.{declared.{caller.Caller.{Caller}, arena_id.ArenaId.{ArenaId}}, Calls.{Entry}, Histories.{made_by}, Finds.{Gathered, Close, Sweep}}
 use Rattle.fm_base_machine.specs.{Functions.{Machine}, Steps.{moved_by}}
 use Rattle.fm_rule_facts.specs.{Views.{Met, View, In, all_gathered, brought, limit_of}, Parts.{Swept, unread, named, wiping}}
-use Rattle.fm_rule_facts.specs.Facts.{Memory, Owners, IsStanding, IsAt, IsNext, HasSwept, HasPages, IsClosing, IsSweeping, IsGathered, IsSilent, Begins, Somewhere, Owns, Knows, WasDrawn, bit_of, next_of, IsLoose, IsUndrawn, HasNumberInHand}
+use Rattle.fm_rule_facts.specs.Facts.{PoolWords, Owners, IsStanding, IsAt, IsNext, HasSwept, HasPages, IsClosing, IsSweeping, IsGathered, IsSilent, Begins, Somewhere, Owns, Knows, WasDrawn, bit_of, next_of, IsLoose, IsUndrawn, HasNumberInHand}
 use Rattle.fm_rule_facts.specs.Moves.{MayMake, NoEnd, StaysEnded, Moved}
 use Rattle.fm_rule_facts.proofs.{Frame.{others_stay, none_come, still_closing, still_over, still_given, made_by-other}, Sessions.{unstanding}}
 use Rattle.fm_rule_facts.specs.Hands.{Number, no_number, number_taken, number_learnt, number_drawn, number_left, number_joined, most_draws}
@@ -84,7 +84,7 @@ all_gather v w P mine theirs own g j = ⊎_elim
     comes (inl q) = subst P (sym q) own
     comes (inr i) = theirs g (in_left g w.gathered (brought w.met) i)
 
-module _ (z : Shape) (h : List Entry) (m : Memory) (t : Machine) (o : Owners) (j : ℕ) (v : View) (k : Owns z h m t o j v) where
+module _ (z : Shape) (h : List Entry) (m : PoolWords) (t : Machine) (o : Owners) (j : ℕ) (v : View) (k : Owns z h m t o j v) where
   -- each of them was gathered when something was seen
   pub gathered_all : (g : Gathered) → In g (all_gathered v) → (xs : List Entry) × IsGathered h m t o j v xs g
   gathered_all g i = ⊎_elim
@@ -113,7 +113,7 @@ module _ (limit : ℕ) (h : List Entry) (c : Caller) (t : Machine) (es : List En
   }
 
 -- a sweep goes on where nothing of its arena was changed
-pub sweeping_on : (limit : ℕ) (c : Caller) (m : Memory) (t : Machine) (es : List Entry) (m' : Memory) → MayMake limit t c es
+pub sweeping_on : (limit : ℕ) (c : Caller) (m : PoolWords) (t : Machine) (es : List Entry) (m' : PoolWords) → MayMake limit t c es
     → ((k : Caller) (a : ArenaId) → t.inside k ≡ Some a → IsStanding (t.life a)) → (z : Shape) (j : ℕ) (o o' : Owners) (x : Sweep)
     → IsSweeping z m t o j x → o'.closer x.arena ≡ o.closer x.arena → StaysEnded m m' x.arena → IsSweeping z m' (moved_by t es) o' j x
 sweeping_on limit c m t es m' ok stands z j o o' x k e s = record {
@@ -127,7 +127,7 @@ sweeping_on limit c m t es m' ok stands z j o o' x k e s = record {
 }
 
 -- who was drawn is so after a step, and nobody else
-module _ {me : ℕ} {z : Shape} {c : Caller} {m : Memory} {t : Machine} {o : Owners} {es : List Entry} {m' : Memory} {o' : Owners}
+module _ {me : ℕ} {z : Shape} {c : Caller} {m : PoolWords} {t : Machine} {o : Owners} {es : List Entry} {m' : PoolWords} {o' : Owners}
     (d : Moved me z c m t o es m' o') where
   pub drawn_still : (k : Caller) → WasDrawn m.draw o.who o.rank k → WasDrawn m'.draw o'.who o'.rank k
   drawn_still k y = (
@@ -141,7 +141,7 @@ module _ {me : ℕ} {z : Shape} {c : Caller} {m : Memory} {t : Machine} {o : Own
     sym (d.callers.who (o.rank k)) ∙ (ap o'.who (sym (d.callers.rank k)) ∙ y.1),
   )
 
-module _ (z : Shape) (h : List Entry) (me : ℕ) (c : Caller) (m : Memory) (t : Machine) (o : Owners) (es : List Entry) (m' : Memory) (o' : Owners)
+module _ (z : Shape) (h : List Entry) (me : ℕ) (c : Caller) (m : PoolWords) (t : Machine) (o : Owners) (es : List Entry) (m' : PoolWords) (o' : Owners)
     (d : Moved me z c m t o es m' o') (own : o.seat c ≡ me) (held : o.number c.number ≡ me) (was : WasDrawn m.draw o.who o.rank c)
     (stands : (k : Caller) (a : ArenaId) → t.inside k ≡ Some a → IsStanding (t.life a)) where
   abbrev t' : Machine

@@ -3,7 +3,7 @@ use Rattle.std.{proofs.Common.{◌≡◌, ◌≢◌, ◌⊎◌, ℕ, List, [], r
 use Rattle.fm_words.specs.declared.shape.Shape.{Shape}
 use Rattle.fm_base.specs.{declared.{caller.Caller.{Caller}, arena_id.ArenaId.{ArenaId}}, Calls.{Entry}}
 use Rattle.fm_base_machine.specs.Functions.{Stage, Closes, Over, Machine}
-use Rattle.fm_rule_facts.specs.{Gone.{IsTakenBy, OpenedBy}, Views.{limit_of}, Facts.{Memory, free, shut, Berth, Owners}}
+use Rattle.fm_rule_facts.specs.{Gone.{IsTakenBy, OpenedBy}, Views.{limit_of}, Facts.{PoolWords, free, shut, Berth, Owners}}
 use Rattle.fm_rule_facts.specs.Moves.{MayMake, NoEnd, StaysEnded, PagesMoved, CallersStay, NumbersMoved, Moved}
 
 pub callers_stay : {draw : ℕ} {who : ℕ → Caller} {rank seat : Caller → ℕ} → CallersStay draw who rank seat draw who rank seat
@@ -17,10 +17,10 @@ pub pages_left : {me : ℕ} {life : ArenaId → Stage} {maps : ℕ → ℕ → O
 pages_left = record { others = λ p j b h. (refl, λ w. refl); stay = λ b i p st e. e }
 
 -- slot bits are no part of an ended arena
-pub stays_ended : {m : Memory} {bits : ℕ} (b : ArenaId) → m.sessions b.slot ≡ shut b → StaysEnded m (record m { bits = bits }) b
+pub stays_ended : {m : PoolWords} {bits : ℕ} (b : ArenaId) → m.sessions b.slot ≡ shut b → StaysEnded m (record m { bits = bits }) b
 stays_ended b f = record { session = f; maps = λ i. refl; given = refl }
 
-module _ {me : ℕ} {z : Shape} {c : Caller} {m : Memory} {t : Machine} {o : Owners} where
+module _ {me : ℕ} {z : Shape} {c : Caller} {m : PoolWords} {t : Machine} {o : Owners} where
   -- entries, pages and given words
   pub berths_moved : {es : List Entry} {page_bits given : ℕ → ℕ} {maps : ℕ → ℕ → Option ℕ} {cells : ℕ → ℕ → ℕ} {berth : ℕ → Berth}
       → MayMake (limit_of z) t c es → ((b : ArenaId) → t.life b ≡ Closes → o.closer b ≢ me → NoEnd es b)

@@ -6,7 +6,7 @@ use Rattle.fm_base.specs.{declared.{caller.Caller.{Caller}, arena_id.ArenaId.{Ar
 use Rattle.fm_base.specs.{Calls.{Call, Open, Enter, Read, Write, SwapIf, Add, Allocate, Leave, Hold, Unhold, Shut, End, Lend, Back, Entry}, Machine.{after}}
 use Rattle.fm_base.{specs.Histories.{IsLegal, state_after}, proofs.Making.{state_after-append}}
 use Rattle.fm_words.specs.declared.shape.Shape.{Shape}
-use Rattle.fm_rule_facts.specs.{Memory.{Session, IsShown}, Pages.{IsBeyond, IsMapped}}
+use Rattle.fm_rule_facts.specs.{PoolWords.{Session, IsShown}, Pages.{IsBeyond, IsMapped}}
 use Rattle.fm_rule_facts.specs.{Loans.{Loan, LendsWithin, loan_of, loans_by, loans_after, IsRightlyLentIn, IsRightlyLentFrom}, Views.{In}, Moves.{LendsBy, MayLend, MayMake}}
 use Rattle.fm_rule_facts.proofs.Frame.{legal_on}
 use Rattle.fm_base_machine.{specs.Functions.{Fresh, Over, stage_of, Machine, Depicts, moved}, proofs.Allowing.{not_fresh}}

@@ -6,7 +6,7 @@ use lib.ListN.{get_elem?}
 use Rattle.fm_words.specs.declared.shape.Shape.{Shape}
 use Rattle.fm_base.specs.{declared.caller.Caller.{Caller}, Calls.{Entry}, Finds.{Find, Gathered, is_number}}
 use Rattle.fm_rule_facts.specs.{Hands.{number_taken, number_learnt, most_draws, HasNumberIn}, Views.{View, In, prefix, all_gathered, brought}, Splits.{gather}}
-use Rattle.fm_rule_facts.specs.Facts.{Memory, Owners, WasDrawn, Somewhere, WantsNumber, IsUsed, used, wanted, full, HasLooked, LookedBy, IsLooked, IsLoose, Rule}
+use Rattle.fm_rule_facts.specs.Facts.{PoolWords, Owners, WasDrawn, Somewhere, WantsNumber, IsUsed, used, wanted, full, HasLooked, LookedBy, IsLooked, IsLoose, Rule}
 use Rattle.fm_rule_facts.{specs.Moves.{told}, proofs.{Handing.{hand_owner}, Keeping.{in_append, all_gather}}}
 
 pub prefix-append : (k : ℕ) (xs ys : List Gathered) → k ≤ length xs → prefix k (xs ++ ys) ≡ prefix k xs
@@ -35,7 +35,7 @@ pub wants_loose : (z : Shape) (ws : List ℕ) (vs : List View) (r : Rule z ws vs
 wants_loose z ws vs r j n v at h =
     hand_owner z r.history r.memory r.machine r.owners j v v.number n (wants_in n v h) ((r.each j v at).owns h.0).number
 
-module _ (z : Shape) (m : Memory) (o : Owners) (vs : List View) (m' : Memory) (o' : Owners) (us : List View)
+module _ (z : Shape) (m : PoolWords) (o : Owners) (vs : List View) (m' : PoolWords) (o' : Owners) (us : List View)
     (on : (c : Caller) → WasDrawn m.draw o.who o.rank c → WasDrawn m'.draw o'.who o'.rank c)
     (most : m.draw ≡ most_draws → m'.draw ≡ most_draws)
     (wants : (before : List Gathered) → ((g : Gathered) → In g before → WasDrawn m.draw o.who o.rank g.caller) → (n : ℕ)
@@ -57,7 +57,7 @@ module _ (z : Shape) (m : Memory) (o : Owners) (vs : List View) (m' : Memory) (o
     theirs = λ g i f j. looked_by_on [] f (y.theirs g i f j);
   }
 
-module _ (z : Shape) (m : Memory) (o : Owners) (vs : List View) where
+module _ (z : Shape) (m : PoolWords) (o : Owners) (vs : List View) where
   -- where less is asked
   none_before : (before : List Gathered) (f : Find) → LookedBy z m o vs before f → LookedBy z m o vs [] f
   none_before before f h i e =
@@ -113,6 +113,6 @@ module _ (z : Shape) (m : Memory) (o : Owners) (vs : List View) where
   }
 
 -- where no number was looked for, all that was noted is so
-pub none_looked : (z : Shape) (m : Memory) (o : Owners) (vs : List View) (before : List Gathered) (f : Find) → is_number f.step ≡ false
+pub none_looked : (z : Shape) (m : PoolWords) (o : Owners) (vs : List View) (before : List Gathered) (f : Find) → is_number f.step ≡ false
     → LookedBy z m o vs before f
 none_looked z m o vs before f s e = let q : true ≡ false = sym e ∙ s in absurd (cc)

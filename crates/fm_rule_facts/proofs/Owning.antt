@@ -4,11 +4,11 @@ use Rattle.fm_words.specs.declared.shape.Shape.{Shape}
 use Rattle.fm_base.specs.{declared.caller.Caller.{Caller}, Calls.{Entry}, Histories.{made_by}, Finds.{Find, Gathered}}
 use Rattle.fm_base_machine.specs.{Functions.{Machine}, Steps.{moved_by}}
 use Rattle.fm_rule_facts.specs.Views.{View, In, IsSound, all_gathered, brought, limit_of, HasOwnHandles}
-use Rattle.fm_rule_facts.specs.{Facts.{Memory, Owners, IsOnce, Work, Knows, WasDrawn, bit_of}, Moves.{Moved, Same, KeepsHand, told, Gives}}
+use Rattle.fm_rule_facts.specs.{Facts.{PoolWords, Owners, IsOnce, Work, Knows, WasDrawn, bit_of}, Moves.{Moved, Same, KeepsHand, told, Gives}}
 use Rattle.fm_rule_facts.proofs.{Frame.{others_stay, made_by-other}, Handing.{hand_view}}
 use Rattle.fm_rule_facts.proofs.{Keeping.{none_added, silent_since, begins_on, gathered_all, made_by-on, drawn_still, drawn_before}, Working.{work_as}}
 
-module _ (z : Shape) (h zs : List Entry) (me : ℕ) (m m' : Memory) (t : Machine) (o o' : Owners) (es : List Entry) (fs : ℕ → List Find) (v p : View)
+module _ (z : Shape) (h zs : List Entry) (me : ℕ) (m m' : PoolWords) (t : Machine) (o o' : Owners) (es : List Entry) (fs : ℕ → List Find) (v p : View)
     (k : Knows z h m t o me v) (l : v.live ≡ true) (d : Moved me z v.caller m t o es m' o') (is : h ≡ v.seen ++ zs) (s : Same v p) where
   abbrev pub w : View
   w = told p zs es fs

@@ -3,10 +3,10 @@ use Rattle.std.{proofs.Common.{◌≡◌, ◌≢◌, ℕ, ◌+◌, ◌<◌, ap, 
 use Rattle.fm_words.specs.declared.shape.Shape.{Shape}
 use Rattle.fm_base.specs.declared.arena_id.ArenaId.{ArenaId}
 use Rattle.fm_base_machine.{specs.Functions.{Fresh, Over, Machine, put}, proofs.Putting.{put_else, put_cases}}
-use Rattle.fm_rule_facts.specs.{Views.{Fits}, Facts.{Session, free, shut, Memory, World}}
+use Rattle.fm_rule_facts.specs.{Views.{Fits}, Facts.{Session, free, shut, PoolWords, World}}
 use Rattle.fm_rule_facts.proofs.Sessions.{ended_apart, sessions_retire, slots_retired, slots_given}
 
-module _ (z : Shape) (m : Memory) (t : Machine) (r : World z m t) where
+module _ (z : Shape) (m : PoolWords) (t : Machine) (r : World z m t) where
   -- ---- an arena that has ended and isn't retired
 
   module _ (a : ArenaId) (f : m.sessions a.slot ≡ shut a) (o : t.life a ≡ Over) where

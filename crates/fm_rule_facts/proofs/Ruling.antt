@@ -8,7 +8,7 @@ use Rattle.fm_words.specs.declared.shape.Shape.{Shape}
 use Rattle.fm_base.specs.{declared.caller.Caller.{Caller}, Calls.{Entry}, Finds.{Find, Gathered, is_number}}
 use Rattle.fm_base_machine.specs.{Functions.{Closes, Over, Machine}, Steps.{moved_by}}
 use Rattle.fm_rule_facts.specs.Views.{all_gathered, brought, caller_of, View, In, limit_of}
-use Rattle.fm_rule_facts.specs.Facts.{Memory, Work, free, shut, Berth, loose, claimed, mapped, unmapped, IsAt, Pages, HasPage, Owners, Shows, World, HasDraw, HasClose, HasSweep, KeepsSlot, Somewhere, Knows, Rule, KeepsCaller, WantsNumber, IsUsed, wanted, IsLooked, LookedBy, KeepsNumber, WasDrawn, bit_of, IsSpent}
+use Rattle.fm_rule_facts.specs.Facts.{PoolWords, Work, free, shut, Berth, loose, claimed, mapped, unmapped, IsAt, Pages, HasPage, Owners, Shows, World, HasDraw, HasClose, HasSweep, KeepsSlot, Somewhere, Knows, Rule, KeepsCaller, WantsNumber, IsUsed, wanted, IsLooked, LookedBy, KeepsNumber, WasDrawn, bit_of, IsSpent}
 use Rattle.fm_rule_facts.specs.Moves.{Moved, Same, KeepsHand, KeepsCloses, KeepsSweeps, KeepsSlots, KeepsPages, KeepsHolds, told, Gives, MayLend, NumbersOn}
 use Rattle.fm_rule_facts.specs.{Hands.{number_drawn}, Holds.{holds_of}, Loans.{Loan, loans_of, loans_after}}
 use Rattle.fm_rule_facts.{proofs.Lending.{loans_after-append, lent-append, lent_on, within_on}, specs.Gone.{FoundBy, IsFounded}}
@@ -65,7 +65,7 @@ page_like i (mapped k c) v w l p s h = h
 page_like i (unmapped j a c) v w l p s h = (l ∙ h.0, (h.1.0, s ∙ h.1.1))
 
 -- the facts of pages after entries
-abbrev pub PagesAfter : Shape → List Entry → Memory → Machine → Owners → List Entry → Type 0
+abbrev pub PagesAfter : Shape → List Entry → PoolWords → Machine → Owners → List Entry → Type 0
 PagesAfter z h m t o es =
     Pages z (loans_after (loans_of h) es) m.page_bits m.maps m.cells o.berth m.sessions (moved_by t es).life (moved_by t es).word (moved_by t es).given
 
@@ -83,8 +83,8 @@ unlooked {z} {ws} {vs} r v fs none f i =
     let no : is_number f.step ≡ false = none (length r.history) f i in
     ((λ q. absurd (let e : true ≡ false = sym q ∙ no in cc)), none_looked z r.memory r.owners vs v.gathered f no)
 
--- the rule and what is told after a step of the seat me: what the words, the memory and the caller's part are is the step's own business
-module _ (z : Shape) (ws ws' : List ℕ) (vs : List View) (r : Rule z ws vs) (me : ℕ) (v p : View) (es : List Entry) (fs : ℕ → List Find) (m' : Memory)
+-- the rule and what is told after a step of the seat me: what the words, what is decoded from them and the caller's part are is the step's own business
+module _ (z : Shape) (ws ws' : List ℕ) (vs : List View) (r : Rule z ws vs) (me : ℕ) (v p : View) (es : List Entry) (fs : ℕ → List Find) (m' : PoolWords)
     (o' : Owners) (at : get_elem? vs me ≡ some v) (l : v.live ≡ true) (d : Moved me z v.caller r.memory r.machine r.owners es m' o') (s : Same v p) where
   abbrev After : Type 0
   After = MayLend z r.machine (loans_of r.history) es → PagesAfter z r.history m' r.machine o' es

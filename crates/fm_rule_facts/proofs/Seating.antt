@@ -3,12 +3,12 @@ use Rattle.std.proofs.Common.{◌≡◌, ℕ, true, List, sym, ◌∙◌, subst}
 use Rattle.fm_words.specs.declared.shape.Shape.{Shape}
 use Rattle.fm_base.specs.{declared.caller.Caller.{Caller}, Calls.{Entry}, Finds.{Gathered}}
 use Rattle.fm_base_machine.specs.Functions.{Machine}
-use Rattle.fm_rule_facts.specs.{Views.{View}, Facts.{Memory, Owners, WasDrawn, IsGathered, HasNumberInHand, Owns, Knows}}
+use Rattle.fm_rule_facts.specs.{Views.{View}, Facts.{PoolWords, Owners, WasDrawn, IsGathered, HasNumberInHand, Owns, Knows}}
 use Rattle.fm_rule_facts.proofs.{Handing.{hand_owners, hand_owner}, Working.{work_as}}
 
-module _ {z : Shape} {h : List Entry} {m : Memory} {t : Machine} {o : Owners} {j : ℕ} {u : View} where
+module _ {z : Shape} {h : List Entry} {m : PoolWords} {t : Machine} {o : Owners} {j : ℕ} {u : View} where
   -- what a view knows stands where its pass has what it had
-  pub knows_as : {m' : Memory} {o' : Owners} → (Owns z h m t o j u → Owns z h m' t o' j u) → Knows z h m t o j u → Knows z h m' t o' j u
+  pub knows_as : {m' : PoolWords} {o' : Owners} → (Owns z h m t o j u → Owns z h m' t o' j u) → Knows z h m t o j u → Knows z h m' t o' j u
   knows_as f k = record { shape = k.shape; begins = k.begins; met = k.met; owns = λ l. f (k.owns l) }
 
   -- callers may be drawn, and go to other seats, but none of those at its seat

@@ -1,4 +1,4 @@
--- Words beside the memory: distinct places are distinct words, and one word that is set is one place of the memory.
+-- Words and what is decoded from them: distinct places are distinct words, and one word that is set is one place of what is decoded.
 use Rattle.std.proofs.Common.{◌≡◌, ◌≢◌, ℕ, ◌<◌, List, length, get_or, set, Option, sym, refl, ap, ◌∙◌, subst, arith, length-set, get_or-set_other, get_or-set_same}
 use mathlib.Core.Logic.{dite}
 use native.Mathlib.Decide.{ℕ_discrete}
@@ -8,11 +8,11 @@ use Rattle.fm_words.specs.Places.{Place, IsPlace, at, front as front_place, draw
 use Rattle.fm_words.proofs.Tables.{at-within, at-apart}
 use Rattle.fm_base.specs.declared.arena_id.ArenaId.{ArenaId}
 use Rattle.fm_base_machine.{specs.Functions.{put}, proofs.Putting.{put_here, put_else}}
-use Rattle.fm_rule_facts.{proofs.Putting.{two_cases}, specs.{Words.{own_word}, Facts.{Memory, Session, session_code, own_map, Shows}}}
+use Rattle.fm_rule_facts.{proofs.Putting.{two_cases}, specs.{Words.{own_word}, Facts.{PoolWords, Session, session_code, own_map, Shows}}}
 
 -- ---- places
 
--- what of the memory a word has
+-- what a word says
 data Spot : Type 0 where
   fronted : Spot
   drawn : Spot
@@ -52,7 +52,7 @@ IsSpot z (numbered g) = g < groups z
 IsSpot z (termed k) = k < z.passes
 IsSpot z (cell p w) = (p < z.pages) × (w < z.page_words)
 
-word_of : Shape → Memory → Spot → ℕ
+word_of : Shape → PoolWords → Spot → ℕ
 word_of z m fronted = 0
 word_of z m drawn = m.draw
 word_of z m bits = m.bits
@@ -133,7 +133,7 @@ spot_below z p v h = subst (λ (i : ℕ). i < word_count z) (sym (spot_is z p)) 
 same_spot : (z : Shape) (p q : Spot) → IsSpot z p → IsSpot z q → Dec (q ≡ p)
 same_spot z p q a b = dite (ℕ_discrete (spot_at z q) (spot_at z p)) (λ e. yes (spot_one z q p b a e)) (λ n. no (λ e. n (ap (spot_at z) e)))
 
-shown : (z : Shape) (ws : List ℕ) (m : Memory) → Shows z ws m → (p : Spot) → IsSpot z p → get_or ws (spot_at z p) 0 ≡ word_of z m p
+shown : (z : Shape) (ws : List ℕ) (m : PoolWords) → Shows z ws m → (p : Spot) → IsSpot z p → get_or ws (spot_at z p) 0 ≡ word_of z m p
 unfolding spot_at IsSpot word_of
 shown z ws m r fronted h = r.front
 shown z ws m r drawn h = r.draw
@@ -147,7 +147,7 @@ shown z ws m r (numbered g) h = r.numbers g h
 shown z ws m r (termed k) h = r.terms k h
 shown z ws m r (cell s w) h = r.cells s w h.0 h.1
 
-shows_by : (z : Shape) (ws : List ℕ) (m : Memory) → length ws ≡ word_count z
+shows_by : (z : Shape) (ws : List ℕ) (m : PoolWords) → length ws ≡ word_count z
     → ((p : Spot) → IsSpot z p → get_or ws (spot_at z p) 0 ≡ word_of z m p) → Shows z ws m
 unfolding spot_at IsSpot word_of
 shows_by z ws m w f = record {
@@ -165,9 +165,9 @@ shows_by z ws m w f = record {
   cells = λ s w a b. f (cell s w) (a, b);
 }
 
-module _ (z : Shape) (v : IsValid z) (ws : List ℕ) (m : Memory) (r : Shows z ws m) where
-  -- the memory differs at one place
-  one_set : (m' : Memory) (p : Spot) (x : ℕ) → IsSpot z p → word_of z m' p ≡ x
+module _ (z : Shape) (v : IsValid z) (ws : List ℕ) (m : PoolWords) (r : Shows z ws m) where
+  -- what is decoded differs at one place
+  one_set : (m' : PoolWords) (p : Spot) (x : ℕ) → IsSpot z p → word_of z m' p ≡ x
       → ((q : Spot) → q ≢ p → word_of z m' q ≡ word_of z m q) → Shows z (set ws (spot_at z p) x) m'
   one_set m' p x h here others = shows_by z (set ws (spot_at z p) x) m' (length-set ws (spot_at z p) x ∙ r.wide) (λ q i. dite (same_spot z p q h i)
       (λ e. ap (λ (c : Spot). get_or (set ws (spot_at z p) x) (spot_at z c) 0) e

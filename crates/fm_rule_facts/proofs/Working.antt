@@ -3,10 +3,10 @@ use Rattle.std.proofs.Common.{◌≡◌, ℕ, Bool, true, List, Option, None, in
 use Rattle.fm_words.specs.declared.shape.Shape.{Shape}
 use Rattle.fm_base.specs.{declared.caller.Caller.{Caller}, Calls.{Entry}, Finds.{Find, Gathered}}
 use Rattle.fm_base_machine.specs.Functions.{Machine}
-use Rattle.fm_rule_facts.specs.{Hands.{Hand, IsTaker, Number}, Views.{Met, View}, Facts.{Memory, Owners, HasInHand, Work}, Splits.{view_of}}
+use Rattle.fm_rule_facts.specs.{Hands.{Hand, IsTaker, Number}, Views.{Met, View}, Facts.{PoolWords, Owners, HasInHand, Work}, Splits.{view_of}}
 
 -- callers, numbers and what was seen are no part of the work, which goes on with this slot in the hand
-pub work_with : {z : Shape} {m : Memory} {t : Machine} {o : Owners} {j : ℕ} {v : View} {draw bits : ℕ} {numbers terms : ℕ → ℕ} {who : ℕ → Caller}
+pub work_with : {z : Shape} {m : PoolWords} {t : Machine} {o : Owners} {j : ℕ} {v : View} {draw bits : ℕ} {numbers terms : ℕ → ℕ} {who : ℕ → Caller}
     {rank seat : Caller → ℕ} {owner holder : ℕ → ℕ} {taker : ℕ → Option Caller} {seen : List Entry} {hand : Hand} {number : Number} {met : List Met}
     {finds : List Find} {gathered : List Gathered} {whole : Bool}
     → Work z m t o j v → HasInHand z bits m.sessions holder j hand → IsTaker taker v.caller hand
@@ -28,7 +28,7 @@ work_with w hand took = record {
 }
 
 -- and with the same slot
-pub work_as : {z : Shape} {m : Memory} {t : Machine} {o : Owners} {j : ℕ} {v : View} {draw : ℕ} {numbers terms : ℕ → ℕ} {who : ℕ → Caller}
+pub work_as : {z : Shape} {m : PoolWords} {t : Machine} {o : Owners} {j : ℕ} {v : View} {draw : ℕ} {numbers terms : ℕ → ℕ} {who : ℕ → Caller}
     {rank seat : Caller → ℕ} {owner : ℕ → ℕ} {seen : List Entry} {number : Number} {met : List Met} {finds : List Find} {gathered : List Gathered} {whole : Bool}
     → Work z m t o j v → Work z (record m { draw = draw; numbers = numbers; terms = terms }) t
     (record o { who = who; rank = rank; seat = seat; number = owner }) j
@@ -36,7 +36,7 @@ pub work_as : {z : Shape} {m : Memory} {t : Machine} {o : Owners} {j : ℕ} {v :
 work_as w = work_with w w.hand w.took
 
 -- a new pass has nothing under way
-pub no_work : {z shape : Shape} {m : Memory} {t : Machine} {o : Owners} {j : ℕ} {seen : List Entry} {caller : Caller} {whole : Bool}
+pub no_work : {z shape : Shape} {m : PoolWords} {t : Machine} {o : Owners} {j : ℕ} {seen : List Entry} {caller : Caller} {whole : Bool}
     → t.inside caller ≡ None → m.marks caller.number ≡ None → Work z m t o j (record (view_of shape true seen) { caller = caller; whole = whole })
 no_work inside mark = record {
   inside = inside;

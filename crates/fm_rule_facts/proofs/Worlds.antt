@@ -4,7 +4,7 @@ use Rattle.fm_words.specs.declared.shape.Shape.{Shape}
 use Rattle.fm_base.specs.declared.{caller.Caller.{Caller}, arena_id.ArenaId.{ArenaId}}
 use Rattle.fm_base_machine.specs.Functions.{Stage, Fresh, Lives, Closes, Over, Machine, put, put_at, put_by}
 use Rattle.fm_base_machine.proofs.Putting.{put_here, put_else, put_cases, at_cases, by_cases}
-use Rattle.fm_rule_facts.specs.{Views.{Fits}, Facts.{Session, free, live, shut, Memory, IsStanding, IsMarked, Counts, Givens, World}}
+use Rattle.fm_rule_facts.specs.{Views.{Fits}, Facts.{Session, free, live, shut, PoolWords, IsStanding, IsMarked, Counts, Givens, World}}
 use Rattle.fm_rule_facts.proofs.Sessions.{caller_is, standing_known, one_standing, free_apart, sessions_shut, sessions_end, open_new, sessions_open, slots_used}
 
 -- ---- holds, given bytes and words
@@ -74,7 +74,7 @@ module _ (sessions : ℕ → Session) (words : ℕ → ℕ) (life : ArenaId → 
 
 -- ---- each kind of entry
 
-module _ (z : Shape) (m : Memory) (t : Machine) (r : World z m t) where
+module _ (z : Shape) (m : PoolWords) (t : Machine) (r : World z m t) where
   -- who is under way in an arena whose stage becomes s is so still, where s stands
   stands_on : (a : ArenaId) (s : Stage) → ((c : Caller) (b : ArenaId) → t.inside c ≡ Some b → b ≡ a → IsStanding s) → (c : Caller) (b : ArenaId)
       → t.inside c ≡ Some b → IsMarked z m.marks m.terms (put_at t.life a s) c b

@@ -1,10 +1,10 @@
 -- The memory of a new pool.
 use Rattle.std.specs.Prelude.{ℕ, None}
 use Rattle.fm_words.specs.{declared.shape.Shape.{Shape}, Bits.{ones}}
-use Rattle.fm_rule_facts.specs.Memory.{Memory, free}
+use Rattle.fm_rule_facts.specs.PoolWords.{PoolWords, free}
 
 -- with these slot bits, page bits and number bits
-unfoldable pub blank : ℕ → (page_bits numbers : ℕ → ℕ) → Memory
+unfoldable pub blank : ℕ → (page_bits numbers : ℕ → ℕ) → PoolWords
 blank bits page_bits numbers = record {
   draw = 1;
   numbers = numbers;
@@ -20,5 +20,5 @@ blank bits page_bits numbers = record {
 }
 
 -- every slot can be taken
-abbrev pub first_memory : Shape → (page_bits numbers : ℕ → ℕ) → Memory
-first_memory z page_bits numbers = blank (ones z.slots) page_bits numbers
+abbrev pub first_words : Shape → (page_bits numbers : ℕ → ℕ) → PoolWords
+first_words z page_bits numbers = blank (ones z.slots) page_bits numbers

@@ -11,12 +11,12 @@ use Rattle.fm_rule_facts.specs.{Views.{Met, View, Fits, In, HasOwnHandles, all_g
 use Rattle.fm_rule_facts.specs.{Gone.{IsFounded}, Holds.{holds_of, total, all_holds}}
 use Rattle.fm_base_machine.specs.Functions.{Stage, Fresh, Lives, Closes, Over, Machine, Depicts}
 pub use Rattle.fm_rule_facts.specs.Views.{IsOnce, Begins}
-pub use Rattle.fm_rule_facts.specs.Memory.{Session, free, live, shut, Memory, session_code, own_map, Shows, IsStanding, IsShown}
+pub use Rattle.fm_rule_facts.specs.PoolWords.{Session, free, live, shut, PoolWords, session_code, own_map, Shows, IsStanding, IsShown}
 pub use Rattle.fm_rule_facts.specs.Berths.{Berth, loose, claimed, mapped, unmapped, IsAt}
 pub use Rattle.fm_rule_facts.specs.Pages.{Pages}
 pub use Rattle.fm_words.specs.Bits.{bit_of}
 
--- ---- the memory beside the machine
+-- ---- the pool's words beside the machine
 
 -- a caller under way has its number's term, and the number's mark names the arena
 pub record IsMarked (z : Shape) (marks : ℕ → Option ArenaId) (terms : ℕ → ℕ) (life : ArenaId → Stage) (c : Caller) (a : ArenaId) : Type 0 where
@@ -60,7 +60,7 @@ pub record Givens (sessions : ℕ → Session) (words : ℕ → ℕ) (life : Are
   pub none : (a : ArenaId) → life a ≡ Fresh → given a ≡ 0
   pub clean : (s g : ℕ) → sessions s ≡ free g → words s ≡ 0
 
-pub record World (z : Shape) (m : Memory) (t : Machine) : Type 0 where
+pub record World (z : Shape) (m : PoolWords) (t : Machine) : Type 0 where
   pub marked : (c : Caller) (a : ArenaId) → t.inside c ≡ Some a → IsMarked z m.marks m.terms t.life c a
   pub sessions : Sessions z m.sessions t.life
   pub slots : Slots z m.bits m.sessions
@@ -103,7 +103,7 @@ pub record IsClosing (t : Machine) (o : Owners) (j : ℕ) (c : Close) : Type 0 w
   pub passed : (k : Caller) → k.number < c.passed → t.inside k ≢ Some c.arena
 
 -- an arena at the seat j that ended and isn't retired
-pub record IsSweeping (z : Shape) (m : Memory) (t : Machine) (o : Owners) (j : ℕ) (c : Sweep) : Type 0 where
+pub record IsSweeping (z : Shape) (m : PoolWords) (t : Machine) (o : Owners) (j : ℕ) (c : Sweep) : Type 0 where
   pub owner : o.closer c.arena ≡ j
   pub life : t.life c.arena ≡ Over
   pub session : m.sessions c.arena.slot ≡ shut c.arena
@@ -166,19 +166,19 @@ pub record IsSilent (c : Caller) (h : List Entry) (t : Machine) : Type 0 where
   pub outside : t.inside c ≡ None
 
 -- a number whose bit is 0, at the seat j, that no live pass has as its own
-pub record IsLoose (z : Shape) (m : Memory) (o : Owners) (j n : ℕ) : Type 0 where
+pub record IsLoose (z : Shape) (m : PoolWords) (o : Owners) (j n : ℕ) : Type 0 where
   pub low : n < z.passes
   pub owner : o.number n ≡ j
   pub bit : bit_of m.numbers n ≡ 0
   pub mark : m.marks n ≡ None
 
 -- and whose next caller wasn't drawn
-pub record IsUndrawn (z : Shape) (m : Memory) (o : Owners) (j n : ℕ) : Type 0 where
+pub record IsUndrawn (z : Shape) (m : PoolWords) (o : Owners) (j n : ℕ) : Type 0 where
   pub loose : IsLoose z m o j n
   pub fresh : ¬ (WasDrawn m.draw o.who o.rank (next_of m.terms n))
 
 -- a caller that is gathered into the view v at the seat j, and was so when xs was seen
-pub record IsGathered (h : List Entry) (m : Memory) (t : Machine) (o : Owners) (j : ℕ) (v : View) (xs : List Entry) (g : Gathered) : Type 0 where
+pub record IsGathered (h : List Entry) (m : PoolWords) (t : Machine) (o : Owners) (j : ℕ) (v : View) (xs : List Entry) (g : Gathered) : Type 0 where
   pub drawn : WasDrawn m.draw o.who o.rank g.caller
   pub seated : o.seat g.caller ≡ j
   pub apart : g.caller ≢ v.caller
@@ -186,7 +186,7 @@ pub record IsGathered (h : List Entry) (m : Memory) (t : Machine) (o : Owners) (
   pub quiet : made_by g.caller h ≡ made_by g.caller xs
 
 -- a caller that was drawn at the seat j and isn't split off
-pub record IsDrawn (z : Shape) (h : List Entry) (m : Memory) (t : Machine) (o : Owners) (j : ℕ) (v : View) (c : Caller) : Type 0 where
+pub record IsDrawn (z : Shape) (h : List Entry) (m : PoolWords) (t : Machine) (o : Owners) (j : ℕ) (v : View) (c : Caller) : Type 0 where
   pub loose : IsLoose z m o j c.number
   pub term : c.term ≡ m.terms c.number
   pub drawn : WasDrawn m.draw o.who o.rank c
@@ -197,18 +197,18 @@ pub record IsDrawn (z : Shape) (h : List Entry) (m : Memory) (t : Machine) (o : 
   pub silent : IsSilent c h t
 
 -- a caller that is gathered into v, and whose number is to be returned
-pub record IsJoined (z : Shape) (m : Memory) (o : Owners) (j : ℕ) (v : View) (c : Caller) : Type 0 where
+pub record IsJoined (z : Shape) (m : PoolWords) (o : Owners) (j : ℕ) (v : View) (c : Caller) : Type 0 where
   pub loose : IsLoose z m o j c.number
   pub term : c.term ≡ m.terms c.number
   pub left : c.term < last_term
   pub gathered : (g : Gathered) × In g (all_gathered v) × (g.caller ≡ c)
 
 -- a caller of the number is gathered into v, or nobody can be drawn any more
-abbrev pub WasLeft : Memory → View → ℕ → Type 0
+abbrev pub WasLeft : PoolWords → View → ℕ → Type 0
 WasLeft m v n = (m.draw ≡ most_draws) ⊎ ((g : Gathered) × In g (all_gathered v) × (g.caller.number ≡ n))
 
 -- what is known of the number in the hand of v
-abbrev pub HasNumberInHand : (z : Shape) (h : List Entry) (m : Memory) (t : Machine) (o : Owners) (j : ℕ) (v : View) → Number → Type 0
+abbrev pub HasNumberInHand : (z : Shape) (h : List Entry) (m : PoolWords) (t : Machine) (o : Owners) (j : ℕ) (v : View) → Number → Type 0
 HasNumberInHand z h m t o j v no_number = Unit {0}
 HasNumberInHand z h m t o j v (number_taken n) = IsUndrawn z m o j n
 HasNumberInHand z h m t o j v (number_learnt n term) = IsUndrawn z m o j n × (term ≡ m.terms n)
@@ -222,7 +222,7 @@ abbrev pub HasGathered : Caller → View → Type 0
 HasGathered c v = (g : Gathered) × In g (all_gathered v) × (g.caller ≡ c)
 
 -- what the pass of a view has under way: where it is, what it closes and sweeps, the slot in its hand, and pages
-pub record Work (z : Shape) (m : Memory) (t : Machine) (o : Owners) (j : ℕ) (v : View) : Type 0 where
+pub record Work (z : Shape) (m : PoolWords) (t : Machine) (o : Owners) (j : ℕ) (v : View) : Type 0 where
   pub inside : t.inside v.caller ≡ v.inside
   pub mark : m.marks v.caller.number ≡ v.mark
   pub closes : (c : Close) → In c v.closes → IsClosing t o j c
@@ -233,7 +233,7 @@ pub record Work (z : Shape) (m : Memory) (t : Machine) (o : Owners) (j : ℕ) (v
   pub took : IsTaker o.taker v.caller v.hand
   pub pages : HasPages z m.maps m.cells o.berth j v.inside v.reads v.pages v.sweeps v.swept
 
-pub record Owns (z : Shape) (h : List Entry) (m : Memory) (t : Machine) (o : Owners) (j : ℕ) (v : View) : Type 0 where
+pub record Owns (z : Shape) (h : List Entry) (m : PoolWords) (t : Machine) (o : Owners) (j : ℕ) (v : View) : Type 0 where
   pub drawn : WasDrawn m.draw o.who o.rank v.caller
   pub term : v.caller.term ≡ m.terms v.caller.number
   pub seated : o.seat v.caller ≡ j
@@ -250,7 +250,7 @@ pub record Owns (z : Shape) (h : List Entry) (m : Memory) (t : Machine) (o : Own
   pub whole : v.whole ≡ true → (c : Caller) → WasDrawn m.draw o.who o.rank c → c ≢ v.caller → HasGathered c v
   pub seen_all : v.whole ≡ true → v.seen ≡ h
 
-pub record Knows (z : Shape) (h : List Entry) (m : Memory) (t : Machine) (o : Owners) (j : ℕ) (v : View) : Type 0 where
+pub record Knows (z : Shape) (h : List Entry) (m : PoolWords) (t : Machine) (o : Owners) (j : ℕ) (v : View) : Type 0 where
   pub shape : v.live ≡ true → v.shape ≡ z
   pub begins : Begins v.seen h
   pub met : (x : Met) → In x v.met → Begins x.seen h
@@ -283,12 +283,12 @@ abbrev pub KeepsNumber : ℕ → View → Type 0
 KeepsNumber n v = (v.live ≡ true) × ((v.caller.number ≡ n) ⊎ HasNumberIn n v.number)
 
 -- a number that was returned, and can be drawn
-pub record IsFreeNumber (m : Memory) (o : Owners) (n : ℕ) : Type 0 where
+pub record IsFreeNumber (m : PoolWords) (o : Owners) (n : ℕ) : Type 0 where
   pub mark : m.marks n ≡ None
   pub fresh : ¬ (WasDrawn m.draw o.who o.rank (next_of m.terms n))
 
 -- a number that had its last term
-pub record IsSpent (m : Memory) (o : Owners) (n : ℕ) : Type 0 where
+pub record IsSpent (m : PoolWords) (o : Owners) (n : ℕ) : Type 0 where
   pub mark : m.marks n ≡ None
   pub last : m.terms n ≡ last_term
   pub drawn : WasDrawn m.draw o.who o.rank (next_of m.terms n)
@@ -325,21 +325,21 @@ abbrev pub WantsNumber : ℕ → View → Type 0
 WantsNumber n v = (v.live ≡ true) × ((v.number ≡ number_taken n) ⊎ ((term : ℕ) × (v.number ≡ number_learnt n term)))
 
 -- a caller of the number was drawn that isn't one of these, or is its last; or another is about to be drawn; or nobody can be any more
-pub data IsUsed (m : Memory) (o : Owners) (views : List View) (before : List Gathered) (n : ℕ) : Type 0 where
+pub data IsUsed (m : PoolWords) (o : Owners) (views : List View) (before : List Gathered) (n : ℕ) : Type 0 where
   used : (c : Caller) → c.number ≡ n → WasDrawn m.draw o.who o.rank c → (c.term ≡ last_term) ⊎ ((g : Gathered) → In g before → g.caller ≢ c)
       → IsUsed m o views before n
   wanted : Somewhere views (o.number n) (WantsNumber n) → IsUsed m o views before n
   full : m.draw ≡ most_draws → IsUsed m o views before n
 
 -- the find of a word 0 of number bits, where these were gathered
-pub record HasLooked (z : Shape) (m : Memory) (o : Owners) (views : List View) (before : List Gathered) (f : Find) : Type 0 where
+pub record HasLooked (z : Shape) (m : PoolWords) (o : Owners) (views : List View) (before : List Gathered) (f : Find) : Type 0 where
   pub drawn : (g : Gathered) → In g before → WasDrawn m.draw o.who o.rank g.caller
   pub all : (n : ℕ) → n / 64 ≡ group_of f.step → n < z.passes → IsUsed m o views before n
 
-abbrev pub LookedBy : (z : Shape) (m : Memory) (o : Owners) (views : List View) (before : List Gathered) (f : Find) → Type 0
+abbrev pub LookedBy : (z : Shape) (m : PoolWords) (o : Owners) (views : List View) (before : List Gathered) (f : Find) → Type 0
 LookedBy z m o views before f = is_number f.step ≡ true → f.found ≡ 0 → HasLooked z m o views before f
 
-pub record IsLooked (z : Shape) (m : Memory) (o : Owners) (views : List View) (v : View) : Type 0 where
+pub record IsLooked (z : Shape) (m : PoolWords) (o : Owners) (views : List View) (v : View) : Type 0 where
   pub few : (f : Find) → In f v.finds → is_number f.step ≡ true → f.gathered ≤ length v.gathered
   pub finds : (f : Find) → In f v.finds → LookedBy z m o views (prefix f.gathered v.gathered) f
   pub theirs : (g : Gathered) → In g (all_gathered v) → (f : Find) → In f g.finds → LookedBy z m o views [] f
@@ -348,7 +348,7 @@ pub record IsLooked (z : Shape) (m : Memory) (o : Owners) (views : List View) (v
 
 pub record Rule (z : Shape) (words : List ℕ) (views : List View) : Type 0 where
   pub history : List Entry
-  pub memory : Memory
+  pub memory : PoolWords
   pub machine : Machine
   pub owners : Owners
   pub valid : IsValid z

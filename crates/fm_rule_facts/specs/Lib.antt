@@ -9,7 +9,7 @@ pub mod Closes
 pub mod Holds
 pub mod Handles
 pub mod Steps
-pub mod Memory
+pub mod PoolWords
 pub mod Beginning
 pub mod Pages
 pub mod Gone

@@ -11,7 +11,7 @@ use Rattle.fm_rule_facts.specs.declared.step.Step.{Step}
 use Rattle.fm_rule_facts.specs.declared.step.Step.TheVariants.{Visits, Draws, Holds, Backs, TakesSlot, ReadsMap, Maps, Allocates, SweepsGiven, SweepsMap, LearnsTerm}
 use Rattle.fm_rule_facts.specs.{Views.{Met, View, In, IsSound, IsBusy, all_gathered, caller_of, HasFind, HasAllDrawn, given_of, limit_of}, Steps.{part, entries, noted}}
 use Rattle.fm_rule_facts.specs.{Words.{own_word, alive_holds}, Holds.{grips, holds_of, all_holds}, Gone.{IsTakenBy, OpenedBy}}
-use Rattle.fm_rule_facts.specs.Facts.{Memory, free, shut, IsStanding, IsAt, HasPage, Owners, HasClose, HasSweep, KeepsSlot, Begins, Rule, bit_of, KeepsNumber, WantsNumber, IsSpent, IsFreeNumber, HasNumberInHand, Berth, WasDrawn}
+use Rattle.fm_rule_facts.specs.Facts.{PoolWords, free, shut, IsStanding, IsAt, HasPage, Owners, HasClose, HasSweep, KeepsSlot, Begins, Rule, bit_of, KeepsNumber, WantsNumber, IsSpent, IsFreeNumber, HasNumberInHand, Berth, WasDrawn}
 use Rattle.fm_base_machine.specs.{Functions.{Fresh, Closes, Over, Machine, moved, MayBy, reply_by, Stage}, Steps.{moved_by}}
 
 -- entries of one caller that the functions allow
@@ -44,7 +44,7 @@ NoEnd [] b = Unit {0}
 NoEnd (e ∷ es) b = ¬ Ends e.call b × NoEnd es b
 
 -- nothing of an ended arena that isn't retired was changed
-pub record StaysEnded (m m' : Memory) (b : ArenaId) : Type 0 where
+pub record StaysEnded (m m' : PoolWords) (b : ArenaId) : Type 0 where
   pub session : m'.sessions b.slot ≡ shut b
   pub maps : (i : ℕ) → m'.maps b.slot i ≡ m.maps b.slot i
   pub given : m'.given b.slot ≡ m.given b.slot
@@ -72,24 +72,24 @@ pub record NumbersMoved (me n : ℕ) (bits terms at bits' terms' at' : ℕ → �
   pub others : (k : ℕ) → bit_of bits k ≡ 0 → at k ≢ me → (at' k ≡ at k) × (bit_of bits' k ≡ 0) × (terms' k ≡ terms k)
 
 -- where each number whose bit is 0 is after the step
-abbrev pub KeepsNumbers : (z : Shape) (me : ℕ) (v p : View) (m : Memory) (o : Owners) (m' : Memory) (o' : Owners) → Type 0
+abbrev pub KeepsNumbers : (z : Shape) (me : ℕ) (v p : View) (m : PoolWords) (o : Owners) (m' : PoolWords) (o' : Owners) → Type 0
 KeepsNumbers z me v p m o m' o' = (n : ℕ) → n < z.passes → bit_of m'.numbers n ≡ 0
     → ((o'.number n ≡ me) × KeepsNumber n p)
     ⊎ (((bit_of m.numbers n ≡ 0) × (o'.number n ≡ o.number n) × (m'.terms n ≡ m.terms n) × (m'.marks n ≡ m.marks n) × (KeepsNumber n v → KeepsNumber n p))
     ⊎ IsSpent m' o' n)
 
 -- and which can be drawn
-abbrev pub FreesNumbers : (m' : Memory) (o' : Owners) → Type 0
+abbrev pub FreesNumbers : (m' : PoolWords) (o' : Owners) → Type 0
 FreesNumbers m' o' = (n : ℕ) → bit_of m'.numbers n ≡ 1 → IsFreeNumber m' o' n
 
 -- who was drawn has no later term, and terms stay within; a term that is passed by was drawn
-pub record KeepsTerms (z : Shape) (m : Memory) (o : Owners) (m' : Memory) : Type 0 where
+pub record KeepsTerms (z : Shape) (m : PoolWords) (o : Owners) (m' : PoolWords) : Type 0 where
   pub terms : (n : ℕ) → m.terms n ≤ m'.terms n
   pub last : (n : ℕ) → m'.terms n ≤ last_term
   pub used : (n t : ℕ) → t < m'.terms n → (t < m.terms n) ⊎ WasDrawn m.draw o.who o.rank (caller_of n t)
 
 -- where numbers and terms are after the step
-pub record NumbersOn (z : Shape) (me : ℕ) (v p : View) (m : Memory) (o : Owners) (m' : Memory) (o' : Owners) : Type 0 where
+pub record NumbersOn (z : Shape) (me : ℕ) (v p : View) (m : PoolWords) (o : Owners) (m' : PoolWords) (o' : Owners) : Type 0 where
   pub kept : KeepsNumbers z me v p m o m' o'
   pub freed : FreesNumbers m' o'
   pub terms : KeepsTerms z m o m'
@@ -97,7 +97,7 @@ pub record NumbersOn (z : Shape) (me : ℕ) (v p : View) (m : Memory) (o : Owner
   pub wants : (n : ℕ) → WantsNumber n v → WantsNumber n p × (o'.number n ≡ o.number n)
 
 -- what a step of the seat `me` by the caller c may do to what others know
-pub record Moved (me : ℕ) (z : Shape) (c : Caller) (m : Memory) (t : Machine) (o : Owners) (es : List Entry) (m' : Memory) (o' : Owners) : Type 0 where
+pub record Moved (me : ℕ) (z : Shape) (c : Caller) (m : PoolWords) (t : Machine) (o : Owners) (es : List Entry) (m' : PoolWords) (o' : Owners) : Type 0 where
   pub allowed : MayMake (limit_of z) t c es
   pub marks : (k : ℕ) → k ≢ c.number → m'.marks k ≡ m.marks k
   pub callers : CallersStay m.draw o.who o.rank o.seat m'.draw o'.who o'.rank o'.seat
@@ -124,7 +124,7 @@ pub record Same (v p : View) : Type 0 where
   pub whole : p.whole ≡ v.whole
 
 -- the number in the hand after the step
-pub record KeepsHand (z : Shape) (h : List Entry) (v : View) (m : Memory) (t : Machine) (o : Owners) (j : ℕ) (p : View) : Type 0 where
+pub record KeepsHand (z : Shape) (h : List Entry) (v : View) (m : PoolWords) (t : Machine) (o : Owners) (j : ℕ) (p : View) : Type 0 where
   pub number : HasNumberInHand z h m t o j p p.number
   pub not_own : (n : ℕ) → HasNumberIn n p.number → n ≢ p.caller.number
   -- a caller that isn't split off stays in the hand
@@ -136,13 +136,13 @@ KeepsCloses me v p t o t' o' = (a : ArenaId) → t'.life a ≡ Closes
     → ((o'.closer a ≡ me) × HasClose a p) ⊎ ((t.life a ≡ Closes) × (o'.closer a ≡ o.closer a) × (HasClose a v → HasClose a p))
 
 -- where each sweep is after the step
-abbrev pub KeepsSweeps : (me : ℕ) (v p : View) (m : Memory) (t : Machine) (o : Owners) (m' : Memory) (t' : Machine) (o' : Owners) → Type 0
+abbrev pub KeepsSweeps : (me : ℕ) (v p : View) (m : PoolWords) (t : Machine) (o : Owners) (m' : PoolWords) (t' : Machine) (o' : Owners) → Type 0
 KeepsSweeps me v p m t o m' t' o' = (a : ArenaId) → m'.sessions a.slot ≡ shut a → t'.life a ≡ Over
     → ((o'.closer a ≡ me) × HasSweep a p)
     ⊎ ((m.sessions a.slot ≡ shut a) × (t.life a ≡ Over) × (o'.closer a ≡ o.closer a) × (HasSweep a v → HasSweep a p))
 
 -- where each free slot whose bit is 0 is after the step
-abbrev pub KeepsSlots : (z : Shape) (me : ℕ) (v p : View) (m : Memory) (o : Owners) (m' : Memory) (o' : Owners) → Type 0
+abbrev pub KeepsSlots : (z : Shape) (me : ℕ) (v p : View) (m : PoolWords) (o : Owners) (m' : PoolWords) (o' : Owners) → Type 0
 KeepsSlots z me v p m o m' o' = (s g : ℕ) → s < z.slots → m'.sessions s ≡ free g → g < z.generations → bit_at m'.bits s ≡ 0
     → ((o'.holder s ≡ me) × KeepsSlot s p)
     ⊎ ((m.sessions s ≡ free g) × (bit_at m.bits s ≡ 0) × (o'.holder s ≡ o.holder s) × (KeepsSlot s v → KeepsSlot s p))

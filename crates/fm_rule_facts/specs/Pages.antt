@@ -3,7 +3,7 @@ use Rattle.std.specs.Prelude.{◌≡◌, ◌≢◌, ℕ, ◌*◌, ◌/◌, ◌%�
 use Rattle.fm_words.specs.{Bits.{bit_of}, declared.shape.Shape.{Shape}}
 use Rattle.fm_base.specs.declared.arena_id.ArenaId.{ArenaId}
 use Rattle.fm_base_machine.specs.Functions.{Stage, Fresh, Over}
-use Rattle.fm_rule_facts.specs.{Loans.{Loan, loan_of}, Memory.{Session, free, IsShown, IsStanding}, Berths.{Berth, loose, claimed, mapped, unmapped, LentAt}}
+use Rattle.fm_rule_facts.specs.{Loans.{Loan, loan_of}, PoolWords.{Session, free, IsShown, IsStanding}, Berths.{Berth, loose, claimed, mapped, unmapped, LentAt}}
 
 -- the page's words are 0
 abbrev pub IsBlank : Shape → (ℕ → ℕ → ℕ) → ℕ → Type 0

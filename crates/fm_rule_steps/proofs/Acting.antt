@@ -8,7 +8,7 @@ use Rattle.fm_base.specs.declared.caller.Caller.{Caller}
 use Rattle.fm_base_machine.{specs.Functions.{put, put_by, moved, enter_stage}, proofs.Putting.{put_here, put_else, by_here}}
 use Rattle.fm_rule_facts.specs.{declared.step.Step.TheVariants.{Marks, Checks, Unmarks, Looks}, Views.{View, IsKnown}}
 use Rattle.fm_rule_facts.specs.{Words.{mark_of, alive_holds, enter_found, inside_found}, Steps.{part, entries, noted, acted, none_noted}}
-use Rattle.fm_rule_facts.{specs.{Facts.{Memory, Rule, World}, Moves.{MayStep, MayStore}}, proofs.Worlds.{world_mark, world_enter, world_leave}}
+use Rattle.fm_rule_facts.{specs.{Facts.{PoolWords, Rule, World}, Moves.{MayStep, MayStore}}, proofs.Worlds.{world_mark, world_enter, world_leave}}
 use Rattle.fm_rule_facts.proofs.{Shown.{shows_same, shows_mark}, Founds.{no_draw}}
 use Rattle.fm_rule_steps.proofs.{Reading.{Says, says, enter_says}, Quiet.{looks_on}, Knowing.{own, low, known_now}}
 use Rattle.fm_rule_steps.proofs.Plain.{Made, plain, Calls, no_calls, all_left}
@@ -21,7 +21,7 @@ module _ (z : Shape) (me : ℕ) (v : View) (l : v.live ≡ true) where
     may = λ ws vs r at.
         let k = own z ws vs r me v at l in
         let n : ℕ = v.caller.number in
-        let m' : Memory = record r.memory { marks = put r.memory.marks n (Some a) } in
+        let m' : PoolWords = record r.memory { marks = put r.memory.marks n (Some a) } in
         let g = plain z ws vs r me v at l (place_at z (mark n)) (mark_of a) (record v { mark = Some a }) [] none_noted no_draw m' r.machine (record {
           calls = no_calls;
           leaves = all_left;

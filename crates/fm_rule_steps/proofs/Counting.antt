@@ -8,7 +8,7 @@ use Rattle.fm_words.specs.{declared.shape.Shape.{Shape}, Places.{at as place_at,
 use Rattle.fm_base.specs.{Calls.{Entry}, Finds.{Find, Gathered, is_number}, declared.caller.Caller.{Caller}}
 use Rattle.fm_base_machine.{specs.Functions.{put, put_by}, proofs.Putting.{put_here, put_else, by_here, by_else, one_caller}}
 use Rattle.fm_rule_facts.specs.{Views.{View, In, all_gathered, caller_of}, Holds.{holds_of}}
-use Rattle.fm_rule_facts.specs.Facts.{Memory, Owners, HasDraw, HasClose, HasSweep, KeepsSlot, DrewIn, IsDrawn, Somewhere, Owns, Knows, Rule, HasPage, WantsNumber, IsUsed, used, wanted, IsLooked, WasDrawn, bit_of, next_of, IsUndrawn, IsSpent, IsCounted, HasNumberInHand, KeepsCaller, KeepsNumber}
+use Rattle.fm_rule_facts.specs.Facts.{PoolWords, Owners, HasDraw, HasClose, HasSweep, KeepsSlot, DrewIn, IsDrawn, Somewhere, Owns, Knows, Rule, HasPage, WantsNumber, IsUsed, used, wanted, IsLooked, WasDrawn, bit_of, next_of, IsUndrawn, IsSpent, IsCounted, HasNumberInHand, KeepsCaller, KeepsNumber}
 use Rattle.fm_rule_facts.{specs.Hands.{number_learnt, number_drawn, HasNumberIn, most_draws}, proofs.Looking.{looked_on, looked_told, none_looked, wants_in}}
 use Rattle.fm_rule_facts.{specs.{Moves.{told}, Gone.{IsFounded}}, proofs.{Ruling.{page_like}, Gone.{NoSlots, none_founded, founded_same, founded_told}}}
 use Rattle.fm_rule_facts.proofs.Founds.{AreWithin, counted_later, counted_told, counted_set}
@@ -88,7 +88,7 @@ module _ (z : Shape) (me : ℕ) (v : View) (l : v.live ≡ true) (lone : v.met �
       | no ne ↦ inl (back x ne q)
     ]
 
-    abbrev m1 : Memory
+    abbrev m1 : PoolWords
     m1 = record r.memory { draw = d + 1 }
 
     abbrev o1 : Owners

@@ -5,7 +5,7 @@ use lib.ListN.{get_elem?}
 use Rattle.fm_words.specs.declared.shape.Shape.{Shape}
 use Rattle.fm_base.specs.{Histories.{made_by}, Finds.{Find, Gathered}, declared.caller.Caller.{Caller}}
 use Rattle.fm_rule_facts.specs.Views.{View, In, all_gathered}
-use Rattle.fm_rule_facts.specs.Facts.{Memory, Owners, Begins, HasGathered, IsOnce, Owns, Knows, Rule, WasDrawn, next_of, IsUndrawn, HasNumberInHand}
+use Rattle.fm_rule_facts.specs.Facts.{PoolWords, Owners, Begins, HasGathered, IsOnce, Owns, Knows, Rule, WasDrawn, next_of, IsUndrawn, HasNumberInHand}
 use Rattle.fm_rule_facts.specs.Hands.{Number, no_number, number_taken, number_learnt, number_drawn, number_left, number_joined, HasNumberIn, most_draws}
 use Rattle.fm_rule_facts.{proofs.{Handing.{hand_view}, Keeping.{gathered_all, seated_all}, Handles.{handles_still}}, specs.Moves.{told}}
 use Rattle.fm_rule_facts.proofs.{Seating.{knows_as, owns_seats}, Working.{work_as}}
@@ -19,8 +19,8 @@ module _ (z : Shape) (me : ℕ) (v : View) (l : v.live ≡ true) (lone : v.met �
   abbrev begun : Begins v.seen r.history
   begun = (r.each me v at).begins
 
-  -- the memory where so many draws were made, and the owners where these callers were drawn
-  abbrev memory_at : ℕ → Memory
+  -- the pool's words where so many draws were made, and the owners where these callers were drawn
+  abbrev memory_at : ℕ → PoolWords
   memory_at d = record r.memory { draw = d }
 
   abbrev owners_at : (ℕ → Caller) → (Caller → ℕ) → (Caller → ℕ) → Owners
@@ -34,7 +34,7 @@ module _ (z : Shape) (me : ℕ) (v : View) (l : v.live ≡ true) (lone : v.met �
 
   module _ (d : ℕ) (who : ℕ → Caller) (rank : Caller → ℕ) (seat : Caller → ℕ) (on : (c : Caller) → Was c → WasDrawn d who rank c)
       (same : (c : Caller) → Was c → seat c ≡ r.owners.seat c) where
-    abbrev m' : Memory
+    abbrev m' : PoolWords
     m' = memory_at d
 
     abbrev o' : Owners

@@ -6,7 +6,7 @@ use lib.ListN.{get_elem?, length-replicate}
 use Rattle.fm_words.specs.{declared.shape.Shape.{Shape}, Shapes.{IsValid}}
 use Rattle.fm_words.specs.Places.{page_bits as page_bits_place, page_groups, map, page_word, at as place_at, front, slot_bits, mark, session, given as given_place, words as word_count, number_bits, term, groups}
 use Rattle.fm_words.specs.{Sessions.{session_word}, Bits.{ones}}
-use Rattle.fm_rule_facts.specs.{Words.{kept, free_word}, Views.{View, IsSound, limit_of}, Splits.{first_view}, Beginning.{blank, first_memory}}
+use Rattle.fm_rule_facts.specs.{Words.{kept, free_word}, Views.{View, IsSound, limit_of}, Splits.{first_view}, Beginning.{blank, first_words}}
 use Rattle.fm_rule_facts.specs.Facts.{Owners, Shows, Knows, loose, Rule, IsCounted, WasDrawn, bit_of, IsLooked}
 use Rattle.fm_rule_facts.{proofs.{Shown.{shows_page_bits, shows_bits, shows_numbers}, Looking.{looked_bare}, Gone.{founded_bare}}, specs.Gone.{IsFounded}}
 use Rattle.fm_rule_facts.proofs.{Founds.{counted_bare}, Sounding.{sound_of}, Gripping.{none_held, none_counted}, Working.{no_work}}
@@ -77,19 +77,19 @@ shows_none z valid = record {
   cells = λ s w a b. zero_at (word_count z) (place_at z (page_word s w)) (λ e. omega arith);
 }
 
-pub shows_blank : (z : Shape) → IsValid z → Shows z (slots_set z) (first_memory z (λ g. 0) (λ g. 0))
+pub shows_blank : (z : Shape) → IsValid z → Shows z (slots_set z) (first_words z (λ g. 0) (λ g. 0))
 unfolding blank place_at
 shows_blank z valid = shows_bits z valid (zeros_but z) (blank 0 (λ g. 0) (λ g. 0)) (shows_none z valid) (ones z.slots)
 
 -- and so it does where a word of page bits was set, or one of number bits
-module _ (z : Shape) (valid : IsValid z) (ws : List ℕ) (page_bits numbers : ℕ → ℕ) (g w : ℕ) (shows : Shows z ws (first_memory z page_bits numbers)) where
-  pub shows_pages : g < page_groups z → Shows z (set ws (place_at z (page_bits_place g)) w) (first_memory z (put page_bits g w) numbers)
+module _ (z : Shape) (valid : IsValid z) (ws : List ℕ) (page_bits numbers : ℕ → ℕ) (g w : ℕ) (shows : Shows z ws (first_words z page_bits numbers)) where
+  pub shows_pages : g < page_groups z → Shows z (set ws (place_at z (page_bits_place g)) w) (first_words z (put page_bits g w) numbers)
   unfolding blank
-  shows_pages low = shows_page_bits z valid ws (first_memory z page_bits numbers) shows g w low
+  shows_pages low = shows_page_bits z valid ws (first_words z page_bits numbers) shows g w low
 
-  pub shows_group : g < groups z → Shows z (set ws (place_at z (number_bits g)) w) (first_memory z page_bits (put numbers g w))
+  pub shows_group : g < groups z → Shows z (set ws (place_at z (number_bits g)) w) (first_words z page_bits (put numbers g w))
   unfolding blank
-  shows_group low = shows_numbers z valid ws (first_memory z page_bits numbers) shows g w low
+  shows_group low = shows_numbers z valid ws (first_words z page_bits numbers) shows g w low
 
 -- ---- the rule
 
@@ -115,7 +115,7 @@ first_drawn = let e = first_rank in (omega arith, refl)
 only_drawn : (c : Caller) → WasDrawn 1 nobody.who nobody.rank c → c ≡ only_caller
 only_drawn c d = sym d.1
 
-first_knows : (z : Shape) (pages f : ℕ → ℕ) → IsValid z → AreFree z f → Knows z [] (first_memory z pages f) opening nobody 0 (first_view z)
+first_knows : (z : Shape) (pages f : ℕ → ℕ) → IsValid z → AreFree z f → Knows z [] (first_words z pages f) opening nobody 0 (first_view z)
 unfolding blank
 first_knows z pages f valid bits = record {
   shape = λ q. refl;
@@ -140,13 +140,13 @@ first_knows z pages f valid bits = record {
   };
 }
 
-module _ (z : Shape) (ws : List ℕ) (pages f : ℕ → ℕ) (valid : IsValid z) (shows : Shows z ws (first_memory z pages f)) (claims : AreLoose z pages)
+module _ (z : Shape) (ws : List ℕ) (pages f : ℕ → ℕ) (valid : IsValid z) (shows : Shows z ws (first_words z pages f)) (claims : AreLoose z pages)
     (bits : AreFree z f) where
   pub first_rule : Rule z ws (first_view z ∷ [])
   unfolding blank
   first_rule = record {
     history = [];
-    memory = first_memory z pages f;
+    memory = first_words z pages f;
     machine = opening;
     owners = nobody;
     valid = valid;
@@ -240,19 +240,19 @@ module _ (z : Shape) (ws : List ℕ) (pages f : ℕ → ℕ) (valid : IsValid z)
       counted zero v e = subst (IsCounted 1 nobody.who nobody.rank) (some-injective (first_view z) v e)
           (counted_bare 1 nobody.who nobody.rank (first_view z) refl refl)
 
-      founds : (j : ℕ) (v : View) → get_elem? (first_view z ∷ []) j ≡ some v → IsFounded z [] (first_memory z pages f) nobody.taker opening.life v
+      founds : (j : ℕ) (v : View) → get_elem? (first_view z ∷ []) j ≡ some v → IsFounded z [] (first_words z pages f) nobody.taker opening.life v
       founds (suc j) v e = absurd (some-ne-none v (sym e))
-      founds zero v e = subst (IsFounded z [] (first_memory z pages f) nobody.taker opening.life) (some-injective (first_view z) v e)
-          (founded_bare z [] (first_memory z pages f) nobody.taker opening.life (first_view z) refl refl)
+      founds zero v e = subst (IsFounded z [] (first_words z pages f) nobody.taker opening.life) (some-injective (first_view z) v e)
+          (founded_bare z [] (first_words z pages f) nobody.taker opening.life (first_view z) refl refl)
 
-      looked : (j : ℕ) (v : View) → get_elem? (first_view z ∷ []) j ≡ some v → IsLooked z (first_memory z pages f) nobody (first_view z ∷ []) v
+      looked : (j : ℕ) (v : View) → get_elem? (first_view z ∷ []) j ≡ some v → IsLooked z (first_words z pages f) nobody (first_view z ∷ []) v
       looked (suc j) v e = absurd (some-ne-none v (sym e))
-      looked zero v e = subst (IsLooked z (first_memory z pages f) nobody (first_view z ∷ [])) (some-injective (first_view z) v e)
-          (looked_bare z (first_memory z pages f) nobody (first_view z ∷ []) (first_view z) refl refl)
+      looked zero v e = subst (IsLooked z (first_words z pages f) nobody (first_view z ∷ [])) (some-injective (first_view z) v e)
+          (looked_bare z (first_words z pages f) nobody (first_view z ∷ []) (first_view z) refl refl)
 
-      go : (j : ℕ) (v : View) → get_elem? (first_view z ∷ []) j ≡ some v → Knows z [] (first_memory z pages f) opening nobody j v
+      go : (j : ℕ) (v : View) → get_elem? (first_view z ∷ []) j ≡ some v → Knows z [] (first_words z pages f) opening nobody j v
       go (suc j) v e = absurd (some-ne-none v (sym e))
-      go zero v e = subst (Knows z [] (first_memory z pages f) opening nobody 0) (some-injective (first_view z) v e) (first_knows z pages f valid bits)
+      go zero v e = subst (Knows z [] (first_words z pages f) opening nobody 0) (some-injective (first_view z) v e) (first_knows z pages f valid bits)
 
   -- the first pass is sound
   pub first_sound : IsSound (first_view z)

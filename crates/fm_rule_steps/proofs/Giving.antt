@@ -7,7 +7,7 @@ use native.Mathlib.Decide.{ℕ_discrete}
 use lib.ListN.{get_elem?}
 use Rattle.fm_words.specs.{declared.shape.Shape.{Shape}, Places.{at as place_at, slot_bits as bits_place}}
 use Rattle.fm_rule_facts.specs.{declared.step.Step.TheVariants.{GivesSlot}, Hands.{nothing, retired, HasSlot, IsTaker}, Views.{View}}
-use Rattle.fm_rule_facts.specs.{Steps.{part, entries, noted, none_noted}, Facts.{Memory, HasInHand, KeepsSlot, Owns, Rule}, Moves.{Moved, Same, MayStep}}
+use Rattle.fm_rule_facts.specs.{Steps.{part, entries, noted, none_noted}, Facts.{PoolWords, HasInHand, KeepsSlot, Owns, Rule}, Moves.{Moved, Same, MayStep}}
 use Rattle.fm_rule_facts.proofs.{Founds.{no_draw}, Retiring.{world_give}, Shown.{shows_bits}, Ruling.{page_like, keeps}, Leaving.{bits_moved}}
 use Rattle.fm_rule_facts.proofs.Working.{work_with}
 use Rattle.fm_rule_steps.proofs.{Knowing.{own}, Staying.{same_but, sweeps_still, numbers_stay, number_stays}, Plain.{Made}}
@@ -42,7 +42,7 @@ module _ (z : Shape) (me : ℕ) (v : View) (l : v.live ≡ true) (s : ℕ) (hand
       let b = bit_at-pow_other s k n in
       let c : bit_at (get_or ws i 0) k ≡ bit_at r.memory.bits k = ap (λ (x : ℕ). bit_at x k) is_found in omega arith
 
-  abbrev bits_now : Memory
+  abbrev bits_now : PoolWords
   bits_now = record r.memory { bits = word }
 
   abbrev given_part : View

@@ -5,7 +5,7 @@ use Rattle.fm_base.specs.{Calls.{Entry}, Finds.{Gathered}, declared.caller.Calle
 use Rattle.fm_base_machine.specs.Functions.{Machine}
 use Rattle.fm_rule_facts.specs.{Views.{Met, View, In, all_gathered, brought}, Splits.{gather, as_gathered, IsAtRest}}
 use Rattle.fm_rule_facts.specs.Hands.{no_number, number_drawn, HasNumberIn}
-use Rattle.fm_rule_facts.specs.Facts.{Owners, KeepsCaller, KeepsNumber, HasDraw, Owns, Berth, loose, claimed, mapped, unmapped, IsWiped, HasSwept, HasPage, Memory}
+use Rattle.fm_rule_facts.specs.Facts.{Owners, KeepsCaller, KeepsNumber, HasDraw, Owns, Berth, loose, claimed, mapped, unmapped, IsWiped, HasSwept, HasPage, PoolWords}
 use Rattle.fm_rule_facts.proofs.Keeping.{in_left, in_right, in_append}
 
 module _ (v w : View) (rests : IsAtRest w) where
@@ -53,7 +53,7 @@ module _ (v w : View) (rests : IsAtRest w) where
     pub number_on : (n : ℕ) → KeepsNumber n v → KeepsNumber n both
     number_on n h = (h.0, ⊎_elim inl (λ (i : HasNumberIn n v.number). absurd (subst (HasNumberIn n) free i)) h.1)
 
-  module _ (z : Shape) (h : List Entry) (m : Memory) (t : Machine) (o : Owners) (j : ℕ) (k : Owns z h m t o j w) where
+  module _ (z : Shape) (h : List Entry) (m : PoolWords) (t : Machine) (o : Owners) (j : ℕ) (k : Owns z h m t o j w) where
     -- a pass that can be gathered has no page
     pub no_page : (q : ℕ) (b : Berth) → ¬ (HasPage q b w)
     no_page q loose h = h

@@ -11,7 +11,7 @@ use Rattle.fm_base_machine.{specs.Functions.{put}, proofs.Putting.{put_here, put
 use Rattle.fm_rule_facts.specs.declared.step.Step.TheVariants.{LearnsTerm, RaisesTerm, GivesNumber}
 use Rattle.fm_rule_facts.specs.Hands.{Number, no_number, number_taken, number_learnt, number_drawn, number_left, number_joined, HasNumberIn, last_term}
 use Rattle.fm_rule_facts.specs.{Views.{View}, Steps.{part, entries, noted, none_noted, number_at}}
-use Rattle.fm_rule_facts.specs.Facts.{Memory, Owners, WasDrawn, bit_of, next_of, IsUndrawn, IsMarked, IsJoined, KeepsNumber, HasNumberInHand, Shows, World, Owns, Rule}
+use Rattle.fm_rule_facts.specs.Facts.{PoolWords, Owners, WasDrawn, bit_of, next_of, IsUndrawn, IsMarked, IsJoined, KeepsNumber, HasNumberInHand, Shows, World, Owns, Rule}
 use Rattle.fm_rule_facts.specs.Moves.{Moved, Same, NumbersOn, KeepsHand, MayStep, MayStore, NumbersMoved}
 use Rattle.fm_rule_facts.proofs.{Groups.{bit_here, bit_else, or_here, or_else}, Looking.{wants_in}, Gone.{NoSlots, none_founded}, Founds.{NoneDrawn}}
 use Rattle.fm_rule_facts.proofs.{Keeping.{gathered_all}, Sessions.{caller_is}, Shown.{shows_same, shows_numbers, shows_term}}
@@ -25,7 +25,7 @@ module _ (z : Shape) (me : ℕ) (v : View) (l : v.live ≡ true) (ws : List ℕ)
   -- ---- what all of them do
 
   module _ (numbers' terms' number' : ℕ → ℕ) (x : Number) where
-    abbrev m' : Memory
+    abbrev m' : PoolWords
     m' = record r.memory { numbers = numbers'; terms = terms' }
 
     abbrev o' : Owners

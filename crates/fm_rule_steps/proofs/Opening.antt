@@ -8,7 +8,7 @@ use Rattle.fm_base_machine.specs.{Functions.{Fresh, Lives, Closes, Over, put, pu
 use Rattle.fm_base_machine.proofs.Putting.{put_else, put_cases, at_here, at_cases}
 use Rattle.fm_rule_facts.specs.{Hands.{nothing, learnt, HasSlot, IsTaker}, Gone.{IsTakenBy, OpenedBy}, declared.step.Step.TheVariants.{Opens}}
 use Rattle.fm_rule_facts.specs.{Views.{View, Fits, limit_of}, Words.{alive_word}, Steps.{part, entries, noted, none_noted}}
-use Rattle.fm_rule_facts.specs.Facts.{Memory, free, live, shut, IsHeld, HasInHand, HasClose, HasSweep, KeepsSlot, Owns, Rule}
+use Rattle.fm_rule_facts.specs.Facts.{PoolWords, free, live, shut, IsHeld, HasInHand, HasClose, HasSweep, KeepsSlot, Owns, Rule}
 use Rattle.fm_rule_facts.{specs.Moves.{MayMake, StaysEnded, Moved, Same, KeepsSweeps, KeepsSlots, MayStore}, proofs.Keeping.{closing_on, sweeping_on}}
 use Rattle.fm_rule_facts.{proofs.{Founds.{no_draw}, Sessions.{open_new}, Worlds.{world_open}, Living.{pages_open}}, specs.Loans.{loans_of}}
 use Rattle.fm_rule_facts.{proofs.{Ruling.{page_like, keeps}, Shown.{shows_session}, Gripping.{opened_handles}}, specs.Holds.{handles_with, one_alive}}
@@ -41,7 +41,7 @@ module _ (z : Shape) (me : ℕ) (v : View) (l : v.live ≡ true) (a : ArenaId) (
   abbrev es : List Entry
   es = entry_of v.caller (Open a) Fine ∷ []
 
-  abbrev m' : Memory
+  abbrev m' : PoolWords
   m' = record r.memory { sessions = put r.memory.sessions a.slot (live a); counts = put r.memory.counts a.slot 0 }
 
   abbrev p : View

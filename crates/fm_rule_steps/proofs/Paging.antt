@@ -6,7 +6,7 @@ use Rattle.fm_words.specs.declared.shape.Shape.{Shape}
 use Rattle.fm_base.specs.{declared.arena_id.ArenaId.{ArenaId}, Calls.{Entry}, Finds.{Find}}
 use Rattle.fm_base_machine.specs.{Functions.{Over, Machine}, Steps.{moved_by}}
 use Rattle.fm_rule_facts.specs.{Holds.{holds_of, all_holds}, Loans.{loans_of}, Gone.{FoundBy}, Parts.{Mapping, Swept, unread, named, wiping}}
-use Rattle.fm_rule_facts.specs.{Views.{View, In, limit_of}, Facts.{Memory, Owners, shut, Berth, unmapped, IsNext, HasSwept, HasPages, World, Shows, Owns, Rule}}
+use Rattle.fm_rule_facts.specs.{Views.{View, In, limit_of}, Facts.{PoolWords, Owners, shut, Berth, unmapped, IsNext, HasSwept, HasPages, World, Shows, Owns, Rule}}
 use Rattle.fm_rule_facts.{specs.Moves.{MayMake, NoEnd, StaysEnded, Moved, Same, PagesMoved, KeepsPages, MayLend}, proofs.Founds.{NoneDrawn}}
 use Rattle.fm_rule_facts.proofs.{Ruling.{PagesAfter, AreLooked, keeps_with, page_like}, Keeping.{sweeping_on}, Leaving.{berths_moved, pages_left}}
 use Rattle.fm_rule_facts.proofs.Shown.{shows_same}
@@ -34,7 +34,7 @@ module _ (z : Shape) (me : ℕ) (v : View) (l : v.live ≡ true) (ws : List ℕ)
       → NoneDrawn fs → ((f : Find) → In f (fs (length r.history)) → FoundBy z r.history r.memory r.owners.taker r.machine.life v.caller f)
       → AreLooked r v fs → Paging i x bits maps berth ps ms es → Made z ws vs me v i x (record v { pages = ps; reads = ms }) es fs
   paged i x bits maps berth ps ms es fs nd new looks q =
-      let m' : Memory = record r.memory { page_bits = bits; maps = maps } in
+      let m' : PoolWords = record r.memory { page_bits = bits; maps = maps } in
       let o' : Owners = record r.owners { berth = berth } in
       let p : View = record v { pages = ps; reads = ms } in
       let same : Same v p = same_but in

@@ -6,7 +6,7 @@ use Rattle.fm_words.specs.declared.shape.Shape.{Shape}
 use Rattle.fm_base.specs.{declared.{caller.Caller.{Caller}, arena_id.ArenaId.{ArenaId}}, Calls.{Entry}, Finds.{Find, Close, Sweep}}
 use Rattle.fm_base_machine.specs.{Functions.{Closes, Over, Machine}, Steps.{moved_by}}
 use Rattle.fm_rule_facts.specs.{Hands.{Hand, IsTaker, Number}, Views.{View, In, limit_of}}
-use Rattle.fm_rule_facts.specs.Facts.{Memory, free, shut, Shows, World, IsOnce, Owners, HasInHand, HasClose, Owns, Rule, IsAt, IsLone, HasSwept, HasPages, Work, Session, Pages}
+use Rattle.fm_rule_facts.specs.Facts.{PoolWords, free, shut, Shows, World, IsOnce, Owners, HasInHand, HasClose, Owns, Rule, IsAt, IsLone, HasSwept, HasPages, Work, Session, Pages}
 use Rattle.fm_rule_facts.specs.Moves.{MayMake, NoEnd, StaysEnded, Moved, Same, KeepsCloses, KeepsSlots, KeepsHolds, Gives, MayLend, PagesMoved}
 use Rattle.fm_rule_facts.{proofs.{Keeping.{closing_on, sweeping_on}, Frame.{was_over}, Founds.{NoneDrawn, NoDraw}, Gone.{none_founded}}, specs.Gone.{FoundBy}}
 use Rattle.fm_rule_facts.specs.{Loans.{loans_of, Loan, loans_after}, Parts.{Mapping, Swept, unread, named, wiping}}
@@ -17,7 +17,7 @@ module _ (z : Shape) (ws : List ℕ) (vs : List View) (r : Rule z ws vs) (me : �
   abbrev mine : Owns z r.history r.memory r.machine r.owners me v
   mine = own z ws vs r me v at l
 
-  module _ (es : List Entry) (m' : Memory) (p : View) where
+  module _ (es : List Entry) (m' : PoolWords) (p : View) where
     -- what a step that leaves closes and slots may do to others
     pub plain_moved : MayMake (limit_of z) r.machine v.caller es → ((b : ArenaId) → NoEnd es b)
         → ((k : ℕ) → k ≢ v.caller.number → m'.marks k ≡ r.memory.marks k) → ((k : ℕ) → m'.numbers k ≡ r.memory.numbers k) → ((k : ℕ) → m'.terms k ≡ r.memory.terms k) → m'.draw ≡ r.memory.draw
@@ -99,8 +99,8 @@ pub record Calls (z : Shape) (h : List Entry) (t : Machine) (c : Caller) (es : L
 pub no_calls : {z : Shape} {h : List Entry} {t : Machine} {c : Caller} → Calls z h t c [] t
 no_calls = record { may = tt; ends = λ b. tt; lends = tt; loans = refl; moves = refl; life = refl }
 
--- what a plain step leaves of the memory
-pub record LeavesMemory (m m' : Memory) : Type 0 where
+-- what a plain step leaves of the pool's words
+pub record LeavesMemory (m m' : PoolWords) : Type 0 where
   pub numbers : (k : ℕ) → m'.numbers k ≡ m.numbers k
   pub terms : (k : ℕ) → m'.terms k ≡ m.terms k
   pub draw : m'.draw ≡ m.draw
@@ -108,7 +108,7 @@ pub record LeavesMemory (m m' : Memory) : Type 0 where
   pub bits : m'.bits ≡ m.bits
   pub maps : m'.maps ≡ m.maps
 
-pub memory_left : {m : Memory} {marks : ℕ → Option ArenaId} {counts given : ℕ → ℕ} {cells : ℕ → ℕ → ℕ}
+pub memory_left : {m : PoolWords} {marks : ℕ → Option ArenaId} {counts given : ℕ → ℕ} {cells : ℕ → ℕ → ℕ}
     → LeavesMemory m (record m { marks = marks; counts = counts; given = given; cells = cells })
 memory_left = record { numbers = λ k. refl; terms = λ k. refl; draw = refl; sessions = refl; bits = refl; maps = refl }
 
@@ -126,28 +126,28 @@ pub view_left : {v : View} {inside mark : Option ArenaId} {holds handles : List 
 view_left = record { same = same_but; hand = refl }
 
 -- and of words of arenas that others may have: given words of ended arenas, and the pages that somebody has
-pub record LeavesWords (m m' : Memory) (t : Machine) (o : Owners) : Type 0 where
+pub record LeavesWords (m m' : PoolWords) (t : Machine) (o : Owners) : Type 0 where
   pub given : (b : ArenaId) → t.life b ≡ Over → m.sessions b.slot ≡ shut b → m'.given b.slot ≡ m.given b.slot
   pub cells : (p j : ℕ) → IsAt j (o.berth p) → (w : ℕ) → m'.cells p w ≡ m.cells p w
 
-pub words_left : {m : Memory} {t : Machine} {o : Owners} {marks : ℕ → Option ArenaId} {counts : ℕ → ℕ}
+pub words_left : {m : PoolWords} {t : Machine} {o : Owners} {marks : ℕ → Option ArenaId} {counts : ℕ → ℕ}
     → LeavesWords m (record m { marks = marks; counts = counts }) t o
 words_left = record { given = λ b o f. refl; cells = λ p j b w. refl }
 
 -- all that a plain step leaves
-pub record Leaves (v p : View) (m m' : Memory) (t : Machine) (o : Owners) : Type 0 where
+pub record Leaves (v p : View) (m m' : PoolWords) (t : Machine) (o : Owners) : Type 0 where
   pub memory : LeavesMemory m m'
   pub view : LeavesView v p
   pub words : LeavesWords m m' t o
 
-pub all_left : {v : View} {inside mark : Option ArenaId} {holds handles : List ArenaId} {reads : List Mapping} {m : Memory} {t : Machine} {o : Owners}
+pub all_left : {v : View} {inside mark : Option ArenaId} {holds handles : List ArenaId} {reads : List Mapping} {m : PoolWords} {t : Machine} {o : Owners}
     {marks : ℕ → Option ArenaId} {counts : ℕ → ℕ}
     → Leaves v (record v { inside = inside; mark = mark; holds = holds; handles = handles; reads = reads }) m
     (record m { marks = marks; counts = counts }) t o
 all_left = record { memory = memory_left; view = view_left; words = words_left }
 
--- what a plain step does to the memory, the machine and its view
-pub record Plain (z : Shape) (ws : List ℕ) (vs : List View) (r : Rule z ws vs) (v : View) (i x : ℕ) (p : View) (es : List Entry) (m' : Memory) (t' : Machine)
+-- what a plain step does to the pool's words, the machine and its view
+pub record Plain (z : Shape) (ws : List ℕ) (vs : List View) (r : Rule z ws vs) (v : View) (i x : ℕ) (p : View) (es : List Entry) (m' : PoolWords) (t' : Machine)
     : Type 0 where
   pub calls : Calls z r.history r.machine v.caller es t'
   pub leaves : Leaves v p r.memory m' r.machine r.owners
@@ -161,7 +161,7 @@ pub record Plain (z : Shape) (ws : List ℕ) (vs : List View) (r : Rule z ws vs)
   pub mark : m'.marks p.caller.number ≡ p.mark
 
 -- what a seat knows of pages that stay
-plain_pages : (z : Shape) (m m' : Memory) (o : Owners) (me : ℕ) (v p : View) → HasPages z m.maps m.cells o.berth me v.inside v.reads v.pages v.sweeps v.swept
+plain_pages : (z : Shape) (m m' : PoolWords) (o : Owners) (me : ℕ) (v p : View) → HasPages z m.maps m.cells o.berth me v.inside v.reads v.pages v.sweeps v.swept
     → m'.maps ≡ m.maps → ((p j : ℕ) → IsAt j (o.berth p) → (w : ℕ) → m'.cells p w ≡ m.cells p w)
     → ((a : ArenaId) → p.inside ≡ Some a → (x : Mapping) → In x p.reads → (v.inside ≡ Some a) × In x v.reads)
     → p.pages ≡ v.pages → p.sweeps ≡ v.sweeps → p.swept ≡ v.swept
@@ -186,7 +186,7 @@ plain_pages z m m' o me v p k maps cells reads paged sweeps swept = record {
 module _ (z : Shape) (ws : List ℕ) (vs : List View) (r : Rule z ws vs) (me : ℕ) (v : View) (at : get_elem? vs me ≡ some v) (l : v.live ≡ true) (i x : ℕ)
     (p : View) (es : List Entry) (fs : ℕ → List Find) where
   pub plain_with : NoneDrawn fs → ((f : Find) → In f (fs (length r.history)) → FoundBy z r.history r.memory r.owners.taker r.machine.life v.caller f)
-      → AreLooked r v fs → (m' : Memory) (t' : Machine) → Plain z ws vs r v i x p es m' t' → Made z ws vs me v i x p es fs
+      → AreLooked r v fs → (m' : PoolWords) (t' : Machine) → Plain z ws vs r v i x p es m' t' → Made z ws vs me v i x p es fs
   plain_with nd new looks m' t' q =
       let c = q.calls in
       let m = q.leaves.memory in
@@ -222,7 +222,7 @@ module _ (z : Shape) (ws : List ℕ) (vs : List View) (r : Rule z ws vs) (me : �
       (number_stays z ws vs r me v at l es m' r.owners p d u.same (λ j. (u.hand j).0) m.numbers m.terms (λ n. refl))
 
   -- where no slot was looked for
-  pub plain : NoDraw fs → (m' : Memory) (t' : Machine) → Plain z ws vs r v i x p es m' t' → Made z ws vs me v i x p es fs
+  pub plain : NoDraw fs → (m' : PoolWords) (t' : Machine) → Plain z ws vs r v i x p es m' t' → Made z ws vs me v i x p es fs
   plain nd =
       plain_with (λ n f i. let y = nd n f i in (y.0, y.1))
       (none_founded z r.history r.memory r.owners.taker r.machine.life v.caller fs (λ n f i. let y = nd n f i in (y.2, y.3)) (length r.history))

@@ -5,7 +5,7 @@ use mathlib.Core.Option.{some}
 use lib.ListN.{get_elem?}
 use Rattle.fm_rule_facts.specs.{Views.{given_of, View, Fits, span, limit_of, In}, declared.step.Step.TheVariants.{Loads, Stores, SwapsIf, Adds}}
 use Rattle.fm_rule_facts.specs.{Loans.{loans_by, loans_of}, Steps.{part, entries, noted, acted, none_noted}}
-use Rattle.fm_rule_facts.specs.{Facts.{Memory, shut, IsStanding, IsAt, mapped, Pages, Shows, World, Rule}, Pages.{IsMapped}, Parts.{mapping_of}}
+use Rattle.fm_rule_facts.specs.{Facts.{PoolWords, shut, IsStanding, IsAt, mapped, Pages, Shows, World, Rule}, Pages.{IsMapped}, Parts.{mapping_of}}
 use Rattle.fm_rule_facts.{proofs.{Moving.{mapped_lent}, Living.{pages_write}}, specs.Moves.{Ends, LendsBy, MayStep, MayStore}}
 use Rattle.fm_rule_facts.proofs.{Sessions.{standing_known, standing_shown, ended_apart}, Worlds.{world_word}, Shown.{shows_same, shows_cell}, Founds.{no_draw}}
 use prog.Atomic.{either}
@@ -54,7 +54,7 @@ module _ (z : Shape) (me : ℕ) (v : View) (l : v.live ≡ true) (a : ArenaId) (
         → Made z ws vs me v i x v (entry_of v.caller call reply ∷ []) none_noted
     act i x call reply m' g' f g is may answer ends lends same shows world pages words =
         let k = own z ws vs r me v at l in
-        let m : Memory = record r.memory { cells = m'; given = g' } in
+        let m : PoolWords = record r.memory { cells = m'; given = g' } in
         plain z ws vs r me v at l i x v (entry_of v.caller call reply ∷ []) none_noted no_draw m (record r.machine { word = f; given = g }) (record {
           calls = record { may = (refl, may, answer, tt); ends = λ b. (ends b, tt); lends = (lends, tt); loans = same; moves = is; life = refl };
           leaves = record { memory = memory_left; view = view_left; words = words };

@@ -9,7 +9,7 @@ use Rattle.fm_base.specs.{declared.{arena_id.ArenaId.{ArenaId}, kind.Kind.{Kind,
 use Rattle.fm_base.specs.Calls.{Closed}
 use Rattle.fm_base_machine.{specs.Functions.{Stage, Fresh, Lives, Closes, Over, Machine, enter_stage, hold_stage, shut_stage}, proofs.Putting.{one_arena}}
 use Rattle.fm_rule_facts.specs.Words.{alive_word, closing_word, free_word, alive_holds, enter_found, hold_found, hold_by, shut_found, shut_by}
-use Rattle.fm_rule_facts.specs.{Facts.{Session, free, live, shut, Memory, session_code, World, own_map, Rule}, Views.{View}}
+use Rattle.fm_rule_facts.specs.{Facts.{Session, free, live, shut, PoolWords, session_code, World, own_map, Rule}, Views.{View}}
 use prog.Atomic.{either}
 
 pub kind_below : (k : Kind) → kind_number k ≤ 3
@@ -58,7 +58,7 @@ abbrev pub Says : Machine → ArenaId → Option ℕ → Type 0
 Says t a None = t.life a ≢ Lives
 Says t a (Some n) = (t.life a ≡ Lives) × (n ≡ t.holds a)
 
-module _ (z : Shape) (m : Memory) (t : Machine) (r : World z m t) (few : z.passes ≤ 4096) (a : ArenaId) (known : t.life a ≢ Fresh) where
+module _ (z : Shape) (m : PoolWords) (t : Machine) (r : World z m t) (few : z.passes ≤ 4096) (a : ArenaId) (known : t.life a ≢ Fresh) where
   live_bound : (b : ArenaId) → m.sessions a.slot ≡ live b → m.counts a.slot ≤ 65535
   live_bound b e =
       let y = r.sessions.live_is a.slot b e in

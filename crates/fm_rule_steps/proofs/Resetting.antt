@@ -10,7 +10,7 @@ use Rattle.fm_words.specs.{declared.shape.Shape.{Shape}, Places.{at as place_at,
 use Rattle.fm_base_machine.{specs.Functions.{put}, proofs.Putting.{put_here, put_else, put_cases}}
 use Rattle.fm_rule_facts.specs.{declared.step.Step.TheVariants.{SweepsGiven, ResetsGiven}, Parts.{unread}, Views.{View, In, given_of, limit_of}}
 use Rattle.fm_rule_facts.specs.{Closes.{passed_of, advanced, one_more}, Steps.{part, entries, noted, none_noted}}
-use Rattle.fm_rule_facts.{specs.{Facts.{Memory, HasSwept, IsSweeping, Owns, Rule}, Moves.{MayStep, MayStore}}, proofs.Retiring.{world_reset}}
+use Rattle.fm_rule_facts.{specs.{Facts.{PoolWords, HasSwept, IsSweeping, Owns, Rule}, Moves.{MayStep, MayStore}}, proofs.Retiring.{world_reset}}
 use Rattle.fm_rule_facts.proofs.{Shown.{shows_given}, Keeping.{set_there}, Ruling.{page_like}}
 use Rattle.fm_rule_steps.proofs.{Closes.{in_advanced, once_advanced}, Quiet.{looks_on}, Knowing.{own}, Plain.{Made}}
 use Rattle.fm_rule_steps.proofs.Sweeping.{its, its_sweep, ended_now, shut_now, apart, fit, its_count, memory_of, sweep_on, visits}
@@ -50,7 +50,7 @@ module _ (z : Shape) (me : ℕ) (v : View) (l : v.live ≡ true) (a : ArenaId) (
       given : ℕ → ℕ
       given = put r.memory.given a.slot 0
 
-      m' : Memory
+      m' : PoolWords
       m' = memory_of z me v l a k has ws vs r at r.memory.page_bits r.memory.maps r.memory.cells given
 
       none_at : (n : ℕ) → n ≡ z.reach → r.memory.maps a.slot n ≡ None

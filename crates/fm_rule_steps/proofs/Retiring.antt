@@ -10,7 +10,7 @@ use Rattle.fm_base.specs.{declared.arena_id.ArenaId.{ArenaId}, Calls.{Entry}}
 use Rattle.fm_base_machine.{specs.Functions.{Over, put}, proofs.Putting.{put_here, put_else, put_cases}}
 use Rattle.fm_rule_facts.specs.{declared.step.Step.TheVariants.{Retires}, Hands.{Hand, nothing, HasSlot, IsTaker, hand_retired}, Views.{View, limit_of}}
 use Rattle.fm_rule_facts.specs.{Words.{free_word}, Closes.{passed_of, dropped}, Steps.{part, entries, noted, none_noted}, Loans.{loans_of}}
-use Rattle.fm_rule_facts.specs.Facts.{Memory, Session, free, shut, Owners, IsHeld, HasInHand, HasSweep, KeepsSlot, Owns, Rule, HasSwept}
+use Rattle.fm_rule_facts.specs.Facts.{PoolWords, Session, free, shut, Owners, IsHeld, HasInHand, HasSweep, KeepsSlot, Owns, Rule, HasSwept}
 use Rattle.fm_rule_facts.{specs.Moves.{MayMake, StaysEnded, Moved, Same, KeepsSweeps, KeepsSlots, MayStore}, proofs.Founds.{no_draw}}
 use Rattle.fm_rule_facts.{proofs.{Keeping.{closing_on, sweeping_on}, Living.{pages_retire}, Retiring.{ended_bit, world_retire}}, specs.Parts.{unread}}
 use Rattle.fm_rule_facts.proofs.{Shown.{shows_session}, Ruling.{keeps}, Leaving.{callers_stay, numbers_left, pages_left}}
@@ -47,7 +47,7 @@ module _ (z : Shape) (me : ℕ) (v : View) (l : v.live ≡ true) (sh : v.shape �
   abbrev sessions' : ℕ → Session
   sessions' = put r.memory.sessions a.slot (free next)
 
-  abbrev m' : Memory
+  abbrev m' : PoolWords
   m' = record r.memory { sessions = sessions'; counts = put r.memory.counts a.slot 0 }
 
   abbrev o' : Owners

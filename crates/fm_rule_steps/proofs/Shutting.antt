@@ -11,7 +11,7 @@ use Rattle.fm_base_machine.specs.{Functions.{Fresh, Lives, Closes, Over, put, pu
 use Rattle.fm_base_machine.proofs.Putting.{put_else, at_here, at_other, one_arena, put_cases, at_cases}
 use Rattle.fm_rule_facts.specs.{declared.step.Step.TheVariants.{Shuts}, Views.{View, In, IsKnown, limit_of}}
 use Rattle.fm_rule_facts.specs.{Words.{alive_word, closing_word, alive_holds, shut_found}, Closes.{begun, walk_of}, Steps.{part, entries, noted, none_noted}}
-use Rattle.fm_rule_facts.specs.Facts.{Memory, free, live, shut, Owners, IsClosing, HasClose, Rule}
+use Rattle.fm_rule_facts.specs.Facts.{PoolWords, free, live, shut, Owners, IsClosing, HasClose, Rule}
 use Rattle.fm_rule_facts.{specs.Moves.{MayMake, StaysEnded, Moved, Same, KeepsHolds, MayStep}, proofs.Keeping.{closing_on, sweeping_on}}
 use Rattle.fm_rule_facts.{proofs.{Sessions.{free_apart}, Worlds.{world_shut}, Living.{pages_shut}, Ruling.{page_like, keeps}}, specs.Loans.{loans_of}}
 use Rattle.fm_rule_facts.proofs.{Shown.{shows_session}, Gripping.{by_hand, same_handles}, Founds.{no_draw}, Leaving.{callers_stay, numbers_left, pages_left}}
@@ -46,7 +46,7 @@ module _ (z : Shape) (me : ℕ) (v : View) (l : v.live ≡ true) (a : ArenaId) (
       let k = own z ws vs r me v at l in
       let fit = r.world.sessions.fits a opened in
       let es : List Entry = entry_of v.caller (Shut a) Fine ∷ [] in
-      let m' : Memory = record r.memory { sessions = put r.memory.sessions a.slot (shut a); counts = put r.memory.counts a.slot 0 } in
+      let m' : PoolWords = record r.memory { sessions = put r.memory.sessions a.slot (shut a); counts = put r.memory.counts a.slot 0 } in
       let o' : Owners = record r.owners { closer = put_at r.owners.closer a me } in
       let p : View = record v { closes = walk_of a 0 ∷ v.closes; handles = hs } in
       let is : Fine ≡ shut_stage (r.machine.life a) (r.machine.holds a) = λ j. shut_stage (sym al j) (sym none j) in

@@ -8,7 +8,7 @@ use Rattle.fm_base_machine.specs.{Functions.{Over, Machine}, Steps.{moved_by}}
 use native.Mathlib.Decide.{ℕ_discrete}
 use Rattle.fm_rule_facts.specs.Hands.{Hand, HasSlot, Number, no_number, number_taken, number_learnt, number_drawn, number_left, number_joined, HasNumberIn, most_draws}
 use Rattle.fm_rule_facts.{proofs.Handing.{hand_on}, specs.Views.{View, In, limit_of, all_gathered, brought}}
-use Rattle.fm_rule_facts.specs.Facts.{Memory, free, shut, Owners, HasInHand, HasSweep, KeepsSlot, Owns, Rule, WasDrawn, bit_of, next_of, IsLoose, KeepsNumber, HasNumberInHand, IsUndrawn}
+use Rattle.fm_rule_facts.specs.Facts.{PoolWords, free, shut, Owners, HasInHand, HasSweep, KeepsSlot, Owns, Rule, WasDrawn, bit_of, next_of, IsLoose, KeepsNumber, HasNumberInHand, IsUndrawn}
 use Rattle.fm_rule_facts.specs.Moves.{Moved, Same, KeepsSweeps, KeepsSlots, KeepsPages, NumbersOn, KeepsHand}
 use Rattle.fm_rule_facts.{proofs.{Keeping.{silent_on, drawn_still, drawn_before}, Ruling.{page_like}}, specs.Parts.{Mapping, Swept}}
 use Rattle.fm_rule_steps.proofs.Knowing.{own}
@@ -41,13 +41,13 @@ same_but = record {
 }
 
 -- a slot in the hand stays there where free slots and slot bits stay
-pub hand_still : (z : Shape) (m m' : Memory) (holder : ℕ → ℕ) (me : ℕ) → ((s g : ℕ) → m.sessions s ≡ free g → m'.sessions s ≡ free g) → m'.bits ≡ m.bits
+pub hand_still : (z : Shape) (m m' : PoolWords) (holder : ℕ → ℕ) (me : ℕ) → ((s g : ℕ) → m.sessions s ≡ free g → m'.sessions s ≡ free g) → m'.bits ≡ m.bits
     → (hand : Hand) → HasInHand z m.bits m.sessions holder me hand → HasInHand z m'.bits m'.sessions holder me hand
 hand_still z m m' holder me still bits =
     hand_on z m.bits m'.bits m.sessions m'.sessions holder holder me (λ s g f b e. (e, still s g f, ap (λ (n : ℕ). bit_at n s) bits ∙ b))
 
 -- each sweep is where it was
-pub sweeps_still : (me : ℕ) (v p : View) (m : Memory) (t : Machine) (o : Owners) (m' : Memory) (t' : Machine) (o' : Owners) → Same v p → p.sweeps ≡ v.sweeps
+pub sweeps_still : (me : ℕ) (v p : View) (m : PoolWords) (t : Machine) (o : Owners) (m' : PoolWords) (t' : Machine) (o' : Owners) → Same v p → p.sweeps ≡ v.sweeps
     → ((a : ArenaId) → t.life a ≡ Over → o'.closer a ≡ o.closer a) → ((a : ArenaId) → m'.sessions a.slot ≡ shut a → t'.life a ≡ Over
     → (m.sessions a.slot ≡ shut a) × (t.life a ≡ Over)) → KeepsSweeps me v p m t o m' t' o'
 sweeps_still me v p m t o m' t' o' s sw same was a f h =
@@ -58,7 +58,7 @@ pub pages_there : (me : ℕ) (o : Owners) (v p : View) → Same v p → p.pages 
 pages_there me o v p s paged swept q j b = inr (refl, page_like q (o.berth q) v p s.live paged swept)
 
 -- and each free slot whose bit is 0 is where it was
-pub slots_still : (z : Shape) (me : ℕ) (v p : View) (m : Memory) (o : Owners) (m' : Memory) (o' : Owners) → Same v p → p.hand ≡ v.hand
+pub slots_still : (z : Shape) (me : ℕ) (v p : View) (m : PoolWords) (o : Owners) (m' : PoolWords) (o' : Owners) → Same v p → p.hand ≡ v.hand
     → ((s : ℕ) → o'.holder s ≡ o.holder s) → ((s g : ℕ) → m'.sessions s ≡ free g → m.sessions s ≡ free g) → m'.bits ≡ m.bits
     → KeepsSlots z me v p m o m' o'
 slots_still z me v p m o m' o' s hd same back bits i g low f left b =
@@ -69,7 +69,7 @@ module _ (z : Shape) (ws : List ℕ) (vs : List View) (r : Rule z ws vs) (me : �
   mine = own z ws vs r me v at l
 
   -- where a step leaves numbers and terms as they are, so does the hand
-  module _ (es : List Entry) (m' : Memory) (o' : Owners) (p : View) (d : Moved me z v.caller r.memory r.machine r.owners es m' o') (s : Same v p)
+  module _ (es : List Entry) (m' : PoolWords) (o' : Owners) (p : View) (d : Moved me z v.caller r.memory r.machine r.owners es m' o') (s : Same v p)
       (hand : p.number ≡ v.number) (numbers : (g : ℕ) → m'.numbers g ≡ r.memory.numbers g) (terms : (n : ℕ) → m'.terms n ≡ r.memory.terms n)
       (owner : (n : ℕ) → o'.number n ≡ r.owners.number n) where
     bit_is : (n : ℕ) → bit_of m'.numbers n ≡ bit_of r.memory.numbers n

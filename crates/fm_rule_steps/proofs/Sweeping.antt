@@ -9,7 +9,7 @@ use Rattle.fm_base.specs.{declared.arena_id.ArenaId.{ArenaId}, Calls.{Entry}, Fi
 use Rattle.fm_base_machine.specs.{Functions.{Over, Machine}, Steps.{moved_by}}
 use Rattle.fm_rule_facts.specs.{Loans.{loans_of}, Parts.{Swept, wiping}, Views.{View, Fits, In, limit_of}, Holds.{holds_of, all_holds}}
 use Rattle.fm_rule_facts.specs.{Closes.{passed_of, advanced, one_more}, Steps.{none_noted}}
-use Rattle.fm_rule_facts.specs.Facts.{Memory, Owners, shut, Berth, loose, claimed, mapped, unmapped, IsAt, IsOnce, IsNext, HasSwept, HasPage, IsSweeping, HasSweep, Owns, Shows, World, Rule}
+use Rattle.fm_rule_facts.specs.Facts.{PoolWords, Owners, shut, Berth, loose, claimed, mapped, unmapped, IsAt, IsOnce, IsNext, HasSwept, HasPage, IsSweeping, HasSweep, Owns, Shows, World, Rule}
 use Rattle.fm_rule_facts.{specs.Moves.{MayMake, MayLend, NoEnd, Moved, KeepsPages}, proofs.{Founds.{no_draw}, Sessions.{ended_apart}, Retiring.{ended_fits}}}
 use Rattle.fm_rule_facts.proofs.{Ruling.{PagesAfter, keeps}, Leaving.{berths_moved}, Shown.{shows_same}}
 use Rattle.fm_rule_steps.proofs.{Closes.{Found, passed_of-found, count_of, in_advanced, advanced_in}, Knowing.{own, closes_still}}
@@ -60,8 +60,8 @@ module _ (z : Shape) (me : ℕ) (v : View) (l : v.live ≡ true) (a : ArenaId) (
   pub next_here : IsNext v.sweeps a k
   next_here = record { sweep = its.walk; there = its.there; arena = its.arena; passed = its.passed }
 
-  -- what is changed of the memory
-  abbrev pub memory_of : (bits : ℕ → ℕ) (maps : ℕ → ℕ → Option ℕ) (cells : ℕ → ℕ → ℕ) (given : ℕ → ℕ) → Memory
+  -- what is changed of the pool's words
+  abbrev pub memory_of : (bits : ℕ → ℕ) (maps : ℕ → ℕ → Option ℕ) (cells : ℕ → ℕ → ℕ) (given : ℕ → ℕ) → PoolWords
   memory_of bits maps cells given = record r.memory { page_bits = bits; maps = maps; cells = cells; given = given }
 
   -- what a step of the sweep does, and what the view has of its sweeps then
@@ -89,7 +89,7 @@ module _ (z : Shape) (me : ℕ) (v : View) (l : v.live ≡ true) (a : ArenaId) (
       (es : List Entry)
       → Sweeping i x bits maps cells given berth cs s es → Made z ws vs me v i x (record v { sweeps = cs; swept = s }) es none_noted
   sweep_on i x bits maps cells given berth cs s es q =
-      let m' : Memory = memory_of bits maps cells given in
+      let m' : PoolWords = memory_of bits maps cells given in
       let o' : Owners = record r.owners { berth = berth } in
       let p : View = record v { sweeps = cs; swept = s } in
       let d : Moved me z v.caller r.memory r.machine r.owners es m' o' =

@@ -11,7 +11,7 @@ use Rattle.fm_base.specs.Finds.{is_page, Find, TakesSlot as Taking}
 use Rattle.fm_base_machine.{specs.Functions.{put}, proofs.Putting.{put_here, put_else}}
 use Rattle.fm_rule_facts.specs.{declared.step.Step.TheVariants.{TakesSlot, LearnsGeneration}, Hands.{nothing, taken, learnt, HasSlot, IsTaker, hand_taken}}
 use Rattle.fm_rule_facts.specs.{Gone.{FoundBy}, Views.{View, In}, Steps.{part, entries, noted, none_noted, note_of}}
-use Rattle.fm_rule_facts.specs.Facts.{Memory, Session, free, session_code, Owners, HasInHand, KeepsSlot, Owns, Rule}
+use Rattle.fm_rule_facts.specs.Facts.{PoolWords, Session, free, session_code, Owners, HasInHand, KeepsSlot, Owns, Rule}
 use Rattle.fm_rule_facts.{specs.Moves.{Moved, Same, KeepsSlots, LearnsSlots, MayStep}, proofs.Founds.{no_draw, note_none_drawn, note_no_number}}
 use Rattle.fm_rule_facts.{specs.Words.{kept, free_word}, proofs.{Worlds.{world_bits}, Shown.{shows_same, shows_bits}}}
 use Rattle.fm_rule_facts.proofs.{Ruling.{AreLooked, unlooked, page_like, keeps, keeps_with}, Leaving.{calls_moved, bits_moved}, Working.{work_with}}
@@ -56,7 +56,7 @@ module _ (z : Shape) (me : ℕ) (v : View) (l : v.live ≡ true) (ws : List ℕ)
     -- the slot is in the hand
     takes_it : r.memory.bits ≡ e → bit_at e bit ≡ 1 → Made z ws vs me v i next (record v { hand = taken bit }) [] fs
     takes_it is one =
-        let m' : Memory = record r.memory { bits = next } in
+        let m' : PoolWords = record r.memory { bits = next } in
         let o' : Owners = record r.owners { holder = put r.owners.holder bit me; taker = put r.owners.taker bit (Some v.caller) } in
         let p : View = record v { hand = taken bit } in
         let far : (s : ℕ) → bit_at r.memory.bits s ≡ 0 → s ≢ bit = (λ s b q.

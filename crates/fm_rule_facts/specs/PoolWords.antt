@@ -13,7 +13,7 @@ pub data Session : Type 0 where
   live : ArenaId → Session
   shut : ArenaId → Session
 
-pub record Memory : Type 0 where
+pub record PoolWords : Type 0 where
   -- how many numbers were drawn
   pub draw : ℕ
   -- the words of number bits
@@ -43,7 +43,7 @@ abbrev pub own_map : Option ℕ → ℕ
 own_map None = 0
 own_map (Some p) = map_word p
 
-pub record Shows (z : Shape) (words : List ℕ) (m : Memory) : Type 0 where
+pub record Shows (z : Shape) (words : List ℕ) (m : PoolWords) : Type 0 where
   pub wide : length words ≡ word_count z
   pub front : slice_index words (at z front) ≡ 0
   pub draw : slice_index words (at z draw_place) ≡ m.draw
