@@ -65,7 +65,7 @@ loan_stays now (Shut id) reply h = absurd (cc)
 loan_stays now (End id) reply h = absurd (cc)
 
 -- So loans don't count.
-inside_but_loans : (now : Option ArenaId) (es : List Entry) → inside_after now es ≡ inside_after now (but_loans es)
+pub inside_but_loans : (now : Option ArenaId) (es : List Entry) → inside_after now es ≡ inside_after now (but_loans es)
 inside_but_loans now [] = refl
 inside_but_loans now (e ∷ es) =
     let rest = filter (λ (x : Entry). not (is_loan x.call)) es in

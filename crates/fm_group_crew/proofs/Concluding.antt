@@ -5,7 +5,8 @@ use Rattle.fm_base_lists.{specs.Among.{IsAmong}, proofs.{Among.{among_either}, E
 use Rattle.fm_base.specs.{declared.{caller.Caller.{Caller}, refusal.Refusal.{Refusal}}, Arenas.{are_one}, Calls.{Entry}, Histories.{made_by}}
 use Rattle.fm_group_lists.specs.Groups.{Group}
 use Rattle.fm_group.specs.Table.{CanTable, Counter}
-use Rattle.fm_group_laws.{specs.Shares.{AreShared, Share}, proofs.Either.{by_either}}
+use Rattle.fm_base.proofs.Either.{by_either}
+use Rattle.fm_group_laws.specs.Shares.{AreShared, Share}
 use Rattle.fm_workers_crew.specs.{Crew.{AreIdle}, Then.{LastGoes}}
 use Rattle.fm_group_crew.specs.{Ends.{Concludes, first_end}, Grouped.{OnlyVisits, no_more}}
 use Rattle.fm_group_crew.proofs.Visiting.{as_visits, both_visit, concludes_visit, share_visits}

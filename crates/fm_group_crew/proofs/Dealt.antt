@@ -38,7 +38,3 @@ lined_within from n (b ∷ bs) l =
     let rest = lined_within b.1 n bs l.2 in
     let first = l.0 in let order = l.1 in let most = rest.0 in
     (omega (arith, first, order, most), ((l.1, rest.0), rest.1))
-
--- No product of a length and so few threads passes 64 bits.
-pub few_fit : (n t k : ℕ) → k ≤ t → n * k ≤ n * t
-few_fit n t k h = mul-le-mul_left n h

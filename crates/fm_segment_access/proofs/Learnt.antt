@@ -55,11 +55,6 @@ after_get_value {old} {new} {k} o {id} {place} {result} can d =
     (read_alone (value_of k o) old new id place (width_of k)) (read_shut (value_of k o) old new id place (width_of k))
     (λ v d. got_kind old.caller k o id place v d.own d.does) result d
 
--- The same for a kind that is named otherwise.
-pub after_get_as : {old new : View} {k j : ValueKind} (o : Order) {id : ArenaId} {place : ℕ} {result : Result Value Refusal} → k ≡ j
-    → AfterGetValue old new id place j o result → AfterGetValue old new id place k o result
-after_get_as {old} {new} o {id} {place} {result} same a = subst (λ (x : ValueKind). AfterGetValue old new id place x o result) (sym same) a
-
 -- All that is learnt of `put_value`.
 pub after_put_value : {old new : View} {o : Order} {id : ArenaId} {place : ℕ} {v : Value} {result : Result (Unit {0}) Refusal}
     → CanTouch old id place (width_of (kind_of v))

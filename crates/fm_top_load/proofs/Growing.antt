@@ -3,39 +3,11 @@ use Rattle.std.{proofs.Common.{◌≡◌, ℕ, ◌+◌, ◌%◌, Bool, true, fal
 use Rattle.fm_base.specs.{declared.{arena_id.ArenaId.{ArenaId}, caller.Caller.{Caller}}, Arenas.{State}, Histories.{IsLegal, state_after}}
 use Rattle.fm_base.specs.Calls.{Call, Open, Enter, Read, Write, SwapIf, Add, Allocate, Leave, Hold, Unhold, Shut, End, Lend, Back, Reply, Given, Entry}
 use Rattle.fm_base.specs.{Does.{DidAllocate, DoesAllocate}, View.{but_loans, given_in, inside_after, inside_next, is_loan}}
-use Rattle.fm_base.proofs.Running.{visit_ends_outside}
+use Rattle.fm_base.proofs.{Learning.{inside_but_loans}, Running.{visit_ends_outside}}
 use Rattle.fm_segment_access.specs.Alone.{bytes_of_arena}
 use Rattle.fm_base_bytes.specs.Words.{bytes_in}
 use Rattle.fm_top_load.{specs.Held.{IsHeld, OnlyIn}, proofs.{GivenBytes.{rounded_whole}, Holding.{allocated_held, allocated_only}}}
 use Rattle.fm_top_load.proofs.Machine.{AreOwn, lone, lone_makes}
-
--- who is inside stays so where blocks are lent or taken back
-loan_stays : (now : Option ArenaId) (call : Call) (reply : Reply) → is_loan call ≡ true → inside_next now call reply ≡ now
-loan_stays now (Lend block id part) reply is = refl
-loan_stays now (Back block) reply is = refl
-loan_stays now (Open id) reply is = absurd (cc)
-loan_stays now (Enter id) reply is = absurd (cc)
-loan_stays now (Read id word) reply is = absurd (cc)
-loan_stays now (Write id word value) reply is = absurd (cc)
-loan_stays now (SwapIf id word old new) reply is = absurd (cc)
-loan_stays now (Add id word n) reply is = absurd (cc)
-loan_stays now (Allocate id size align) reply is = absurd (cc)
-loan_stays now (Leave id) reply is = absurd (cc)
-loan_stays now (Hold id) reply is = absurd (cc)
-loan_stays now (Unhold id) reply is = absurd (cc)
-loan_stays now (Shut id) reply is = absurd (cc)
-loan_stays now (End id) reply is = absurd (cc)
-
-inside_but_loans : (now : Option ArenaId) (es : List Entry) → inside_after now es ≡ inside_after now (but_loans es)
-inside_but_loans now [] = refl
-inside_but_loans now (e ∷ es) =
-    let P : Bool → Type 0 = λ b. is_loan e.call ≡ b
-    → inside_after (inside_next now e.call e.reply) es ≡ inside_after now (if not b then e ∷ but_loans es else but_loans es) in
-    let go : (b : Bool) → P b = λ b. elim b as P [
-      | true ↦ (λ is. ap (λ (j : Option ArenaId). inside_after j es) (loan_stays now e.call e.reply is) ∙ inside_but_loans now es)
-      | false ↦ (λ is. inside_but_loans (inside_next now e.call e.reply) es)
-    ] in
-    go (is_loan e.call) refl
 
 -- It gave so many bytes behind those that it had given, whole words of them, and its words stay.
 pub record Gave (limit : ℕ) (c : Caller) (s t : State) (a : ArenaId) (place count : ℕ) : Type 0 where

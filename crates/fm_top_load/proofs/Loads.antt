@@ -1,5 +1,6 @@
 -- A record file that is loaded into an arena that gives room as it comes.
 use Rattle.std.proofs.Common.{◌≡◌, ℕ, ◌+◌, Bool, true, false, List, [], length, take, Option, Some, None, Err, refl, ap, sym, subst, ◌∙◌, inl, inr, arith}
+use Rattle.std.proofs.lemmas.Bool.{true_from_ne_false}
 use Rattle.fm_base.specs.{declared.{arena_id.ArenaId.{ArenaId}, caller.Caller.{Caller}, refusal.Refusal.{Refusal}}, Calls.{Entry}, Outcomes.{Nature}, View.{View, Did}}
 use Rattle.fm_base.proofs.Making.{Makes-none}
 use Rattle.fm_io.specs.{Files.{Contents, AreBytesFrom, EndsBefore}, Reads.{Read, Next, ReadsFile}, View.{FilesView}}
@@ -47,10 +48,6 @@ pub begun : (stretch : Stretch) (told : Option Contents) {x z : View} {a : Arena
     → Did x z (DoesPutStretch stretch told x.caller (Growing a) first (Err fault)) → IsHeld z a → HasBegun x z a
 begun stretch told {x} {z} {a} first fault did held = record { did = record { own = did.own; does = begins stretch told x.caller a first fault did.own did.does; makes = did.makes }; held = held }
 
-is_true : (b : Bool) → ¬ (b ≡ false) → b ≡ true
-is_true true n = refl
-is_true false n = absurd (n refl)
-
 -- all of it was
 pub loads : {stretch : Stretch} {told now : Option Contents} {name : List ℕ} {x z : View} {a : ArenaId} {first : PortionView} {reached : Reached} (s : Region)
     → IsWholeStretch name record_file_limit stretch → HoldsRoom stretch x (Growing a) → z.inside ≡ None
@@ -65,7 +62,7 @@ loads {stretch} {told} {now} {name} {x} {z} {a} {first} {reached} s whole room o
     let limited = whole.limited in
     let past = whole.past in
     let stand = stands stretch room out put.bytes did.own cut.within cut.short did.makes put.put in
-    let ended : reached.ended ≡ true = is_true reached.ended (λ f. let all = cut.full f in omega (arith, all, short, past, limited)) in
+    let ended : reached.ended ≡ true = true_from_ne_false reached.ended (λ f. let all = cut.full f in omega (arith, all, short, past, limited)) in
     let loaded : loaded_in z s ≡ put.bytes =
     ap (loaded_in z) is ∙ loaded_first z (region_of a 0 reached.count) refl ∙ ap (λ n. take n (bytes_of_arena z.state a)) (sym count) ∙ stand.stand in
     let from : AreBytesFrom told name 0 put.bytes =

@@ -33,15 +33,6 @@ pub tells_of : {Says More : LoadFault → Type 0} {limit : ℕ} {old new : Files
     → TellsLoad Says limit old new name fault → TellsLoad More limit old new name fault
 tells_of more tells = record { left = tells.left; too_long = tells.too_long; absent = tells.absent; other = more tells.other }
 
--- what reads come to may come where bytes are put
-pub by_puts : {limit : ℕ} {old new : FilesView} {name : List ℕ} {fault : LoadFault} → TellsLoad ByReads limit old new name (Some fault)
-    → TellsLoad ByPuts limit old new name (Some fault)
-by_puts {fault = fault} tells = tells_of (put_too fault) tells
-  where
-    put_too : (f : LoadFault) → ByReads f → ByPuts f
-    put_too (Ragged rest) by = absurd by
-    put_too f by = tt
-
 -- such reads, and then want of memory
 pub tells_memory : {Says : LoadFault → Type 0} {limit : ℕ} {old new : FilesView} {name : List ℕ} → Says Memory → Leaves ⊥ ⊥ old new
     → TellsLoad Says limit old new name (Some Memory)

@@ -1,5 +1,6 @@
 -- A pool's first pass that reads a file into an arena, portion by portion.
 use Rattle.std.proofs.Common.{◌≡◌, ℕ, ◌+◌, ◌<◌, ◌≤◌, Bool, true, false, Option, List, [], length, take, Ok, refl, ap, sym, ◌∙◌, subst, ⊎_elim, arith, length-append}
+use Rattle.std.proofs.lemmas.Bool.{true_from_ne_false}
 use Rattle.std.{specs.Prelude.{◌⊎◌}, proofs.lemmas.List.{take-take}}
 use Rattle.fm_base.specs.{declared.{arena_id.ArenaId.{ArenaId}, caller.Caller.{Caller}, kind.Kind.TheVariants.{Shared}, refusal.Refusal.{Refusal}}, Arenas.{State, arena_of}, Calls.{Entry}}
 use Rattle.fm_base.specs.{Histories.{state_after}, Outcomes.{Nature}, View.{Did, Makes, given_in}}
@@ -19,6 +20,7 @@ use Rattle.fm_records.{proofs.AnsweringBytes.{length-places, places_have}, specs
 use Rattle.fm_rule.specs.{declared.pool.Pool.{Pool}, Finishing.{FinishedView, Finishes}, GivenBytes.{given_bytes, state_of}, Passes.{IsOf}}
 use Rattle.fm_segment.specs.Region.{Region, region_of}
 use Rattle.fm_words.specs.declared.shape.Shape.{Shape}
+use Rattle.fm_top_pooled.proofs.Shows.{length-pooled}
 use Rattle.fm_top_pooled.specs.Stocked.{HoldsFirst, HoldsWhole, IsLeft, IsLone, IsStock, PutsFile, bytes_in_pool, pool_passes}
 use Rattle.fm_top_pooled.proofs.{Filling.{bytes_stand, held_room, only_on, put_lone, stay_lone}, Left.{left_still}, Opening.{knows_none}}
 use Rattle.fm_top_pooled.proofs.Quiet.{LendNone, loans_kept, put_all_lends, puts_lend}
@@ -73,10 +75,6 @@ first_bytes {pool} {p} {a} s count lone held room is =
     let limit : limit_of p.shape ≡ limit_of pool.shape = ap limit_of lone.outside.of.1 in
     let fits = held_room p a count held (omega (arith, limit, room)) in
     ap (bytes_at_places (state_in p)) is ∙ places_have (state_in p) (region_of a 0 count) (omega (arith, fits))
-
-pub count_stands : (p : View) (s : Region) → length (bytes_in_pool p s) ≡ s.size
-unfolding bytes_in_pool
-count_stands p s = length-places (state_in p) s
 
 -- the arena has given all of it
 given_all : {beside : ℕ} {pool : Pool} {p : View} {s : Region} → IsStock beside pool p s → s.size ≤ given_in (view_of_pass p) s.arena
@@ -177,21 +175,17 @@ first_put {stretch} {told} {now} {beside} {pool} {p} {s} put first limit same =
     subst (λ (x : Option Contents). HoldsFirst x stretch.name.now beside pool p s) (sym same) (record {
       stock = put.stock;
       first = subst (λ n. AreBytesFrom told stretch.name.now n (bytes_in_pool p s)) first put.cut.bytes_are;
-      short = omega (arith, short, limit, count_stands p s);
+      short = omega (arith, short, limit, length-pooled p s);
     })
-
-is_true : (b : Bool) → ¬ (b ≡ false) → b ≡ true
-is_true true n = refl
-is_true false n = absurd (n refl)
 
 -- behind which nothing came
 pub first_whole : {most : ℕ} {told : Option Contents} {name : List ℕ} {beside : ℕ} {pool : Pool} {p : View} {s : Region} {next : PortionView}
     → HoldsFirst told name beside pool p s → IsPortion record_file_limit most told name s.size next → 0 < most → length next.bytes ≡ 0
     → HoldsWhole told name beside pool p s
 first_whole {most} {told} {name} {p = p} {s = s} {next = next} h portion some none =
-    let count = count_stands p s in
+    let count = length-pooled p s in
     let short = h.short in
-    let ended : next.ended ≡ true = is_true next.ended (λ f. let all = portion.full f in omega (arith, all, none, some)) in
+    let ended : next.ended ≡ true = true_from_ne_false next.ended (λ f. let all = portion.full f in omega (arith, all, none, some)) in
     let end : s.size + length next.bytes ≡ length (bytes_in_pool p s) = omega (arith, none, count) in
     record {
       stock = h.stock;

@@ -1,5 +1,6 @@
 -- Runs of bytes that follow on one another in a file.
 use Rattle.std.proofs.Common.{◌≡◌, ℕ, ◌+◌, ◌*◌, ◌/◌, ◌%◌, ◌<◌, ◌≤◌, Bool, true, false, List, [], ◌∷◌, ◌++◌, length, Option, refl, ap, sym, ◌∙◌, subst, arith, append_assoc, length-append}
+use Rattle.std.proofs.lemmas.Bool.{true_from_ne_false}
 use Rattle.std.{specs.List.{AllByRecursion}, proofs.{Math.Nat.{mul-add-mod_self_right, mul-mod_left}, lemmas.{List.{append-nil}, Nat.{div-add-mod'}}}}
 use Rattle.fm_io.{specs.Files.{Contents, AreBytesFrom, EndsBefore}, proofs.Filled.{AreBytesFrom-append}}
 use Rattle.fm_records_query.specs.Plan.{Plan}
@@ -45,10 +46,6 @@ even_all most size (r ∷ runs) even none h =
 
 -- ---- the file so far
 
-is_true : (b : Bool) → ¬ (b ≡ false) → b ≡ true
-is_true true n = refl
-is_true false n = absurd (n refl)
-
 module _ {limit most at : ℕ} {told : Option Contents} {name : List ℕ} (bytes : List ℕ) {ended : Bool} (cut : IsCut limit most told name at bytes ended) where
   module _ (before : List ℕ) (count : length before ≡ at) (first : AreBytesFrom told name 0 before) where
     -- It comes behind what came before.
@@ -69,7 +66,7 @@ module _ {limit most at : ℕ} {told : Option Contents} {name : List ℕ} (bytes
         → IsRagged limit told name p.size rest
     is_ragged p rest even whole is some = record {
       bytes = before ++ bytes;
-      is_file = whole_file (cut.ends (is_true ended (λ f. let all = cut.full f in omega (arith, ap (λ n. n % p.size) all, whole, is, some))));
+      is_file = whole_file (cut.ends (true_from_ne_false ended (λ f. let all = cut.full f in omega (arith, ap (λ n. n % p.size) all, whole, is, some))));
       short = (let short = cut.short in omega (arith, count_more, short));
       is = is ∙ sym (ap (λ n. n % p.size) (length-append before bytes) ∙ rest_of (length before) (length bytes) p.size even);
       some = some;
@@ -85,4 +82,4 @@ pub ends_here : {limit most at : ℕ} {told : Option Contents} {name : List ℕ}
     → length first.bytes ≡ 0 → 0 < most → EndsBefore told name at
 ends_here {most = most} {at = at} {told = told} {name = name} {first = first} next none some =
     let end : at + length first.bytes ≡ at = omega (arith, none) in
-    subst (EndsBefore told name) end (next.ends (is_true first.ended (λ f. let full = next.full f in omega (arith, full, none, some))))
+    subst (EndsBefore told name) end (next.ends (true_from_ne_false first.ended (λ f. let full = next.full f in omega (arith, full, none, some))))

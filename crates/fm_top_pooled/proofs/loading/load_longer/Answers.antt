@@ -3,7 +3,7 @@ use Rattle.fm_io.specs.Files.{Contents, AreBytesFrom}
 use Rattle.fm_top_load.specs.{Whole.{IsPortion}}
 use Rattle.fm_top_load.proofs.{Following.{same_reads}, Telling.{read_quietly}}
 use Rattle.fm_top_pooled.specs.Stocked.{HoldsWhole}
-use Rattle.fm_top_pooled.proofs.Filed.{count_stands, first_whole, list_stands}
+use Rattle.fm_top_pooled.proofs.{Filed.{first_whole, list_stands}, Shows.{length-pooled}}
 use Rattle.fm_top_pooled.proofs.loading.load_longer.Goals as goal
 
 pub returns-then-len-eq0-clause-holds : goal.returns-then-len-eq0-clause-holds
@@ -23,7 +23,7 @@ read_rest-requires g c =
     record {
       read = record { small = omega arith; short = omega (arith, short, size) };
       first = subst (λ (q : Option Contents × List ℕ). AreBytesFrom q.0 c.args.name.now 0 q.1) (λ i. (sym same i, sym items i)) h.first;
-      count = ap length items ∙ count_stands c.args.first.pass c.args.first.segment ∙ sym size;
+      count = ap length items ∙ length-pooled c.args.first.pass c.args.first.segment ∙ sym size;
       next = subst (λ (x : Option Contents). IsPortion 67108864 67108865 x c.args.name.now c.size.result c.read.new.self) (sym same) c.in_default.ensures.took;
       past = omega arith;
     }
