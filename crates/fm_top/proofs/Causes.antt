@@ -54,13 +54,14 @@ layout_cause text name None last = refl
 layout_cause text name (Some bytes) last = listed_cause text name bytes last (nat_lt layout_file_limit (length bytes)) (layout_of_json bytes) refl refl
 
 -- whole records are answered
-pub over_answered : (w : Wish) (p : PlanOf w) (bytes : List ℕ) (o : Outcome) → EndsOver w p bytes o → o.status ≡ Answered
+over_answered : (w : Wish) (p : PlanOf w) (bytes : List ℕ) (o : Outcome) → EndsOver w p bytes o → o.status ≡ Answered
 over_answered (Answer q threads) p bytes o ends = ap (λ (y : Outcome). y.status) ends.outcome
 over_answered Texts p bytes o ends = ap (λ (y : Outcome). y.status) ends
 
 -- that of what is asked of records
 module _ (w : Wish) (layout text file bytes : List ℕ) (t : Tree) (is : IsRecordLayout w bytes t) where
-  plan_cause : (p : PlanOf w) (last : Option (List ℕ)) (o : Outcome) → ComesTo w text t p → RecordsEnd (records_limit w) (size_in w p) file (EndsOver w p) last o
+  plan_cause : (p : PlanOf w) (last : Option (List ℕ)) (o : Outcome) → ComesTo w text t p → RecordsEnd (records_limit w) (size_in w p) file (EndsOver w p)
+      last o
       → CauseOf o.status (Ask w layout text file) (Some bytes) last
   plan_cause p last o plan no_file = inr (p, (t, is, plan), refl)
   plan_cause p last o plan (too_many all long) = inr (p, (t, is, plan), long)

@@ -1,3 +1,4 @@
+pub mod Asked
 pub mod Causes
 pub mod Comes
 pub mod Counted
@@ -7,12 +8,14 @@ pub mod NamedKinds
 pub mod Numbers
 pub mod OneEnd
 pub mod Outcomes
-pub mod Planned
+pub mod Printed
 pub mod Ran
 pub mod ReadFor
 pub mod Requests
 pub mod Runs
+pub mod Scripted
 pub mod Sums
 pub mod Threaded
-pub mod Unloaded
+pub mod Listed
+pub mod Loaded
 pub mod Streamed

@@ -1,14 +1,12 @@
 -- Which outcome a request has.
-use Rattle.std.proofs.Common.{◌≡◌, ◌≢◌, ◌⊎◌, inl, inr, ℕ, suc, ◌%◌, ◌<◌, ◌≤◌, List, length, replicate, Option, None, Some, true, sym, subst, refl, arith}
-use Rattle.std.{proofs.lemmas.{List.{length-replicate}, Bool.Decides.{Decides-ltb}, Result.{IfOk-weaker}}, specs.Prelude.{IsSomeAnd, nat_lt, Result, IfOk}}
-use Rattle.std.specs.declared.alloc.AllocError.{AllocError}
+use Rattle.std.proofs.Common.{◌≡◌, ◌≢◌, ◌⊎◌, inl, inr, ℕ, suc, ◌<◌, List, length, replicate, Option, None, Some, true, subst, refl, arith}
+use Rattle.std.{proofs.lemmas.{List.{length-replicate}, Bool.Decides.{Decides-ltb}}, specs.Prelude.{Err, IsSomeAnd, nat_lt}}
 use Rattle.fm_io.specs.Files.{Contents, file_of}
 use Rattle.fm_layout.specs.Tree.{Tree}
 use Rattle.fm_base.specs.declared.refusal.Refusal.{Refusal, TheVariants.{Memory}}
-use Rattle.fm_top.specs.{Ending.{shown}, Found.{IsFound, OfFound}}
-use Rattle.fm_top.specs.Outcome.{Outcome, RecordsEnd, even, layout_of_file, too_long, layout_refused, query_refused, layout_file_limit}
-use Rattle.fm_top.specs.{Queries.{ComesToNone, IsLayoutRefused, TextEnds, unplanned, AskEnds, bad_layout}, Run.{HasOutcome}, Words.{Ask}}
-use Rattle.fm_top.specs.declared.{outcome.ending.Ending.{Ending}, command.{layout_text.LayoutText.{LayoutText}, wish.Wish.{Wish}}}
+use Rattle.fm_top.specs.{Ending.{EndsAs}, Found.{IsFound, OfFound}, Outcome.{Outcome, layout_of_file, too_long, layout_file_limit}}
+use Rattle.fm_top.specs.{Queries.{ComesToNone, IsLayoutRefused, TextEnds, unplanned, AskEnds, bad_layout}, Run.{HasOutcome}, Stops.{layout_stop, query_stop}, Words.{Ask}}
+use Rattle.fm_top.specs.declared.command.{layout_text.LayoutText.{LayoutText}, wish.Wish.{Wish}}
 use Rattle.fm_top_load.specs.Whole.{IsWhole, IsOver}
 
 -- ---- what is found
@@ -56,21 +54,16 @@ pub some_end : (told : Option Contents) (name : List ℕ) (P : Option (List ℕ)
 some_end told name P each = let found = some_found told name in (found.0, found.1, each found.0)
 
 -- whatever is found of the record file
-module _ (w : Wish) (text file : List ℕ) (found : Option (List ℕ)) (o : Outcome) where
+module _ (w : Wish) (text file : List ℕ) where
   -- the layout is refused
-  pub refused-layout : (layout bytes : List ℕ) (e : Refusal) → IsLayoutRefused w bytes e ⊎ (e ≡ Memory) → e ≢ Memory → o ≡ layout_refused e
-      → AskEnds w layout text file found (Some bytes) o
-  refused-layout layout bytes e (inr memory) other is = absurd (other memory)
-  refused-layout layout bytes e (inl denied) other is =
-      subst (λ (x : Outcome). AskEnds w layout text file found (Some bytes) x) (sym is) (bad_layout bytes e denied)
+  pub refused-layout : (layout bytes : List ℕ) (e : Refusal) → IsLayoutRefused w bytes e ⊎ (e ≡ Memory)
+      → EndsAs (λ o. (found : Option (List ℕ)) → AskEnds w layout text file found (Some bytes) o) (Err (layout_stop e))
+  refused-layout layout bytes Memory why = tt
+  refused-layout layout bytes e (inr memory) = absurd (cc)
+  refused-layout layout bytes e (inl denied) = λ found. bad_layout bytes e denied
 
   -- the text is refused
-  pub refused-text : (t : Tree) (e : Refusal) → (e ≢ Memory → ComesToNone w text t e) → e ≢ Memory → o ≡ query_refused e → TextEnds w text t file found o
-  refused-text t e denied other is = subst (λ (x : Outcome). TextEnds w text t file found x) (sym is) (unplanned e (denied other))
-
--- whole records are answered over
-pub even_ends : (limit size : ℕ) (bytes : List ℕ) (Answers : List ℕ → Outcome → Type 0) → length bytes ≤ limit → length bytes % size ≡ 0
-    → (end : Result Ending AllocError) → IfOk end (λ ending. Answers bytes (shown ending))
-    → IfOk end (λ ending. (file : List ℕ) → RecordsEnd limit size file Answers (Some bytes) (shown ending))
-even_ends limit size bytes Answers short whole end ends =
-    IfOk-weaker end _ _ (λ ending answers file. even bytes (shown ending) short whole answers) ends
+  pub refused-text : (t : Tree) (e : Refusal) → (e ≢ Memory → ComesToNone w text t e)
+      → EndsAs (λ o. (found : Option (List ℕ)) → TextEnds w text t file found o) (Err (query_stop e))
+  refused-text t Memory denied = tt
+  refused-text t e denied = λ found. unplanned e (denied (λ memory. absurd (cc)))

@@ -1,12 +1,12 @@
 -- What is learnt from a run.
-use Rattle.std.{proofs.Common.{◌≡◌, ℕ, List, Option, Some, refl, sym, subst, ◌≢◌, ◌≤◌, Result, Ok, Err, inl, arith}, specs.Prelude.{◌⊎◌}}
-use Rattle.fm_io.specs.declared.fault.Fault.TheVariants as fault
-use Rattle.fm_io.specs.{Count.{Rose, Raised}, Files.{Contents}, declared.fault.Fault.{Fault}, View.{FilesView}, Sink.{SinkView}}
-use Rattle.fm_top.specs.{Causes.{OverFiles}, Ending.{shown}, Ends.{EndsWords}, Outcome.{Outcome}, Ran.{Ran}}
+use Rattle.std.{proofs.Common.{◌≡◌, ℕ, List, Option, Some, refl, sym, ap, subst, ◌≢◌, ◌≤◌, Result, Ok, Err, inl, inr}, specs.Prelude.{◌⊎◌, IsErrOf}}
+use Rattle.fm_io.specs.{Count.{Rose, Raised}, Files.{Contents}, View.{FilesView}, Sink.{SinkView}}
+use Rattle.fm_top.specs.{Causes.{OverFiles}, Ending.{IsMiss, IsUntold, end_of}, Ends.{EndsWords}, Outcome.{Outcome}, Ran.{Ran}}
 use Rattle.fm_top.specs.Run.{HasOutcome, IsOutcome, faulty, asked, Traces, printed, failed, stopped, Runs, ended, unread, unknown, IsValid, Answers, is_answered, cut_short, wants_memory, Prints, TellsMissing, code_of, traces_of}
-use Rattle.fm_top.specs.{Words.{Request, Asks}, declared.outcome.{ending.Ending.{Ending}, left.Left.{Left, TheVariants.{Nothing}}, status.Status.{Status}}}
-use Rattle.fm_top.specs.declared.outcome.status.Status.TheVariants.{Answered, Missing, LayoutRefused, QueryRefused, Ragged, TooLong, ScriptRefused, Unread, Unwritten, NoMemory}
-use Rattle.fm_top.proofs.{Causes.{CauseOf}, Comes.{told_cause, comes_of}, Requests.{same_request}, Runs.{code_of-injective, faulty_ends, misses-printed}}
+use Rattle.fm_top.specs.{Words.{Request, Asks}, declared.outcome.{left.Left.{Left}, reply.Reply.{Reply}, status.Status.{Status}, stop.Stop.{Stop}}}
+use Rattle.fm_top.specs.declared.outcome.status.Status.TheVariants.{Answered, Missing, LayoutRefused, QueryRefused, Ragged, TooLong, ScriptRefused, Unread, Unwritten}
+use Rattle.fm_top.proofs.{Causes.{CauseOf}, Comes.{told_cause, comes_of}, Ends.{misses, tells_miss}, Requests.{same_request}, Runs.{code_of-injective, faulty_ends}}
+use Rattle.fm_top.specs.declared.outcome.stop.Stop.TheVariants as stop
 
 -- of valid input no status but that of an answer has a cause
 valid_status : (s : Status) (request : Request) (contents : Contents) → IsValid request contents → OverFiles (CauseOf s) request contents → s ≡ Answered
@@ -44,12 +44,12 @@ complete (unknown same) request contents asks tells valid no_read no_write = wan
 
 module _ {words : List (List ℕ)} {old new : FilesView} {before after : SinkView} where
   -- the rest follows from how the run ended and what its end showed of the files
-  ran_so : {result : Result Ending Fault} {left : Left} {status : Status} → EndsWords words old new result
+  ran_so : {end : Result Reply Stop} {left : Left} {status : Status} → EndsWords words old new end
       → Runs words (traces_of old new before after) left status
       → (status ≡ Missing → Rose old.misses new.misses) → (new.misses ≡ old.misses) ⊎ TellsMissing words (traces_of old new before after) left status
       → (status ≢ Unread → new.faults ≡ old.faults) → (status ≢ Unwritten → after.faults ≡ before.faults) → before.faults ≤ after.faults
       → Ran words (traces_of old new before after) left (code_of status)
-  ran_so {result} {left} {status} ends runs missed missed_well read_well written_well writes_stay = record {
+  ran_so {status = status} ends runs missed missed_well read_well written_well writes_stay = record {
     status = status;
     ended = refl;
     only = λ other same. code_of-injective other status (sym same);
@@ -62,31 +62,42 @@ module _ {words : List (List ℕ)} {old new : FilesView} {before after : SinkVie
     complete = complete runs;
     reads = ends.reads;
     held = ends.files.held;
-    faults_stay = ends.files.faults_stay;
-    misses_stay = ends.files.misses_stay;
+    faults_stay = ends.files.faults.stays;
+    misses_stay = ends.files.misses.stays;
     writes_stay = writes_stay;
   }
 
-  -- its end was come to and printed
-  pub ran_printed : {ending : Ending} {status : Status} → EndsWords words old new (Ok ending) → Prints (shown ending) before after status
-      → (status ≡ Missing → ending.status ≡ Missing) → (status ≢ Unwritten → after.faults ≡ before.faults) → before.faults ≤ after.faults
-      → Ran words (traces_of old new before after) ending.left (code_of status)
-  ran_printed {ending} {status} ends prints missing written_well writes_stay =
-      ran_so ends (ended (shown ending) status ends.outcome prints) (λ is. ends.files.missed.rose (missing is))
-      (misses-printed (shown ending) ends.outcome prints ends.files.missed) (λ other. ends.files.quiet (λ e. absurd (cc))) written_well writes_stay
+  -- its end is known, and was printed
+  ran_told : (end : Result Reply Stop) {status : Status} → EndsWords words old new end → IsOutcome words old.holds (end_of end) → ¬ (IsErrOf end stop.Unread)
+      → (new.misses ≡ old.misses) ⊎ IsMiss end → Prints (end_of end) before after status → (status ≡ Missing → (end_of end).status ≡ Missing)
+      → (status ≢ Unwritten → after.faults ≡ before.faults) → before.faults ≤ after.faults
+      → Ran words (traces_of old new before after) (end_of end).left (code_of status)
+  ran_told end {status} ends known fine missed prints missing written_well writes_stay =
+      ran_so ends (ended (end_of end) status known prints) (λ is. ends.files.misses.rose (misses end (missing is)))
+      (elim missed [
+        | inl same ↦ inl same
+        | inr miss ↦ inr (record { outcome = end_of end; is_outcome = known; missing = tells_miss end miss; prints = prints; left_is = refl })
+      ]) (λ other. ends.files.faults.quiet fine) written_well writes_stay
 
-module _ {words : List (List ℕ)} {old new : FilesView} {out : SinkView} where
-  -- a read failed
-  pub ran_unread : {result : Result Ending Fault} → result ≡ Err fault.Failed → EndsWords words old new result
-      → Ran words (traces_of old new out out) Nothing (code_of Unread)
-  ran_unread is told =
-      let ends = subst (λ (r : Result Ending Fault). EndsWords words old new r) is told in
-      ran_so ends (unread (ends.asked refl) (ends.files.failed refl) refl) (λ e. absurd (cc)) (inl ends.files.missed) (λ other. absurd (other refl))
-      (λ other. refl) (omega arith)
-
-  -- memory ran out before the end was known
-  pub ran_wanting : {result : Result Ending Fault} → result ≡ Err fault.Memory → EndsWords words old new result
-      → Ran words (traces_of old new out out) Nothing (code_of NoMemory)
-  ran_wanting is told =
-      let ends = subst (λ (r : Result Ending Fault). EndsWords words old new r) is told in
-      ran_so ends (unknown refl) (λ e. absurd (cc)) (inl ends.files.missed) (λ other. ends.files.quiet (λ e. absurd (cc))) (λ other. refl) (omega arith)
+  -- it came to this end
+  pub ran : (end : Result Reply Stop) {left : Left} {status : Status} → EndsWords words old new end → Prints (end_of end) before after status
+      → left ≡ (end_of end).left → (IsUntold end → (after ≡ before) × (status ≡ (end_of end).status)) → (status ≡ Missing → (end_of end).status ≡ Missing)
+      → (status ≢ Unwritten → after.faults ≡ before.faults) → before.faults ≤ after.faults → Ran words (traces_of old new before after) left (code_of status)
+  ran (Err stop.Unread) ends prints is_left untold missing written_well writes_stay =
+      let is = untold tt in
+      let written : after.written ≡ before.written = ap (λ (v : SinkView). v.written) is.0 in
+      let faults : after.faults ≡ before.faults = ap (λ (v : SinkView). v.faults) is.0 in
+      rw (is_left, is.1) (ran_so ends (unread (ends.asked refl) (ends.files.faults.rose refl) written) (λ e. absurd (cc))
+      (inl (ends.files.misses.quiet (λ e. e))) (λ other. absurd (other refl)) (λ other. faults) writes_stay)
+  ran (Err stop.Memory) ends prints is_left untold missing written_well writes_stay =
+      let is = untold tt in
+      let written : after.written ≡ before.written = ap (λ (v : SinkView). v.written) is.0 in
+      let faults : after.faults ≡ before.faults = ap (λ (v : SinkView). v.faults) is.0 in
+      rw (is_left, is.1) (ran_so ends (unknown written) (λ e. absurd (cc)) (inl (ends.files.misses.quiet (λ e. e)))
+      (λ other. ends.files.faults.quiet (λ e. absurd (cc))) (λ other. faults) writes_stay)
+  ran (Err (stop.Missing file)) ends prints is_left untold missing written_well writes_stay =
+      rw is_left (ran_told (Err (stop.Missing file)) ends ends.outcome (λ e. absurd (cc)) (inr tt) prints missing written_well writes_stay)
+  ran (Err why) ends prints is_left untold missing written_well writes_stay =
+      rw is_left (ran_told (Err why) ends ends.outcome (λ e. absurd (cc)) (inl (ends.files.misses.quiet (λ e. e))) prints missing written_well writes_stay)
+  ran (Ok reply) ends prints is_left untold missing written_well writes_stay =
+      rw is_left (ran_told (Ok reply) ends ends.outcome (λ e. absurd (cc)) (inl (ends.files.misses.quiet (λ e. e))) prints missing written_well writes_stay)

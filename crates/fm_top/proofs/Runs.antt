@@ -1,8 +1,8 @@
 -- How runs end.
-use Rattle.std.{proofs.Common.{◌≡◌, ◌≢◌, ℕ, List, [], ◌∷◌, get_or, Option, None, Some, refl, sym, ap, ◌∙◌, inl, inr}, specs.Prelude.{◌⊎◌}}
+use Rattle.std.{proofs.Common.{◌≡◌, ℕ, List, [], ◌∷◌, get_or, Option, None, Some, refl, sym, ap, ◌∙◌, inl, inr}}
 use Rattle.fm_io.specs.Files.{Contents}
-use Rattle.fm_top.specs.{Ending.{TellsMiss}, Found.{OfFile}, Outcome.{Outcome}}
-use Rattle.fm_top.specs.Run.{EndsBy, HasOutcome, IsOutcome, faulty, asked, Traces, Prints, printed, failed, stopped, Runs, ended, unread, unknown, TellsMissing, code_of, EndsWith}
+use Rattle.fm_top.specs.{Found.{OfFile}, Outcome.{Outcome}}
+use Rattle.fm_top.specs.Run.{EndsBy, HasOutcome, faulty, asked, Traces, printed, failed, stopped, Runs, ended, unread, unknown, code_of, EndsWith}
 use Rattle.fm_top.specs.{Words.{Request, Sum, Ask, Demo, Asks, CanBeAsked, AreFaulty, first_file, last_file}, declared.{command.wish.Wish.TheVariants.{Answer}, outcome.left.Left.{Left}}}
 use Rattle.fm_top.specs.declared.outcome.status.Status.{Status}
 use Rattle.fm_top.specs.declared.outcome.status.Status.TheVariants.{Answered, Usage, Missing, Unread, LayoutRefused, QueryRefused, Ragged, TooLong, Unwritten, NoMemory, ScriptRefused}
@@ -27,20 +27,6 @@ found_cause request told o has =
     let first = found_under told (first_file request) (λ x. OfFile told (last_file request) (λ y. EndsBy request x y o)) has in
     let last = found_under told (last_file request) (λ y. EndsBy request first.0 y o) first.1 in
     (first.0, last.0, end_cause request first.0 last.0 o last.1)
-
-missing_or : (s : Status) → (s ≡ Missing) ⊎ (s ≢ Missing)
-missing_or Missing = inl refl
-missing_or s = inr (λ e. absurd (cc))
-
--- where the count of misses changed, the run tells that a file is missing
-pub misses-printed : {words : List (List ℕ)} {t : Traces} (o : Outcome) {status : Status} → IsOutcome words t.old.holds o
-    → Prints o t.before t.after status → TellsMiss t.old.misses t.new.misses o.status
-    → (t.new.misses ≡ t.old.misses) ⊎ TellsMissing words t o.left status
-misses-printed o is prints tells =
-    elim (missing_or o.status) [
-      | inl missing ↦ inr (record { outcome = o; is_outcome = is; missing = missing; prints = prints; left_is = refl })
-      | inr other ↦ inl (tells.well other)
-    ]
 
 -- ---- which status means what
 

@@ -1,11 +1,11 @@
--- What a run's ending says.
-use Rattle.std.specs.Prelude.{◌≡◌, ◌≢◌, ◌↔◌, ℕ, List, ◌++◌, Result, Ok, Err, IfOk, IsOk, string_bytes}
-use Rattle.fm_io.specs.{Count.{Rose}, declared.fault.Fault.{Fault, TheVariants.{Failed}}}
+-- What a run comes to: its reply, or why it stops.
+use Rattle.std.specs.Prelude.{⊤, ℕ, List, [], ◌++◌, Result, Ok, Err, string_bytes}
+use Rattle.fm_io.specs.declared.fault.Fault.{Fault, TheVariants.{Failed, Memory}}
 use Rattle.fm_records.specs.Texts.{answer_text}
-use Rattle.fm_top.specs.{Outcome.{Outcome, missing, ragged, too_long}, declared.outcome.{answered.Answered.{Answered}, ending.Ending.{Ending}, status.Status.{Status}}}
-use Rattle.fm_top.specs.declared.outcome.{status.Status.TheVariants.{Missing}, output.Output.{Output, TheVariants.{Whole, Bytes, NoFile, Answer, Both, Texts}}}
-use Rattle.fm_top_load.specs.declared.load_fault.LoadFault.{LoadFault}
-use Rattle.fm_top_load.specs.declared.load_fault.LoadFault.TheVariants as fault
+use Rattle.fm_top.specs.Outcome.{Outcome, bare, usage, missing, too_long, layout_refused, query_refused, ragged, script_refused}
+use Rattle.fm_top.specs.declared.outcome.{answered.Answered.{Answered}, reply.Reply.{Reply}, status.Status.{Status}, stop.Stop.{Stop}}
+use Rattle.fm_top.specs.declared.outcome.{status.Status.TheVariants.{Answered as Told, Unread, Unwritten, NoMemory}, output.Output.{Output, TheVariants.{Whole, Bytes, Answer, Both, Texts}}}
+use Rattle.fm_top.specs.declared.outcome.stop.Stop.TheVariants as stop
 
 abbrev pub answered_text : Answered → List ℕ
 answered_text a = answer_text a.query a.answer
@@ -13,33 +13,48 @@ answered_text a = answer_text a.query a.answer
 abbrev pub text_of : Output → List ℕ
 text_of (Whole text) = string_bytes text
 text_of (Bytes bytes) = bytes.items
-text_of (NoFile file) = (missing file.now).text
 text_of (Answer answered) = answered_text answered
 text_of (Both first second) = answered_text first ++ answered_text second
 text_of (Texts lines) = lines
 
-abbrev pub shown : Ending → Outcome
-shown ending = record { status = ending.status; text = text_of ending.text; left = ending.left }
+abbrev pub shown : Reply → Outcome
+shown reply = record { status = Told; text = text_of reply.text; left = reply.left }
 
--- an end tells of a missing file only where the count of misses rose, and any other end leaves the count
-pub record TellsMiss (before now : ℕ) (status : Status) : Type 0 where
-  pub rose : status ≡ Missing → Rose before now
-  pub well : status ≢ Missing → now ≡ before
+-- how a run ends that stops so: nothing is told of a failed read, or of want of memory
+abbrev pub told : Stop → Outcome
+told stop.Usage = usage
+told (stop.Missing file) = missing file.now
+told stop.Unread = bare Unread []
+told stop.TooLong = too_long
+told (stop.LayoutRefused refusal) = layout_refused refusal
+told (stop.QueryRefused refusal) = query_refused refusal
+told (stop.Ragged rest) = ragged rest
+told (stop.ScriptRefused line) = script_refused line
+told stop.Memory = bare NoMemory []
 
--- so does a stop before the end is known
-abbrev pub TellsMisses : ℕ → ℕ → Result Ending Fault → Type 0
-TellsMisses before now (Ok ending) = TellsMiss before now ending.status
-TellsMisses before now (Err fault) = now ≡ before
+abbrev pub end_of : Result Reply Stop → Outcome
+end_of (Ok reply) = shown reply
+end_of (Err why) = told why
 
--- how it ends where a file of this name wasn't loaded: after a failed read, and for want of memory, it has no such end
-abbrev pub EndsUnloaded : LoadFault → List ℕ → Outcome → Type 0
-EndsUnloaded fault.Missing name o = o ≡ missing name
-EndsUnloaded fault.TooLong name o = o ≡ too_long
-EndsUnloaded (fault.Ragged rest) name o = o ≡ ragged rest
-EndsUnloaded other name o = ⊥
+-- how it would have ended isn't known
+abbrev pub IsUntold : Result Reply Stop → Type 0
+IsUntold (Err stop.Unread) = ⊤
+IsUntold (Err stop.Memory) = ⊤
+IsUntold end = ⊥
 
--- it ends so, and that it is missing takes no memory
-pub record IsUnloaded (why : LoadFault) (name : List ℕ) (result : Result Ending Fault) : Type 0 where
-  pub ending : IfOk result (λ ending. EndsUnloaded why name (shown ending))
-  pub told : why ≡ fault.Missing → IsOk result
-  pub failed : (result ≡ Err Failed) ↔ (why ≡ fault.Failed)
+-- it tells of a missing file
+abbrev pub IsMiss : Result Reply Stop → Type 0
+IsMiss (Err (stop.Missing file)) = ⊤
+IsMiss end = ⊥
+
+-- this holds of how it ends, as far as that is known
+abbrev pub EndsAs : (Outcome → Type 0) → Result Reply Stop → Type 0
+EndsAs Has (Err stop.Unread) = ⊤
+EndsAs Has (Err stop.Memory) = ⊤
+EndsAs Has end = Has (end_of end)
+
+-- the status that the writing of a text comes to, which tells this one
+abbrev pub status_by : Status → Result ⊤ Fault → Status
+status_by status (Ok written) = status
+status_by status (Err Failed) = Unwritten
+status_by status (Err Memory) = NoMemory

@@ -13,5 +13,6 @@ pub mod Reading
 pub mod Records
 pub mod Run
 pub mod Scripts
+pub mod Stops
 pub mod Tallies
 pub mod Words

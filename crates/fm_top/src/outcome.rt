@@ -1,4 +1,4 @@
-//! How a run ends, up to the writing: a file for each command's end, and one for each part of an end.
+//! What a run comes to, up to the writing: a file for each command's answer, and one for each part of an end.
 
 ghost use Rattle.std.specs.Prelude.{◌≡◌};
 ghost use Rattle.fm_top_options.specs.Options.{texts};
@@ -10,77 +10,82 @@ mod answered;
 mod ask;
 mod demo;
 mod demo_layout;
-mod ending;
+mod host;
 mod kept;
 mod layout;
 mod layout_printed;
 mod left;
+mod line;
 mod output;
 mod plan;
-mod query;
+mod pool;
+mod printing;
+mod reply;
 mod script;
 mod status;
-mod stream;
+mod stop;
+mod stopping;
 mod sum;
 mod sum_values;
-mod tally;
+mod telling;
 mod texts;
-mod unloaded;
-mod wanting;
 
 use crate::command::{Subcommand, command_of};
-use crate::outcome::ask::ask_ending;
-use crate::outcome::demo::demo_ending;
-use crate::outcome::layout::layout_file_ending;
-use crate::outcome::script::script_ending;
-use crate::outcome::sum::sum_ending;
-pub use ending::Ending;
-use fm_io::{Fault, Files, Gate};
+use crate::outcome::ask::ask_reply;
+use crate::outcome::demo::demo_reply;
+use crate::outcome::layout::layout_reply;
+use crate::outcome::reply::Reply;
+use crate::outcome::script::script_reply;
+use crate::outcome::stop::Stop;
+use crate::outcome::sum::sum_reply;
+use fm_io::{Files, Gate};
+pub use host::Host;
 pub use kept::Kept;
+pub use printing::print_end;
 pub use script::SCRIPT_FILE_LIMIT;
 pub use status::Status;
-use std::alloc::{AllocGlobal, Global};
+use std::alloc::AllocGlobal;
 use std::random::RandomSource;
 use std::sync::Wait;
 use std::thread::Threads;
 
-/// How the run of these words ends. Words that are no command read no file.
-pub fn ending_of<'a, R: Threads + Wait + Sync + RandomSource + AllocGlobal, F: Files, G: Gate>(
-    rt: &R,
-    alloc: Global,
-    words: &'a [String],
+/// What the run of these words comes to. Words that are no command read no file.
+pub fn reply_of<'a, R, F: Files, G: Gate>(
+    host: &Host<'_, R, G>,
     files: &mut F,
-    gate: &G,
-) -> Result<Ending<'a>, Fault>
+    words: &'a [String],
+) -> Result<Reply, Stop<'a>>
+where
+    R: Threads + Wait + Sync + RandomSource + AllocGlobal,
     ensures ends { EndsWords (texts words.now)
         (F.view files.old)
         (F.view files.new) result }
     ensures reads_nothing { AreFaulty (texts words.now) → files.new ≡ files.old }
 {
-    match command_of(alloc, words)? {
-        Some(command) => command_ending(rt, alloc, files, &command, gate),
-        None => Ok(Ending::usage(alloc)?),
+    match command_of(host.alloc, words)? {
+        Some(command) => command_reply(host, files, &command),
+        None => Err(Stop::Usage),
     }
 }
 
 /// Does what the command asks for, up to the writing.
-fn command_ending<'a, R: Threads + Wait + Sync + RandomSource + AllocGlobal, F: Files, G: Gate>(
-    rt: &R,
-    alloc: Global,
+fn command_reply<'a, R, F: Files, G: Gate>(
+    host: &Host<'_, R, G>,
     files: &mut F,
     command: &Subcommand<'a>,
-    gate: &G,
-) -> Result<Ending<'a>, Fault>
+) -> Result<Reply, Stop<'a>>
+where
+    R: Threads + Wait + Sync + RandomSource + AllocGlobal,
     requires { CanBeAsked (request_of command.now) }
     ensures { EndsRequest (request_of command.now)
         (F.view files.old)
         (F.view files.new) result }
 {
     match command {
-        Subcommand::Sum(sum) => sum_ending(rt, alloc, files, sum),
-        Subcommand::Layout(layout) => layout_file_ending(alloc, files, layout),
-        Subcommand::Ask(ask) => ask_ending(rt, alloc, files, ask, gate),
-        Subcommand::Demo(demo) => Ok(demo_ending(rt, alloc, demo, gate)?),
-        Subcommand::Run(run) => script_ending(rt, alloc, files, run.file, gate),
+        Subcommand::Sum(sum) => sum_reply(host, files, sum),
+        Subcommand::Layout(layout) => layout_reply(host.alloc, files, layout),
+        Subcommand::Ask(ask) => ask_reply(host, files, ask),
+        Subcommand::Demo(demo) => Ok(demo_reply(host, demo)?),
+        Subcommand::Run(run) => script_reply(host, files, run.file),
     }
 }

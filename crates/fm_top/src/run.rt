@@ -4,8 +4,8 @@ ghost use Rattle.fm_top.specs.Ran.{Ran};
 ghost use Rattle.fm_top.specs.Run.{traces_of};
 ghost use Rattle.fm_top.specs.Words.{AreFaulty};
 
-use crate::outcome::{Kept, Status, ending_of};
-use fm_io::{Fault, Files, Gate, Sink};
+use crate::outcome::{Host, Kept, print_end, reply_of};
+use fm_io::{Files, Gate, Sink};
 use std::alloc::{AllocGlobal, Global};
 use std::random::RandomSource;
 use std::sync::Wait;
@@ -44,13 +44,9 @@ where
     ensures reads_nothing { AreFaulty (texts words.now) → files.new ≡ files.old }
 {
     *kept = Kept::new();
-    match ending_of(rt, alloc, words, files, gate) {
-        Ok(ending) => {
-            let (status, left) = ending.print(alloc, out);
-            *kept = Kept::of(left);
-            status.code()
-        }
-        Err(Fault::Failed) => Status::Unread.code(),
-        Err(Fault::Memory) => Status::NoMemory.code(),
-    }
+    let host = Host { rt, alloc, gate };
+    let end = reply_of(&host, files, words);
+    let (status, left) = print_end(alloc, out, end);
+    *kept = Kept::of(left);
+    status.code()
 }

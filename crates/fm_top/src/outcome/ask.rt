@@ -1,75 +1,58 @@
-ghost use Rattle.std.specs.Prelude.{◌≡◌, ◌≤◌, ◌⊎◌, ⊤, length, IfOk, IfErr, Some};
-ghost use Rattle.fm_records_query.specs.Records.{IsRecord};
-ghost use Rattle.fm_top.specs.Causes.{IsAsked};
-ghost use Rattle.fm_top.specs.Ends.{EndsFile, EndsRequest};
-ghost use Rattle.fm_top.specs.Queries.{AskEnds, ComesTo, IsLayoutRefused, IsRecordLayout, IsSmall, PlanEnds, PlanOf, TextEnds, records_limit};
-ghost use Rattle.fm_top.specs.Words.{AreThreads, Ask, CanBeWished};
-ghost use Rattle.fm_top.specs.declared.command.wish.Wish.TheVariants as wish;
-ghost use Rattle.fm_workers.specs.Counts.{IsTally};
+ghost use Rattle.std.specs.Prelude.{◌≡◌, ◌≤◌, ◌⊎◌, length, IfOk, IfErr};
+ghost use Rattle.fm_top.specs.Ends.{EndsRequest};
+ghost use Rattle.fm_top.specs.Queries.{IsLayoutRefused, IsRecordLayout, IsSmall};
+ghost use Rattle.fm_top.specs.Words.{Ask, CanBeWished};
 
 use crate::command::{AskCommand, Question, Wish};
-use crate::outcome::ending::Ending;
+use crate::outcome::host::Host;
 use crate::outcome::plan::{PoolPlan, plan_for};
-use crate::outcome::query::queried_ending;
-use crate::outcome::stream::streamed_ending;
-use crate::outcome::tally::tallied_ending;
-use crate::outcome::texts::texts_ending;
-use crate::outcome::unloaded::unloaded_ending;
-use crate::outcome::wanting::but_for_memory;
+use crate::outcome::reply::Reply;
+use crate::outcome::stop::Stop;
+use crate::outcome::stopping::{of_file, of_layout, of_query};
+use crate::outcome::texts::texts_reply;
 use fm_base::Refusal;
-use fm_io::{Fault, Files, Gate};
+use fm_io::{Files, Gate};
 use fm_layout::Layout;
 use fm_ljson::layout_from_json;
 use fm_records_query::check_record;
 use fm_top_load::{LAYOUT_FILE_LIMIT, read_whole};
-use fm_top_pooled::{COUNTS_SIZE, Pooled, RecordFile};
 use fm_top_stream::MOST_CHUNK;
+use fm_top_texts::plan_texts;
 use std::alloc::Global;
 use std::sync::Wait;
 use std::thread::Threads;
 
-/// Reads the layout's file, then the text, then the record file, and answers how the run ends.
-pub fn ask_ending<'a, R: Threads + Wait + Sync, F: Files, G: Gate>(
-    rt: &R,
-    alloc: Global,
+/// Reads the layout's file, then the text, then the record file, and answers what is asked. A file is read only where all
+/// before it stands.
+pub fn ask_reply<'a, R: Threads + Wait + Sync, F: Files, G: Gate>(
+    host: &Host<'_, R, G>,
     files: &mut F,
     ask: &AskCommand<'a>,
-    gate: &G,
-) -> Result<Ending<'a>, Fault>
+) -> Result<Reply, Stop<'a>>
     requires { CanBeWished ask.now.wish }
     ensures { EndsRequest
         (Ask ask.now.wish ask.now.layout.now ask.now.text.now ask.now.file.now)
         (F.view files.old)
         (F.view files.new) result }
 {
-    match read_whole(alloc, files, ask.layout, LAYOUT_FILE_LIMIT) {
-        Ok(bytes) => layout_ending(rt, alloc, files, ask, &bytes, gate),
-        Err(fault) => unloaded_ending(alloc, ask.layout, fault),
-    }
-}
-
-/// How the run ends for a layout's file of these bytes. The record file is read only where the text asks something of
-/// records of the layout.
-fn layout_ending<'a, R: Threads + Wait + Sync, F: Files, G: Gate>(
-    rt: &R,
-    alloc: Global,
-    files: &mut F,
-    ask: &AskCommand<'a>,
-    bytes: &[u8],
-    gate: &G,
-) -> Result<Ending<'a>, Fault>
-    requires wish { CanBeWished ask.now.wish }
-    requires short { length bytes.now ≤ LAYOUT_FILE_LIMIT }
-    ensures { EndsFile ask.now.file.now (records_limit ask.now.wish)
-        ((p : PlanOf ask.now.wish) × IsAsked ask.now.wish (Some bytes.now) ask.now.text.now p)
-        (λ found. AskEnds ask.now.wish ask.now.layout.now ask.now.text.now ask.now.file.now
-        found (Some bytes.now))
-        (F.view files.old)
-        (F.view files.new) result }
-{
-    match but_for_memory(record_layout(alloc, ask.wish, bytes))? {
-        Ok(layout) => text_ending(rt, alloc, files, ask, &layout, gate),
-        Err(refusal) => Ok(Ending::layout_refused(alloc, refusal)?),
+    let bytes = read_whole(host.alloc, files, ask.layout, LAYOUT_FILE_LIMIT);
+    let bytes = of_file(ask.layout, bytes)?;
+    let layout = of_layout(record_layout(host.alloc, ask.wish, &bytes))?;
+    match ask.wish {
+        Wish::Answer(question, threads) => {
+            let query = of_query(plan_for(host.alloc, question, ask.text, &layout))?;
+            let plan = PoolPlan {
+                file: ask.file,
+                question,
+                threads,
+                query,
+            };
+            plan.reply(host, files)
+        }
+        Wish::Texts => {
+            let plan = of_query(plan_texts(host.alloc, &layout, ask.text))?;
+            texts_reply(host, files, ask.file, plan)
+        }
     }
 }
 
@@ -95,86 +78,5 @@ fn check_size(wish: Wish, layout: &Layout) -> Result<(), Refusal>
     match wish {
         Wish::Answer(Question::Stream, _) if layout.size() > MOST_CHUNK => Err(Refusal::Overflow),
         Wish::Answer(_, _) | Wish::Texts => Ok(()),
-    }
-}
-
-/// How the run ends for records of this layout.
-fn text_ending<'a, R: Threads + Wait + Sync, F: Files, G: Gate>(
-    rt: &R,
-    alloc: Global,
-    files: &mut F,
-    ask: &AskCommand<'a>,
-    layout: &Layout,
-    gate: &G,
-) -> Result<Ending<'a>, Fault>
-    requires wish { CanBeWished ask.now.wish }
-    requires records { IsRecord layout.now }
-    requires small { IsSmall ask.now.wish layout.now }
-    ensures { EndsFile ask.now.file.now (records_limit ask.now.wish)
-        ((p : PlanOf ask.now.wish) × ComesTo ask.now.wish ask.now.text.now layout.now p)
-        (λ found. TextEnds ask.now.wish ask.now.text.now layout.now ask.now.file.now found)
-        (F.view files.old)
-        (F.view files.new) result }
-{
-    match ask.wish {
-        Wish::Answer(question, threads) => {
-            match but_for_memory(plan_for(alloc, question, ask.text, layout))? {
-                Ok(query) => {
-                    let plan = PoolPlan {
-                        question,
-                        threads,
-                        query,
-                    };
-                    plan_ending(rt, alloc, files, ask.file, plan, gate)
-                }
-                Err(refusal) => Ok(Ending::query_refused(alloc, refusal)?),
-            }
-        }
-        Wish::Texts => texts_ending(rt, alloc, files, ask, layout),
-    }
-}
-
-/// Reads the record file, and answers how the run ends.
-fn plan_ending<'a, R: Threads + Wait + Sync, F: Files, G: Gate>(
-    rt: &R,
-    alloc: Global,
-    files: &mut F,
-    file: &'a str,
-    plan: PoolPlan,
-    gate: &G,
-) -> Result<Ending<'a>, Fault>
-    requires threads { AreThreads plan.threads }
-    requires tally { plan.question ≡ Question.Tally → IsTally plan.query }
-    requires stream { plan.question ≡ Question.Stream → plan.query.size ≤ MOST_CHUNK }
-    ensures { EndsFile file.now (records_limit (wish.Answer plan.question plan.threads)) ⊤
-        (PlanEnds (wish.Answer plan.question plan.threads) plan.query file.now)
-        (F.view files.old)
-        (F.view files.new) result }
-{
-    let PoolPlan {
-        question,
-        threads,
-        query,
-    } = plan;
-    let threads = threads as u32;
-    let mut records = RecordFile {
-        name: file,
-        record_size: query.record_size(),
-        guess: files.guess(file),
-        beside: 0,
-    };
-    match question {
-        Question::Stream => streamed_ending(rt, alloc, files, file, query, threads, gate),
-        Question::Query => match Pooled::load(rt, alloc, files, &records) {
-            Ok(pooled) => Ok(queried_ending(rt, alloc, pooled, query, threads, gate)?),
-            Err(fault) => unloaded_ending(alloc, file, fault),
-        },
-        Question::Tally => {
-            records.beside = COUNTS_SIZE;
-            match Pooled::load(rt, alloc, files, &records) {
-                Ok(pooled) => Ok(tallied_ending(rt, alloc, pooled, &query, threads, gate)?),
-                Err(fault) => unloaded_ending(alloc, file, fault),
-            }
-        }
     }
 }

@@ -7,8 +7,10 @@ ghost use Rattle.fm_top.specs.Words.{AreThreads, IsCount};
 use crate::command::DemoCommand;
 use crate::outcome::answered::Answered;
 use crate::outcome::demo_layout::demo_layout;
-use crate::outcome::ending::Ending;
+use crate::outcome::host::Host;
+use crate::outcome::left::Left;
 use crate::outcome::output::Output;
+use crate::outcome::reply::Reply;
 use fm_base::Refusal;
 use fm_io::Gate;
 use fm_records_query::{Query, parse_query};
@@ -18,23 +20,23 @@ use std::alloc::{AllocError, Global};
 use std::sync::Wait;
 use std::thread::Threads;
 
-/// Makes so many records, and answers how the run ends.
-pub fn demo_ending<'a, R: Threads + Wait + Sync, G: Gate>(
-    rt: &R,
-    alloc: Global,
+/// Makes so many records, and answers two queries over them.
+pub fn demo_reply<R: Threads + Wait + Sync, G: Gate>(
+    host: &Host<'_, R, G>,
     demo: &DemoCommand,
-    gate: &G,
-) -> Result<Ending<'a>, AllocError>
+) -> Result<Reply, AllocError>
     requires threads { AreThreads demo.now.threads }
     requires count { IsCount demo.now.count }
-    ensures { IfOk result (λ ending. DemoEnds demo.now.count (shown ending)) }
+    ensures { IfOk result (λ reply. DemoEnds demo.now.count (shown reply)) }
 {
-    let Ok((first, second)) = made_queries(alloc) else {
+    let Ok((first, second)) = made_queries(host.alloc) else {
         return Err(AllocError);
     };
-    let pooled = made_pool(rt, alloc, demo.count)?;
+    let pooled = made_pool(host.rt, host.alloc, demo.count)?;
     let threads = demo.threads as u32;
-    let (one, two, finished) = pooled.answer_both(rt, alloc, &first, &second, threads, gate)?;
+    let (one, two, finished) = pooled.answer_both(
+        host.rt, host.alloc, &first, &second, threads, host.gate,
+    )?;
     let one = Answered {
         query: first,
         answer: one,
@@ -43,7 +45,10 @@ pub fn demo_ending<'a, R: Threads + Wait + Sync, G: Gate>(
         query: second,
         answer: two,
     };
-    Ok(Ending::answered_by_pool(Output::Both(one, two), finished))
+    Ok(Reply {
+        text: Output::Both(one, two),
+        left: Left::Pool(finished),
+    })
 }
 
 /// So many records, in a pool of their own.

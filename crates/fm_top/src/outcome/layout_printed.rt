@@ -11,11 +11,11 @@ use fm_path::list_places;
 use std::alloc::{AllocError, Global};
 
 /// What is printed of a layout.
-pub fn text_of_layout<'a>(
+pub fn text_of_layout(
     alloc: Global,
     text: LayoutText,
     layout: &Layout,
-) -> Result<Output<'a>, AllocError>
+) -> Result<Output, AllocError>
     ensures { IfOk result (λ printed_text. text_of printed_text ≡ printed text layout.now) }
 {
     match text {
@@ -29,7 +29,7 @@ pub fn text_of_layout<'a>(
 }
 
 /// The JSON of a layout, as a line.
-fn json_line<'a>(alloc: Global, layout: &Layout) -> Result<Output<'a>, AllocError>
+fn json_line(alloc: Global, layout: &Layout) -> Result<Output, AllocError>
     ensures { IfOk result (λ text. text_of text ≡ line (document_text layout.now)) }
 {
     // It is refused for want of memory alone.

@@ -2,7 +2,6 @@ ghost use Rattle.std.specs.Prelude.{IsErrOf, OnOk};
 ghost use Rattle.fm_io.specs.Count.{Counts, Raised};
 ghost use Rattle.fm_io.specs.Sink.{Appends, AppendsPrefix};
 ghost use Rattle.fm_top.specs.Ending.{text_of};
-ghost use Rattle.fm_top.specs.Outcome.{line, missing};
 
 use crate::outcome::answered::Answered;
 use fm_io::{Fault, Sink, write_text};
@@ -11,13 +10,11 @@ use std::alloc::Global;
 
 /// What a run prints.
 #[derive(Drop)]
-pub enum Output<'a> {
+pub enum Output {
     /// This text.
     Whole(String),
     /// The text of these bytes.
     Bytes(Vec<u8>),
-    /// That there is no file of this name: written part by part, so that it takes no memory.
-    NoFile(&'a str),
     /// The answer of a query, of which lists can be long: its text is made as it is written.
     Answer(Answered),
     /// The answers of two queries, one behind the other.
@@ -26,20 +23,19 @@ pub enum Output<'a> {
     Texts(RecordTexts),
 }
 
-impl Output<'_> {
+impl Output {
     /// Writes all of it. After an error a prefix of it was written.
     pub fn write<O: Sink>(self, alloc: Global, out: &mut O) -> Result<(), Fault>
         ensures whole { OnOk result
-            (Appends (O.view out.old).written (O.view out.new).written (text_of self.entry)) }
+            (Appends (O.view out.old).written (O.view out.new).written (text_of self)) }
         ensures prefix { AppendsPrefix (O.view out.old).written (O.view out.new).written
-            (text_of self.entry) }
+            (text_of self) }
         ensures counted { Counts Raised (IsErrOf result Fault.Failed)
             (O.view out.old).faults (O.view out.new).faults }
     {
         match self {
             Output::Whole(text) => write_text(out, text.as_str().as_bytes()),
             Output::Bytes(bytes) => write_text(out, &bytes),
-            Output::NoFile(file) => write_missing(out, file),
             Output::Answer(answered) => answered.write(alloc, out),
             Output::Both(first, second) => {
                 first.write(alloc, out)?;
@@ -48,29 +44,4 @@ impl Output<'_> {
             Output::Texts(mut texts) => texts.write(alloc, out),
         }
     }
-}
-
-/// Writes that there is no file of this name.
-fn write_missing<O: Sink>(out: &mut O, file: &str) -> Result<(), Fault>
-    ensures whole { OnOk result
-        (Appends (O.view out.old).written (O.view out.new).written (missing file.now).text) }
-    ensures prefix { AppendsPrefix (O.view out.old).written (O.view out.new).written
-        (missing file.now).text }
-    ensures counted { Counts Raised (IsErrOf result Fault.Failed)
-        (O.view out.old).faults (O.view out.new).faults }
-{
-    write_text(out, b"missing ")?;
-    write_line(out, file)
-}
-
-/// Writes a line of this text.
-fn write_line<O: Sink>(out: &mut O, text: &str) -> Result<(), Fault>
-    ensures whole { OnOk result
-        (Appends (O.view out.old).written (O.view out.new).written (line text.now)) }
-    ensures prefix { AppendsPrefix (O.view out.old).written (O.view out.new).written (line text.now) }
-    ensures counted { Counts Raised (IsErrOf result Fault.Failed)
-        (O.view out.old).faults (O.view out.new).faults }
-{
-    write_text(out, text.as_bytes())?;
-    write_text(out, b"\n")
 }

@@ -10,9 +10,11 @@ use fm_records_query::{Query, parse_list, parse_query};
 use fm_workers::is_tally;
 use std::alloc::Global;
 
-/// What a pool is to answer: the query that the text of a question comes to, with so many threads.
+/// What was read of a question: the query that its text comes to, which a pool answers over the records of the file, with
+/// so many threads.
 #[derive(Drop)]
-pub struct PoolPlan {
+pub struct PoolPlan<'a> {
+    pub file: &'a str,
     pub question: Question,
     pub threads: u64,
     pub query: Query,
@@ -44,10 +46,7 @@ fn parse_tally(alloc: Global, text: &str, layout: &Layout) -> Result<Query, Refu
     ensures tallied { IfOk result (IsTallied text.now layout.now) }
     ensures refused { IfErr result (λ e. e ≢ Refusal.Memory → IsPathRefused text.now layout.now e) }
 {
-    let list = match parse_list(alloc, text, layout) {
-        Ok(list) => list,
-        Err(refusal) => return Err(refusal),
-    };
+    let list = parse_list(alloc, text, layout)?;
     if is_tally(&list) {
         Ok(list)
     } else {
