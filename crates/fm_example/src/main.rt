@@ -3,10 +3,12 @@
 //! Sales stand side by side in an arena that two threads share. Their prices are put and added up through a handle, in
 //! loops; then one thread adds to the first price while the other closes the arena, and whoever comes later is refused. So
 //! it goes on each of two days, with a worker of its own each: the first one's pass is gathered, and the second one gets
-//! its number again. At last two arenas are closed beside other work (`closes`).
+//! its number again. Then two arenas are closed beside other work (`closes`), and it is counted how often each price comes
+//! (`counts`).
 #![tactic(auto)]
 
 mod closes;
+mod counts;
 mod prices;
 
 ghost use Rattle.std.specs.Prelude.{◌≡◌, IfOk, None, [], length};
@@ -18,10 +20,12 @@ ghost use Rattle.fm_gate.specs.Crews.{HasNothing};
 ghost use Rattle.fm_handle.specs.Learnt.{CanPut};
 
 use crate::closes::close_beside_work;
+use crate::counts::count_prices;
 use crate::prices::{SALE_SIZE, SALES, add_up, put_prices};
 use fm_arena::{Arena, Shared, a_worker_can_be_gathered, keeps_its_pool};
 use fm_base::{Kind, Refusal};
 use fm_gate::a_crew_stands;
+use fm_group::Groups;
 use fm_handle::VarHandle;
 use fm_lanes::{Value, ValueKind};
 use fm_ljson::layout_from_json;
@@ -66,7 +70,8 @@ fn main(rt: HostRuntime) -> ExitCode {
         Ok((first, second)) => print_day(&rt, 1, first).and_then(|()| print_day(&rt, 2, second)),
         Err(refusal) => println!(rt; "refused {refusal}"),
     };
-    match printed.and_then(|()| print_jobs(&rt, close_beside_work(&rt, rt.alloc()))) {
+    let printed = printed.and_then(|()| print_jobs(&rt, close_beside_work(&rt, rt.alloc())));
+    match printed.and_then(|()| print_counts(&rt, count_prices(&rt, rt.alloc()))) {
         Ok(()) => ExitCode::SUCCESS,
         Err(_) => ExitCode::FAILURE,
     }
@@ -87,6 +92,19 @@ fn print_jobs(rt: &HostRuntime, jobs: Result<u32, Refusal>) -> std::io::Result<(
         Ok(jobs) => println!(rt; "closed beside {jobs} jobs"),
         Err(refusal) => println!(rt; "refused {refusal}"),
     }
+}
+
+/// Prints how often each price came.
+fn print_counts(rt: &HostRuntime, groups: Result<Groups, Refusal>) -> std::io::Result<()> {
+    let groups = match groups {
+        Ok(groups) => groups,
+        Err(refusal) => return println!(rt; "refused {refusal}"),
+    };
+    for k in 0..groups.len() {
+        let (price, count) = groups.at(k);
+        println!(rt; "price {price}: {count}")?;
+    }
+    Ok(())
 }
 
 /// Makes the handle and a pool, and sells on two days.
