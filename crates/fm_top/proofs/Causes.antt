@@ -1,16 +1,17 @@
 -- What the status of each request's outcome comes of.
-use Rattle.std.proofs.Common.{◌≡◌, ℕ, ◌≤◌, List, length, Option, None, Some, Result, Ok, Err, Bool, true, false, refl, sym, ap, subst, inl, inr, arith}
+use Rattle.std.proofs.Common.{◌≡◌, ℕ, ◌%◌, ◌≤◌, List, length, Option, None, Some, Result, Ok, Err, Bool, true, false, refl, sym, ap, subst, inl, inr, arith}
 use Rattle.std.{specs.Prelude.{nat_lt, if◌then◌else◌}, proofs.lemmas.Bool.Decides.{Decides-ltb, not_from_Decides}}
 use Rattle.fm_base.specs.declared.refusal.Refusal.{Refusal}
 use Rattle.fm_lanes.specs.declared.value_kind.ValueKind.{ValueKind}
 use Rattle.fm_layout.specs.Tree.{Tree}
 use Rattle.fm_ljson.specs.Answer.{layout_of_json}
 use Rattle.fm_top_load.specs.Limits.{record_file_limit}
-use Rattle.fm_top.specs.Causes.{LacksFile, HasLongFile, HasRefusedLayout, HasRefusedQuery, HasRaggedFile, HasRefusedScript}
+use Rattle.fm_top.specs.Causes.{IsAsked, LacksFile, HasLongFile, HasRefusedLayout, HasRefusedQuery, HasRaggedFile, HasRefusedScript}
+use Rattle.fm_top.specs.Grouped.{many, grouped}
 use Rattle.fm_top.specs.Outcome.{Outcome, RecordsEnd, no_file, too_many, uneven, even, IsSummed, layout_outcome, shows, layout_file_limit, too_long}
 use Rattle.fm_top.specs.Queries.{IsRecordLayout, PlanOf, size_in, ComesTo, EndsOver, records_limit, TextEnds, unplanned, planned, AskEnds, no_layout, long_layout, bad_layout, over_layout}
 use Rattle.fm_top.specs.{Run.{EndsBy}, Scripts.{ScriptEnds, no_script, long_script, bad_script, ran}, Words.{Request, Sum, Layout, Ask, Demo, Run}}
-use Rattle.fm_top.specs.declared.{command.{layout_text.LayoutText.{LayoutText}, wish.Wish.{Wish, TheVariants.{Answer, Texts}}}, outcome.status.Status.{Status}}
+use Rattle.fm_top.specs.declared.{command.{layout_text.LayoutText.{LayoutText}, wish.Wish.{Wish, TheVariants.{Answer, Group, Texts}}}, outcome.status.Status.{Status}}
 use Rattle.fm_top.specs.declared.outcome.status.Status.TheVariants.{Answered, Missing, LayoutRefused, QueryRefused, Ragged, TooLong, ScriptRefused}
 
 -- the cause of a status: an answer needs none, and what is no outcome's status has none
@@ -53,10 +54,16 @@ layout_cause : (text : LayoutText) (name : List ℕ) (first last : Option (List 
 layout_cause text name None last = refl
 layout_cause text name (Some bytes) last = listed_cause text name bytes last (nat_lt layout_file_limit (length bytes)) (layout_of_json bytes) refl refl
 
--- whole records are answered
-over_answered : (w : Wish) (p : PlanOf w) (bytes : List ℕ) (o : Outcome) → EndsOver w p bytes o → o.status ≡ Answered
-over_answered (Answer q threads) p bytes o ends = ap (λ (y : Outcome). y.status) ends.outcome
-over_answered Texts p bytes o ends = ap (λ (y : Outcome). y.status) ends
+-- that of what is asked of whole records
+over_cause : (w : Wish) (layout text file bytes all : List ℕ) (p : PlanOf w) (o : Outcome) → IsAsked w (Some bytes) text p → length all % size_in w p ≡ 0
+    → EndsOver w p all o → CauseOf o.status (Ask w layout text file) (Some bytes) (Some all)
+over_cause (Answer q threads) layout text file bytes all p o asks whole ends =
+    answer_cause (Ask (Answer q threads) layout text file) (Some bytes) (Some all) o (ap (λ (y : Outcome). y.status) (sym ends.outcome))
+over_cause (Group threads) layout text file bytes all p o asks whole (many over) = inr (p, asks, inr (whole, over))
+over_cause (Group threads) layout text file bytes all p o asks whole (grouped x few ends) =
+    answer_cause (Ask (Group threads) layout text file) (Some bytes) (Some all) x (ap (λ (y : Outcome). y.status) (sym ends.outcome))
+over_cause Texts layout text file bytes all p o asks whole ends =
+    answer_cause (Ask Texts layout text file) (Some bytes) (Some all) o (ap (λ (y : Outcome). y.status) (sym ends))
 
 -- that of what is asked of records
 module _ (w : Wish) (layout text file bytes : List ℕ) (t : Tree) (is : IsRecordLayout w bytes t) where
@@ -64,10 +71,9 @@ module _ (w : Wish) (layout text file bytes : List ℕ) (t : Tree) (is : IsRecor
       last o
       → CauseOf o.status (Ask w layout text file) (Some bytes) last
   plan_cause p last o plan no_file = inr (p, (t, is, plan), refl)
-  plan_cause p last o plan (too_many all long) = inr (p, (t, is, plan), long)
+  plan_cause p last o plan (too_many all long) = inr (p, (t, is, plan), inl long)
   plan_cause p last o plan (uneven all short rest) = (p, (t, is, plan), (short, rest))
-  plan_cause p last o plan (even all x short whole answer) =
-      answer_cause (Ask w layout text file) (Some bytes) (Some all) x (sym (over_answered w p all x answer))
+  plan_cause p last o plan (even all x short whole ends) = over_cause w layout text file bytes all p x (t, is, plan) whole ends
 
   text_cause : (last : Option (List ℕ)) (o : Outcome) → TextEnds w text t file last o → CauseOf o.status (Ask w layout text file) (Some bytes) last
   text_cause last o (unplanned e refused) = (t, is, e, refused)

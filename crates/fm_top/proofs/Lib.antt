@@ -4,6 +4,7 @@ pub mod Comes
 pub mod Counted
 pub mod Demos
 pub mod Ends
+pub mod Grouped
 pub mod NamedKinds
 pub mod Numbers
 pub mod OneEnd

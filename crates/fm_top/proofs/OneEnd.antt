@@ -8,12 +8,17 @@ use Rattle.fm_layout.specs.Tree.{Tree}
 use Rattle.fm_ljson.specs.Answer.{layout_of_json}
 use Rattle.fm_records_query.{specs.Plan.{Plan}, proofs.{Lists.{one_list, one_list_refusal, refused_lists_none}, OnePlan.{one_plan, refused_has_none}}}
 use Rattle.fm_records_query.{proofs.OneRefusal.{no_record_once, one_refusal}, specs.Records.{IsRecord, IsNoRecord}}
+use Rattle.fm_path.specs.Resolution.{Resolution}
+use Rattle.fm_group.specs.Values.{all_numbers}
+use Rattle.fm_group_lists.proofs.One.{groups_one}
+use Rattle.fm_group_text.specs.Printed.{groups_text}
+use Rattle.fm_top.specs.Grouped.{GroupEnds, grouped, many}
 use Rattle.fm_top.specs.{Demos.{DemoEnds, made_text}, Laws.{PrintAlike, HaveOneOutcome}}
 use Rattle.fm_top.specs.Outcome.{Outcome, RecordsEnd, no_file, too_many, uneven, even, IsSummed, layout_refused, query_refused}
 use Rattle.fm_top.specs.Queries.{IsRecordLayout, IsNoRecordLayout, IsLayoutRefused, IsSmall, records_limit, PlanOf, size_in, ComesTo, ComesToNone, EndsOver, PlanEnds, IsPlanned, IsUnplanned, TextEnds, unplanned, planned, AskEnds, no_layout, long_layout, bad_layout, over_layout}
 use Rattle.fm_top.specs.{Tallies.{IsTallied, IsPathRefused, no_list, no_bytes}, Run.{HasOutcome, IsOutcomeOver, faulty, asked}}
-use Rattle.fm_top.specs.{Words.{Request, Sum, Layout, Ask, Demo, Run, Asks, IsRun}, declared.command.{question.Question.{Question}, wish.Wish.{Wish, TheVariants.{Answer, Texts}}}}
-use Rattle.fm_top.{specs.declared.command.question.Question.TheVariants.{Query, Stream, Tally}, proofs.{Comes.{over_told}, Requests.{same_request}}}
+use Rattle.fm_top.specs.{Words.{Request, Sum, Layout, Ask, Demo, Run, Asks, IsRun}, declared.command.{question.Question.{Question}, wish.Wish.{Wish, TheVariants.{Answer, Group, Texts}}}}
+use Rattle.fm_top.{specs.declared.command.question.Question.TheVariants.{Query, Stream, Tally}, proofs.{Comes.{over_told}, Grouped.{group_refused_once, one_grouped, refused_not_grouped}, Requests.{same_request}}}
 use Rattle.fm_top_load.specs.Limits.{record_file_limit}
 use Rattle.fm_top_texts.proofs.OnePlan as texts
 use Rattle.fm_workers.specs.Counts.{IsTally}
@@ -51,8 +56,17 @@ records_once limit size file Answers one found o x (even bytes o' a whole answer
 summed_once : (size at : ℕ) (kind : ValueKind) → PrintOne (IsSummed size at kind)
 summed_once size at kind bytes o x a b = alike o x (a ∙ sym b)
 
+grouped_once : (r : Resolution) → PrintOne (GroupEnds r)
+grouped_once r bytes o x (many a) (many b) = alike o x refl
+grouped_once r bytes o x (many a) (grouped x' b two) = absurd (omega (arith, a, b))
+grouped_once r bytes o x (grouped o' a one) (many b) = absurd (omega (arith, a, b))
+grouped_once r bytes o x (grouped o' a one) (grouped x' b two) =
+    alike_by o x _ _ one.outcome two.outcome
+    (record { status = refl; text = ap groups_text (groups_one (all_numbers r bytes) one.groups two.groups one.are_groups two.are_groups) })
+
 answered_once : (w : Wish) (p : PlanOf w) → PrintOne (EndsOver w p)
 answered_once (Answer q threads) p bytes o x a b = alike_by o x _ _ a.outcome b.outcome (record { status = refl; text = refl })
+answered_once (Group threads) p bytes o x a b = grouped_once p bytes o x a b
 answered_once Texts p bytes o x a b = alike o x (a ∙ sym b)
 
 -- ---- texts
@@ -86,14 +100,17 @@ planned_once Tally text t p r a b = one_list text t p r a.list b.list
 -- so is any other text
 none_not_some : (w : Wish) (text : List ℕ) (t : Tree) (p : PlanOf w) (e : Refusal) → ComesToNone w text t e → ComesTo w text t p → ⊥
 none_not_some (Answer q threads) text t p e denied is = refused_not_planned q text t p e denied is
+none_not_some (Group threads) text t p e denied is = refused_not_grouped text t p e denied is
 none_not_some Texts text t p e denied is = texts.refused_has_none text t p e denied is
 
 none_once : (w : Wish) (text : List ℕ) (t : Tree) (e f : Refusal) → ComesToNone w text t e → ComesToNone w text t f → e ≡ f
 none_once (Answer q threads) text t e f a b = unplanned_once q text t e f a b
+none_once (Group threads) text t e f a b = group_refused_once text t e f a b
 none_once Texts text t e f a b = texts.one_refusal text t e f a b
 
 some_once : (w : Wish) (text : List ℕ) (t : Tree) (p r : PlanOf w) → ComesTo w text t p → ComesTo w text t r → p ≡ r
 some_once (Answer q threads) text t p r a b = planned_once q text t p r a b
+some_once (Group threads) text t p r a b = one_grouped text t p r a b
 some_once Texts text t p r a b = texts.one_plan text t p r a b
 
 text_once : (w : Wish) (text : List ℕ) (t : Tree) (file : List ℕ) (found : Option (List ℕ)) (o x : Outcome) → TextEnds w text t file found o

@@ -4,7 +4,7 @@ use Rattle.std.{specs.Prelude.{bytes_eq, if◌then◌else◌}, proofs.lemmas.Fmt
 use Rattle.fm_lanes.{proofs.Naming.{kind_text-injective}, specs.{Named.{kind_text}, declared.value_kind.ValueKind.{ValueKind}}}
 use Rattle.fm_top_options.{proofs.Said.{one_saying}, specs.Options.{Say}}
 use Rattle.fm_top.specs.Words.{Request, Sum, Layout, Ask, Demo, Run, Asks, AreFaulty, IsRun, IsSum, IsOfFile, IsThreaded, IsAsk, IsTexts, IsCount, IsDemo, AreThreadsBy, IsLayout, layout_word, question_word, three}
-use Rattle.fm_top.specs.declared.command.{layout_text.LayoutText.{LayoutText, TheVariants.{Places, Json}}, question.Question.{Question}, wish.Wish.{Wish, TheVariants.{Answer, Texts}}}
+use Rattle.fm_top.specs.declared.command.{layout_text.LayoutText.{LayoutText, TheVariants.{Places, Json}}, question.Question.{Question}, wish.Wish.{Wish, TheVariants.{Answer, Group, Texts}}}
 use Rattle.fm_top.{specs.declared.command.question.Question.TheVariants.{Query, Stream, Tally}, proofs.Threaded.{one_count}}
 
 same_sum : (words : List (List ℕ)) (n m n' m' : ℕ) (kind kind' : ValueKind) (file file' : List ℕ)
@@ -96,6 +96,15 @@ same_asked words q q' threads threads' layout text file layout' text' file' a b 
     let names = same.named in
     cc
 
+same_grouped : (words : List (List ℕ)) (threads threads' : ℕ) (layout text file layout' text' file' : List ℕ)
+    → IsAsk words (Group threads) layout text file → IsAsk words (Group threads') layout' text' file'
+    → Ask (Group threads) layout text file ≡ Ask (Group threads') layout' text' file'
+same_grouped words threads threads' layout text file layout' text' file' a b =
+    let same = same_threaded words (codes "group") (codes "group") threads threads' (three layout text file) (three layout' text' file') a b in
+    let count = same.count in
+    let names = same.named in
+    cc
+
 same_texts : (words : List (List ℕ)) (layout path file layout' path' file' : List ℕ) → IsTexts words layout path file → IsTexts words layout' path' file'
     → Ask Texts layout path file ≡ Ask Texts layout' path' file'
 same_texts words layout path file layout' path' file' a b =
@@ -120,6 +129,7 @@ sort : Request → ℕ
 sort (Sum n m kind file) = 0
 sort (Layout text file) = 1
 sort (Ask (Answer q threads) layout text file) = 2
+sort (Ask (Group threads) layout text file) = 7
 sort (Ask Texts layout text file) = 6
 sort (Demo threads count) = 3
 sort (Run file) = 4
@@ -127,7 +137,8 @@ sort (Run file) = 4
 word_sort : List ℕ → ℕ
 word_sort w =
     if bytes_eq w (codes "sum") then 0 else if bytes_eq w (codes "layout") then 1 else if bytes_eq w (codes "migrate") then 1
-    else if bytes_eq w (codes "demo") then 3 else if bytes_eq w (codes "run") then 4 else if bytes_eq w (codes "texts") then 6 else 2
+    else if bytes_eq w (codes "demo") then 3 else if bytes_eq w (codes "run") then 4 else if bytes_eq w (codes "texts") then 6
+    else if bytes_eq w (codes "group") then 7 else 2
 
 words_sort : List (List ℕ) → ℕ
 words_sort [] = 5
@@ -149,6 +160,7 @@ unfolding sort word_sort words_sort
 sort_is words (Sum n m kind file) asks = ap words_sort asks.spelled
 sort_is words (Layout text file) asks = ap words_sort asks.spelled ∙ text_sort text
 sort_is words (Ask (Answer q threads) layout text file) asks = ap words_sort asks.spelled ∙ question_sort q
+sort_is words (Ask (Group threads) layout text file) asks = ap words_sort asks.spelled
 sort_is words (Ask Texts layout text file) asks = ap words_sort asks.spelled
 sort_is words (Demo threads count) asks = ap words_sort asks.threaded.spelled
 sort_is words (Run file) asks = ap words_sort asks.spelled
@@ -160,14 +172,20 @@ same_request words (Layout text file) (Layout text' file') a b = same_layout wor
 same_request words (Run file) (Run file') a b = ap Run (same_file words (codes "run") file file' a b)
 same_request words (Ask (Answer q threads) layout text file) (Ask (Answer q' threads') layout' text' file') a b =
     same_asked words q q' threads threads' layout text file layout' text' file' a b
+same_request words (Ask (Group threads) layout text file) (Ask (Group threads') layout' text' file') a b =
+    same_grouped words threads threads' layout text file layout' text' file' a b
 same_request words (Ask Texts layout text file) (Ask Texts layout' text' file') a b = same_texts words layout text file layout' text' file' a b
 same_request words (Demo threads count) (Demo threads' count') a b = same_demo words threads threads' count count' a b
 same_request words (Ask (Answer q threads) layout text file) s a b =
     let same : 2 ≡ sort s = sym (sort_is words (Ask (Answer q threads) layout text file) a) ∙ sort_is words s b in absurd (cc)
+same_request words (Ask (Group threads) layout text file) s a b =
+    let same : 7 ≡ sort s = sym (sort_is words (Ask (Group threads) layout text file) a) ∙ sort_is words s b in absurd (cc)
 same_request words (Ask Texts layout text file) s a b =
     let same : 6 ≡ sort s = sym (sort_is words (Ask Texts layout text file) a) ∙ sort_is words s b in absurd (cc)
 same_request words r (Ask (Answer q threads) layout text file) a b =
     let same : sort r ≡ 2 = sym (sort_is words r a) ∙ sort_is words (Ask (Answer q threads) layout text file) b in absurd (cc)
+same_request words r (Ask (Group threads) layout text file) a b =
+    let same : sort r ≡ 7 = sym (sort_is words r a) ∙ sort_is words (Ask (Group threads) layout text file) b in absurd (cc)
 same_request words r (Ask Texts layout text file) a b =
     let same : sort r ≡ 6 = sym (sort_is words r a) ∙ sort_is words (Ask Texts layout text file) b in absurd (cc)
 same_request words r s a b = let same : sort r ≡ sort s = sym (sort_is words r a) ∙ sort_is words s b in absurd (cc)
@@ -182,11 +200,26 @@ no_ask {words} {w} q {n} {names} said none threads layout text file asks =
     let same = same_threaded words w (question_word q) n threads names (three layout text file) said asks in
     none layout text file same.named
 
+-- nor of `group`
+pub no_group : {words : List (List ℕ)} {n : ℕ} {names : List (List ℕ)} → IsThreaded words (codes "group") n names
+    → ((layout text file : List ℕ) → names ≡ three layout text file → ⊥)
+    → (threads : ℕ) (layout text file : List ℕ) → IsAsk words (Group threads) layout text file → ⊥
+no_group {words} {n} {names} said none threads layout text file asks =
+    let same = same_threaded words (codes "group") (codes "group") n threads names (three layout text file) said asks in
+    none layout text file same.named
+
 -- what the words say is of this question
 pub is_ask : {words : List (List ℕ)} {w : List ℕ} (q : Question) {n : ℕ} {names : List (List ℕ)} {wish : Wish} {layout text file : List ℕ}
     → w ≡ question_word q → IsThreaded words w n names → (wish ≡ Answer q n) × (names ≡ three layout text file) → IsAsk words wish layout text file
 is_ask {words} {w} q {n} {names} {wish} {layout} {text} {file} is said by =
     let same : IsThreaded words (question_word q) n (three layout text file) = rw (← is, ← by.1) said in
+    subst (λ (x : Wish). IsAsk words x layout text file) (sym by.0) same
+
+-- or of `group`
+pub is_group : {words : List (List ℕ)} {n : ℕ} {names : List (List ℕ)} {wish : Wish} {layout text file : List ℕ}
+    → IsThreaded words (codes "group") n names → (wish ≡ Group n) × (names ≡ three layout text file) → IsAsk words wish layout text file
+is_group {words} {n} {names} {wish} {layout} {text} {file} said by =
+    let same : IsThreaded words (codes "group") n (three layout text file) = rw (← by.1) said in
     subst (λ (x : Wish). IsAsk words x layout text file) (sym by.0) same
 
 -- or of no demonstration
@@ -201,14 +234,16 @@ pub no_command : (words : List (List ℕ)) → ((file : List ℕ) → IsLayout w
     → ((file : List ℕ) → IsRun words file → ⊥) → ((size at : ℕ) (kind : ValueKind) (file : List ℕ) → IsSum words size at kind file → ⊥)
     → ((layout path file : List ℕ) → IsTexts words layout path file → ⊥)
     → ((q : Question) (threads : ℕ) (layout text file : List ℕ) → IsAsk words (Answer q threads) layout text file → ⊥)
+    → ((threads : ℕ) (layout text file : List ℕ) → IsAsk words (Group threads) layout text file → ⊥)
     → ((threads count : ℕ) → IsDemo words threads count → ⊥) → AreFaulty words
-no_command words places json run sum texts ask demo (Sum size at kind file) asks = sum size at kind file asks
-no_command words places json run sum texts ask demo (Layout Places file) asks = places file asks
-no_command words places json run sum texts ask demo (Layout Json file) asks = json file asks
-no_command words places json run sum texts ask demo (Ask (Answer q threads) layout text file) asks = ask q threads layout text file asks
-no_command words places json run sum texts ask demo (Ask Texts layout text file) asks = texts layout text file asks
-no_command words places json run sum texts ask demo (Demo threads count) asks = demo threads count asks
-no_command words places json run sum texts ask demo (Run file) asks = run file asks
+no_command words places json run sum texts ask group demo (Sum size at kind file) asks = sum size at kind file asks
+no_command words places json run sum texts ask group demo (Layout Places file) asks = places file asks
+no_command words places json run sum texts ask group demo (Layout Json file) asks = json file asks
+no_command words places json run sum texts ask group demo (Ask (Answer q threads) layout text file) asks = ask q threads layout text file asks
+no_command words places json run sum texts ask group demo (Ask (Group threads) layout text file) asks = group threads layout text file asks
+no_command words places json run sum texts ask group demo (Ask Texts layout text file) asks = texts layout text file asks
+no_command words places json run sum texts ask group demo (Demo threads count) asks = demo threads count asks
+no_command words places json run sum texts ask group demo (Run file) asks = run file asks
 
 -- words of no question's command are of none
 pub no_question : (words : List (List ℕ)) → ((threads : ℕ) (layout text file : List ℕ) → IsAsk words (Answer Query threads) layout text file → ⊥)

@@ -3,7 +3,7 @@ use Rattle.std.{proofs.Common.{◌≡◌, ℕ, List, [], ◌∷◌, get_or, Opti
 use Rattle.fm_io.specs.Files.{Contents}
 use Rattle.fm_top.specs.{Found.{OfFile}, Outcome.{Outcome}}
 use Rattle.fm_top.specs.Run.{EndsBy, HasOutcome, faulty, asked, Traces, printed, failed, stopped, Runs, ended, unread, unknown, code_of, EndsWith}
-use Rattle.fm_top.specs.{Words.{Request, Sum, Ask, Demo, Asks, CanBeAsked, AreFaulty, first_file, last_file}, declared.{command.wish.Wish.TheVariants.{Answer}, outcome.left.Left.{Left}}}
+use Rattle.fm_top.specs.{Words.{Request, Sum, Ask, Demo, Asks, CanBeAsked, AreFaulty, first_file, last_file}, declared.{command.wish.Wish.TheVariants.{Answer, Group}, outcome.left.Left.{Left}}}
 use Rattle.fm_top.specs.declared.outcome.status.Status.{Status}
 use Rattle.fm_top.specs.declared.outcome.status.Status.TheVariants.{Answered, Usage, Missing, Unread, LayoutRefused, QueryRefused, Ragged, TooLong, Unwritten, NoMemory, ScriptRefused}
 use Rattle.fm_top.proofs.{Threaded.{are_threads}, Causes.{CauseOf, end_cause}}
@@ -12,6 +12,7 @@ use Rattle.fm_top.proofs.{Threaded.{are_threads}, Causes.{CauseOf, end_cause}}
 pub can_be_asked : (words : List (List ℕ)) (request : Request) → Asks words request → CanBeAsked request
 can_be_asked words (Sum size at kind file) asks = asks.has_value
 can_be_asked words (Ask (Answer q threads) layout text file) asks = are_threads asks.text threads asks.are_threads
+can_be_asked words (Ask (Group threads) layout text file) asks = are_threads asks.text threads asks.are_threads
 can_be_asked words (Demo threads count) asks = (are_threads asks.threaded.text threads asks.threaded.are_threads, asks.is_count)
 can_be_asked words request asks = tt
 

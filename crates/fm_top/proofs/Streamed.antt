@@ -1,5 +1,5 @@
 -- How a run ends whose record file goes through a pool.
-use Rattle.std.{proofs.Common.{◌≡◌, ℕ, List, None, Some, Result, Ok, Err, refl, ap, sym, ◌∙◌, subst, arith}, specs.{Borrow.{Bor}, Prelude.{⊤, IfOk}, Result.{result_err}}}
+use Rattle.std.{proofs.Common.{◌≡◌, ℕ, List, Some, Result, Ok, ap, ◌∙◌, subst}, specs.{Borrow.{Bor}, Prelude.{⊤, IfOk}, Result.{result_err}}}
 use Rattle.fm_io.specs.View.{FilesView}
 use Rattle.fm_records_query.specs.Plan.{Plan}
 use Rattle.fm_records.specs.{declared.found.Found.{Found}, Texts.{answer_text}}
@@ -7,9 +7,9 @@ use Rattle.fm_rule.specs.Finishing.{FinishedView}
 use Rattle.fm_top_load.specs.Reading.{ReadsSome}
 use Rattle.fm_top_load.specs.{Records.{TellsRecords}, declared.load_fault.LoadFault.{LoadFault}}
 use Rattle.fm_top_stream.specs.{Chunks.{stream_file_limit}, Shown.{Streams}}
-use Rattle.fm_top.specs.{Ending.{shown}, Ends.{EndsFile}, Outcome.{answered_by_pool, even, no_file, ragged, too_many, uneven}, Queries.{PlanEnds}}
+use Rattle.fm_top.specs.{Ending.{shown}, Ends.{EndsFile}, Outcome.{answered_by_pool, even}, Queries.{PlanEnds}}
 use Rattle.fm_top.specs.{Stops.{load_stop, or_stop}, declared.{command.{question.Question.TheVariants.{Stream}, wish.Wish.TheVariants.{Answer}}, outcome.{reply.Reply.{Reply}, stop.Stop.{Stop}}}}
-use Rattle.fm_top.proofs.{Loaded.{known_ok, leaves_as, or_err, or_ok}, Outcomes.{long_found}, ReadFor.{read_for}}
+use Rattle.fm_top.proofs.{Loaded.{known_ok, leaves_as, or_ok}, ReadFor.{read_for}}
 
 -- it ends so for the file of this name
 abbrev Ends : FilesView → FilesView → List ℕ → Plan → (threads : ℕ) → Result Reply Stop → Type 0

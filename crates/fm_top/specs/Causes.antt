@@ -6,9 +6,10 @@ use Rattle.fm_layout.specs.Tree.{Tree}
 use Rattle.fm_ljson.specs.Answer.{layout_of_json}
 use Rattle.fm_script_text.specs.Scripts.{IsRefused as IsScriptRefused}
 use Rattle.fm_top_load.specs.Limits.{record_file_limit}
-use Rattle.fm_top.specs.{Found.{file_under}, Outcome.{layout_file_limit, script_file_limit}}
+use Rattle.fm_top_pooled.specs.Grouped.{values_in}
+use Rattle.fm_top.specs.{Found.{file_under}, Grouped.{most_values}, Outcome.{layout_file_limit, script_file_limit}}
 use Rattle.fm_top.specs.Queries.{IsRecordLayout, IsLayoutRefused, PlanOf, size_in, ComesTo, ComesToNone, records_limit}
-use Rattle.fm_top.specs.{Words.{Request, Sum, Layout, Ask, Demo, Run, first_file, last_file}, declared.command.wish.Wish.{Wish}}
+use Rattle.fm_top.specs.{Words.{Request, Sum, Layout, Ask, Demo, Run, first_file, last_file}, declared.command.wish.Wish.{Wish, TheVariants.{Group}}}
 
 -- it holds of what these files have under the request's names
 abbrev pub OverFiles : (Request → Option (List ℕ) → Option (List ℕ) → Type 0) → Request → Contents → Type 0
@@ -32,12 +33,21 @@ LacksFile request first last = first ≡ None
 abbrev pub IsLong : Option (List ℕ) → ℕ → Type 0
 IsLong found limit = IsSomeAnd found (λ bytes. limit < length bytes)
 
--- a file has more bytes than its limit
+-- whole records have more values than are grouped
+abbrev pub HasManyValues : (w : Wish) → PlanOf w → List ℕ → Type 0
+HasManyValues (Group threads) p bytes = (length bytes % p.root_size ≡ 0) × (most_values < values_in p (length bytes))
+HasManyValues w p bytes = ⊥
+
+-- what was found has more bytes than a record file may have, or more values than are grouped
+abbrev pub IsLongFor : (w : Wish) → PlanOf w → Option (List ℕ) → Type 0
+IsLongFor w p found = IsSomeAnd found (λ bytes. (records_limit w < length bytes) ⊎ HasManyValues w p bytes)
+
+-- a file is too long
 abbrev pub HasLongFile : Request → Option (List ℕ) → Option (List ℕ) → Type 0
 HasLongFile (Sum size at kind file) first last = IsLong first record_file_limit
 HasLongFile (Layout text file) first last = IsLong first layout_file_limit
 HasLongFile (Ask w layout text file) first last =
-    IsLong first layout_file_limit ⊎ ((p : PlanOf w) × IsAsked w first text p × IsLong last (records_limit w))
+    IsLong first layout_file_limit ⊎ ((p : PlanOf w) × IsAsked w first text p × IsLongFor w p last)
 HasLongFile (Demo threads count) first last = ⊥
 HasLongFile (Run file) first last = IsLong first script_file_limit
 

@@ -4,6 +4,7 @@ pub mod Demos
 pub mod Ending
 pub mod Ends
 pub mod Found
+pub mod Grouped
 pub mod Keeps
 pub mod Laws
 pub mod Outcome

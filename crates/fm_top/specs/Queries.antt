@@ -3,6 +3,7 @@ use Rattle.std.specs.Prelude.{◌≡◌, ◌≢◌, ◌⊎◌, ℕ, ◌<◌, ◌
 use Rattle.fm_base.specs.declared.refusal.Refusal.{Refusal, TheVariants.{Memory, Overflow}}
 use Rattle.fm_layout.specs.{Tree.{Tree}, Size.{size_of}}
 use Rattle.fm_ljson.specs.Answer.{layout_of_json}
+use Rattle.fm_path.specs.Resolution.{Resolution}
 use Rattle.fm_top_load.specs.Limits.{record_file_limit}
 use Rattle.fm_top_pooled.specs.Shown.{ShowsQuery}
 use Rattle.fm_top_stream.specs.{Chunks.{most_chunk, stream_file_limit}, Shown.{ShowsStream}}
@@ -12,8 +13,9 @@ use Rattle.fm_records.specs.{Answers.{answer}, Texts.{answer_text}}
 use Rattle.fm_rule.specs.Finishing.{FinishedView}
 use Rattle.fm_workers.specs.Counts.{listed}
 use Rattle.fm_top.specs.Outcome.{Outcome, missing, too_long, layout_refused, query_refused, answered, answered_by_pool, RecordsEnd, layout_file_limit}
+use Rattle.fm_top.specs.Grouped.{GroupEnds, IsGroupPlanned, IsGroupRefused}
 use Rattle.fm_top.specs.Tallies.{IsTallied, IsPathRefused, tally_text}
-use Rattle.fm_top.specs.declared.command.{question.Question.{Question, TheVariants.{Query, Stream, Tally}}, wish.Wish.{Wish, TheVariants.{Answer, Texts}}}
+use Rattle.fm_top.specs.declared.command.{question.Question.{Question, TheVariants.{Query, Stream, Tally}}, wish.Wish.{Wish, TheVariants.{Answer, Group, Texts}}}
 
 -- ---- the layout
 
@@ -57,24 +59,28 @@ IsUnplanned Query text t e = IsTextRefused text t e
 IsUnplanned Stream text t e = IsTextRefused text t e
 IsUnplanned Tally text t e = IsPathRefused text t e
 
--- what is planned by a text: a query, or where the texts of records stand
+-- what is planned by a text: a query, the path whose values are grouped, or where the texts of records stand
 abbrev pub PlanOf : Wish → Type 0
 PlanOf (Answer q threads) = Plan
+PlanOf (Group threads) = Resolution
 PlanOf Texts = TextPlan
 
 -- how long the plan's records are
 abbrev pub size_in : (w : Wish) → PlanOf w → ℕ
 size_in (Answer q threads) p = p.size
+size_in (Group threads) p = p.root_size
 size_in Texts p = p.size
 
 -- the text comes to this plan
 abbrev pub ComesTo : (w : Wish) → List ℕ → Tree → PlanOf w → Type 0
 ComesTo (Answer q threads) text t p = IsPlanned q text t p
+ComesTo (Group threads) text t p = IsGroupPlanned text t p
 ComesTo Texts text t p = IsTextPlanned text t p
 
 -- or is refused so
 abbrev pub ComesToNone : Wish → List ℕ → Tree → Refusal → Type 0
 ComesToNone (Answer q threads) text t e = IsUnplanned q text t e
+ComesToNone (Group threads) text t e = IsGroupRefused text t e
 ComesToNone Texts text t e = IsTextUnplanned text t e
 
 -- what a pool's answer prints of a record file with these bytes
@@ -101,9 +107,10 @@ pub record IsAnswered (q : Question) (threads : ℕ) (p : Plan) (bytes : List �
   pub outcome : o ≡ answered_by_pool (asked_text q p bytes) finished
   pub shows : ShowsAnswer q threads finished p bytes
 
--- how it ends over whole records: with such an answer, or with a line for each record's text, and nothing is kept
+-- how it ends over whole records: with such an answer, as `group` ends, or with a line for each record's text, and nothing is kept
 abbrev pub EndsOver : (w : Wish) → PlanOf w → List ℕ → Outcome → Type 0
 EndsOver (Answer q threads) p bytes o = IsAnswered q threads p bytes o
+EndsOver (Group threads) p bytes o = GroupEnds p bytes o
 EndsOver Texts p bytes o = o ≡ answered (texts_text p bytes)
 
 -- how the text of this plan ends where this is found under the record file's name

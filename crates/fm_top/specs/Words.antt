@@ -2,7 +2,7 @@
 use Rattle.std.specs.{Prelude.{◌≡◌, ℕ, ◌+◌, ◌%◌, ◌≢◌, ◌<◌, ◌≤◌, List, [], ◌∷◌, codes, slice_index, Option, None, Some}, Fmt.{decimal}}
 use Rattle.fm_lanes.specs.{declared.value_kind.ValueKind.{ValueKind}, Kind.{width_of}, Named.{kind_text}}
 use Rattle.fm_top_options.specs.Options.{Say}
-use Rattle.fm_top.specs.declared.command.{layout_text.LayoutText.{LayoutText}, question.Question.{Question}, wish.Wish.{Wish, TheVariants.{Answer, Texts}}}
+use Rattle.fm_top.specs.declared.command.{layout_text.LayoutText.{LayoutText}, question.Question.{Question}, wish.Wish.{Wish, TheVariants.{Answer, Group, Texts}}}
 use Rattle.fm_top.specs.declared.command.layout_text.LayoutText.TheVariants as layout_text
 use Rattle.fm_top.specs.declared.command.question.Question.TheVariants as question
 
@@ -114,9 +114,10 @@ pub record IsTexts (words : List (List ℕ)) (layout path file : List ℕ) : Typ
   pub layout_word : IsFileWord layout
   pub file_word : IsFileWord file
 
--- `query [--threads N] LAYOUT QUERY FILE`, `stream` with the same words, or `tally [--threads N] LAYOUT PATH FILE`; or `texts`
+-- `query [--threads N] LAYOUT QUERY FILE`, `stream` with the same words, or `tally [--threads N] LAYOUT PATH FILE`; `group` with the same words; or `texts`
 abbrev pub IsAsk : List (List ℕ) → Wish → List ℕ → List ℕ → List ℕ → Type 0
 IsAsk words (Answer q threads) layout text file = IsThreaded words (question_word q) threads (three layout text file)
+IsAsk words (Group threads) layout text file = IsThreaded words (codes "group") threads (three layout text file)
 IsAsk words Texts layout text file = IsTexts words layout text file
 
 -- so many records may be made
@@ -139,6 +140,7 @@ Asks words (Run file) = IsRun words file
 -- what some words ask of records
 abbrev pub CanBeWished : Wish → Type 0
 CanBeWished (Answer q threads) = AreThreads threads
+CanBeWished (Group threads) = AreThreads threads
 CanBeWished Texts = Unit {0}
 
 -- what some words ask for

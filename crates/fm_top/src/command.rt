@@ -19,7 +19,7 @@ mod threaded;
 mod threads;
 mod wish;
 
-use crate::command::ask::ask_words;
+use crate::command::ask::{ask_words, group_words};
 use crate::command::demo::demo_words;
 use crate::command::layout::layout_words;
 use crate::command::script::script_words;
@@ -76,6 +76,9 @@ pub fn command_of<'a>(
         return Ok(Some(Subcommand::Ask(ask)));
     }
     if let Some(ask) = ask_words(alloc, words, "tally", Question::Tally)? {
+        return Ok(Some(Subcommand::Ask(ask)));
+    }
+    if let Some(ask) = group_words(alloc, words)? {
         return Ok(Some(Subcommand::Ask(ask)));
     }
     match demo_words(alloc, words)? {

@@ -10,6 +10,7 @@ mod answered;
 mod ask;
 mod demo;
 mod demo_layout;
+mod group;
 mod host;
 mod kept;
 mod layout;

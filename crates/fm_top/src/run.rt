@@ -17,9 +17,9 @@ use std::thread::Threads;
 /// earlier run kept is gone first.
 ///
 /// The statuses are tested in this order: `Usage`; of the layout's file `Missing`, `Unread` and `TooLong`;
-/// `LayoutRefused`; `QueryRefused`; of the record file `Missing`, `Unread`, `TooLong` and `Ragged`; `Unwritten`. Of
-/// `run`, whose one file is the script: `Usage`; `Missing`, `Unread` and `TooLong`; `ScriptRefused`; `Unwritten`.
-/// `NoMemory` may come at any time.
+/// `LayoutRefused`; `QueryRefused`; of the record file `Missing`, `Unread`, `TooLong` and `Ragged`; of `group` `TooLong`
+/// for more values than it takes; `Unwritten`. Of `run`, whose one file is the script: `Usage`; `Missing`, `Unread` and
+/// `TooLong`; `ScriptRefused`; `Unwritten`. `NoMemory` may come at any time.
 ///
 /// A script whose lines the runtime refuses while it runs is answered: its report has the status `Answered`.
 pub fn run_tool<R, F, O, G>(

@@ -1,9 +1,11 @@
 ghost use Rattle.std.specs.Prelude.{◌≡◌, ◌≤◌, ◌⊎◌, length, IfOk, IfErr};
+ghost use Rattle.fm_layout.specs.WellFormed.{IsWellFormed};
 ghost use Rattle.fm_top.specs.Ends.{EndsRequest};
 ghost use Rattle.fm_top.specs.Queries.{IsLayoutRefused, IsRecordLayout, IsSmall};
 ghost use Rattle.fm_top.specs.Words.{Ask, CanBeWished};
 
 use crate::command::{AskCommand, Question, Wish};
+use crate::outcome::group::{GroupPlan, plan_group};
 use crate::outcome::host::Host;
 use crate::outcome::plan::{PoolPlan, plan_for};
 use crate::outcome::reply::Reply;
@@ -49,6 +51,15 @@ pub fn ask_reply<'a, R: Threads + Wait + Sync, F: Files, G: Gate>(
             };
             plan.reply(host, files)
         }
+        Wish::Group(threads) => {
+            let path = of_query(plan_group(host.alloc, ask.text, &layout))?;
+            let plan = GroupPlan {
+                file: ask.file,
+                threads,
+                path,
+            };
+            plan.reply(host, files)
+        }
         Wish::Texts => {
             let plan = of_query(plan_texts(host.alloc, &layout, ask.text))?;
             texts_reply(host, files, ask.file, plan)
@@ -61,6 +72,7 @@ pub fn ask_reply<'a, R: Threads + Wait + Sync, F: Files, G: Gate>(
 fn record_layout(alloc: Global, wish: Wish, bytes: &[u8]) -> Result<Layout, Refusal>
     requires { length bytes.now ≤ LAYOUT_FILE_LIMIT }
     ensures layout { IfOk result (IsRecordLayout wish bytes.now) }
+    ensures well_formed { IfOk result IsWellFormed }
     ensures refused { IfErr result (λ refusal.
         IsLayoutRefused wish bytes.now refusal ⊎ (refusal ≡ Refusal.Memory)) }
 {
@@ -73,10 +85,12 @@ fn record_layout(alloc: Global, wish: Wish, bytes: &[u8]) -> Result<Layout, Refu
 /// Whether a record of the layout has room for what is asked. Refused: `Overflow`, where a stream's has not.
 fn check_size(wish: Wish, layout: &Layout) -> Result<(), Refusal>
     ensures small { IfOk result (λ _. IsSmall wish layout.now) }
+    ensures well_formed { IsWellFormed layout.now }
     ensures large { IfErr result (λ refusal. ¬ (IsSmall wish layout.now) × (refusal ≡ Refusal.Overflow)) }
 {
+    let size = layout.size();
     match wish {
-        Wish::Answer(Question::Stream, _) if layout.size() > MOST_CHUNK => Err(Refusal::Overflow),
-        Wish::Answer(_, _) | Wish::Texts => Ok(()),
+        Wish::Answer(Question::Stream, _) if size > MOST_CHUNK => Err(Refusal::Overflow),
+        Wish::Answer(_, _) | Wish::Group(_) | Wish::Texts => Ok(()),
     }
 }

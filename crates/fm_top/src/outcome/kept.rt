@@ -37,7 +37,7 @@ impl Kept {
         Kept { left }
     }
 
-    /// The pool that a query, a tally or a demonstration used. It is there where the run came to an answer, whether or
+    /// The pool that a query, a tally, a grouping or a demonstration used. It is there where the run came to an answer, whether or
     /// not all of that could be written, and nowhere else: not where memory ran out before the answer was known.
     pub fn finished(&self) -> Option<&Finished>
         ensures { option_copied result ≡ pool_in self.now }

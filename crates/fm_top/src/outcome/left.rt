@@ -6,7 +6,7 @@ use fm_script::Report;
 pub enum Left {
     /// Nothing but what it wrote.
     Nothing,
-    /// The pool that a query, a tally or a demonstration used.
+    /// The pool that a query, a tally, a grouping or a demonstration used.
     Pool(Finished),
     /// The report of a script.
     Report(Report),

@@ -15,7 +15,7 @@ pub enum Status {
     QueryRefused = 5,
     /// The record file's length is no multiple of the record's size.
     Ragged = 6,
-    /// A file has more bytes than its limit.
+    /// A file has more bytes than its limit, or more values than are grouped.
     TooLong = 7,
     /// A write failed.
     Unwritten = 8,

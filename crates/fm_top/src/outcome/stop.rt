@@ -14,7 +14,7 @@ pub enum Stop<'a> {
     Missing(&'a str),
     /// A read failed.
     Unread,
-    /// A file has more bytes than its limit.
+    /// A file has more bytes than its limit, or more values than are grouped.
     TooLong,
     /// The layout is refused.
     LayoutRefused(Refusal),

@@ -6,4 +6,4 @@ use Rattle.fm_top.proofs.command.command_of.Goals as goal
 pub returns-in-None-clause-none : goal.returns-in-None-clause-none
 returns-in-None-clause-none c =
     no_command (texts c.args.words.now) (search rules) (search rules) (search rules) (search rules) (search rules)
-    (no_question (texts c.args.words.now) (search rules) (search rules) (search rules)) (search rules)
+    (no_question (texts c.args.words.now) (search rules) (search rules) (search rules)) (search rules) (search rules)

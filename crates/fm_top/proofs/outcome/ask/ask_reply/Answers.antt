@@ -1,7 +1,7 @@
 use Rattle.std.proofs.Common.{rules, refl, subst}
-use Rattle.fm_top.specs.{Outcome.{layout_file_limit}, Queries.{AskEnds, IsPlanned, IsRecordLayout, long_layout, no_layout}, Found.{OfFound}, Stops.{layout_stop, query_stop}, Words.{Ask}}
+use Rattle.fm_top.specs.{Grouped.{IsGroupPlanned}, Outcome.{layout_file_limit}, Queries.{AskEnds, IsPlanned, IsRecordLayout, long_layout, no_layout}, Found.{OfFound}, Stops.{layout_stop, query_stop}, Words.{Ask}}
 use Rattle.fm_top_texts.specs.Plans.{IsTextPlanned}
-use Rattle.fm_top.specs.declared.command.wish.Wish.TheVariants.{Answer, Texts}
+use Rattle.fm_top.specs.declared.command.wish.Wish.TheVariants.{Answer, Group, Texts}
 use Rattle.fm_top.proofs.{Asked.{ended, layout_ends, plan_ends, text_ends}, Ends.{asked_file}, Loaded.{is_read, known_ok, stopped_ends}, Outcomes.{some_end}}
 use Rattle.fm_top.proofs.outcome.ask.ask_reply.Goals as goal
 
@@ -81,3 +81,30 @@ returns g c =
     c.plan_texts.ensures.planned in
     rw c.in-Texts.is (plan_ends Texts ask.layout.now ask.text.now ask.file.now read whole c.deref.ensures.value c.in_ok-layout.layout
     (subst (λ w. IsRecordLayout w c.deref.result.now c.in_ok-layout.layout) c.in-Texts.is layout) c.in_ok-plan-in-Texts.plan plan c.texts_reply.ensures)
+
+pub returns-in_err-path-in-Group : goal.returns-in_err-path-in-Group
+returns-in_err-path-in-Group g c =
+    let ask = c.args.ask.now in
+    let load = c.read_whole-bytes.ensures in
+    let read = is_read ask.layout layout_file_limit c.read_whole-bytes.result (λ y. y.items) c.in_ok-bytes.ensures load.whole load.short load.reads
+    load.tells in
+    let whole = ended layout_file_limit ask.layout c.read_whole-bytes.result c.in_ok-bytes.ensures load.reads_whole in
+    let layout = known_ok layout_stop c.record_layout.result (IsRecordLayout ask.wish c.deref.result.now) c.in_ok-layout.ensures
+    c.record_layout.ensures.layout in
+    rw c.in-Group.is (text_ends (Group c.in-Group.threads) ask.layout.now ask.text.now ask.file.now read whole c.deref.ensures.value c.in_ok-layout.layout
+    (subst (λ w. IsRecordLayout w c.deref.result.now c.in_ok-layout.layout) c.in-Group.is layout)
+    c.plan_group.result c.in_err-path-in-Group.ensures c.plan_group.ensures.refused (search rules))
+
+pub returns-in-Group : goal.returns-in-Group
+returns-in-Group g c =
+    let ask = c.args.ask.now in
+    let load = c.read_whole-bytes.ensures in
+    let read = is_read ask.layout layout_file_limit c.read_whole-bytes.result (λ y. y.items) c.in_ok-bytes.ensures load.whole load.short load.reads
+    load.tells in
+    let whole = ended layout_file_limit ask.layout c.read_whole-bytes.result c.in_ok-bytes.ensures load.reads_whole in
+    let layout = known_ok layout_stop c.record_layout.result (IsRecordLayout ask.wish c.deref.result.now) c.in_ok-layout.ensures
+    c.record_layout.ensures.layout in
+    let plan = known_ok query_stop c.plan_group.result (IsGroupPlanned ask.text.now c.in_ok-layout.layout) c.in_ok-path-in-Group.ensures
+    c.plan_group.ensures.planned in
+    rw c.in-Group.is (plan_ends (Group c.in-Group.threads) ask.layout.now ask.text.now ask.file.now read whole c.deref.ensures.value c.in_ok-layout.layout
+    (subst (λ w. IsRecordLayout w c.deref.result.now c.in_ok-layout.layout) c.in-Group.is layout) c.in_ok-path-in-Group.path plan c.reply-in-Group.ensures)
