@@ -19,6 +19,7 @@ const RUNS: &str = "\
 294 query;--threads;2;Sale;count,sum(.price),list(.tags[]) where .kind>=2;Sales -> 0 count 2|sum(.price) 210|list(.tags[]) 1 2 3 4 5 0 0 -1|
 294 stream;--threads;2;Sale;count,sum(.price),list(.tags[]) where .kind>=2;Sales -> 0 count 2|sum(.price) 210|list(.tags[]) 1 2 3 4 5 0 0 -1|
 294 tally;Sale;.tags[];Sales -> 0 -1 1|0 2|1 1|2 1|3 1|4 1|5 1|total 8|
+294 group;--threads;2;Sale;.price;Sales -> 0 -40 1|250 1|total 2|
 294 texts;Sale;.tags;Sales -> 0 refused 61|text 05|
 111 run;Added -> 0 first open a shared -> ok|first alloc a s 8 8 -> ok 0|1 add s long 0 5 -> 0|2 add s long 0 7 -> 5|last get s long 0 -> 12|bytes a 0c00000000000000| or first open a shared -> ok|first alloc a s 8 8 -> ok 0|1 add s long 0 5 -> 7|2 add s long 0 7 -> 0|last get s long 0 -> 12|bytes a 0c00000000000000|
 0 demo;3 -> 0 count 3|sum(.amount) -126243|min(.amount) -50000|max(.amount) -34162|count 0|sum(.id) 0|

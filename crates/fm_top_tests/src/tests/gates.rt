@@ -16,6 +16,7 @@ const PASSED: &str = "\
 query;--threads;1;Sale;count;Sales -> 0 count 2| by 1: +0 -0 +1 -1|
 stream;--threads;1;Sale;count;Sales -> 0 count 2| by 1: +0 -0 +1 -1|
 tally;--threads;1;Sale;.tags[0];Sales -> 0 1 1|5 1|total 2| by 1: +0 -0 +1 -1|
+group;--threads;1;Sale;.price;Sales -> 0 -40 1|250 1|total 2| by 1: +0 -0|
 demo;--threads;1;3 -> 0 count 3|sum(.amount) -126243|min(.amount) -50000|max(.amount) -34162|count 0|sum(.id) 0| by 1: +0 -0 +1 -1 +2 -2 +0 -0 +1 -1 +2 -2|
 query;Sale;count;Ragged -> 6 ragged 1|
 stream;Sale;count;Ragged -> 6 ragged 1|

@@ -42,7 +42,8 @@ const SIZES: &str = "\
 65541 query;L;count,sum(.a);R -> 6 ragged 5|
 131080 query;L;count,sum(.a);R -> 0 count 16385|sum(.a) -7256|
 200000 query;L;count,sum(.a);R -> 0 count 25000|sum(.a) -11051|
-16 tally;L;.a;R -> 0 0 1|8 1|total 2|";
+16 tally;L;.a;R -> 0 0 1|8 1|total 2|
+16 group;L;.a;R -> 0 0 1|8 1|total 2|";
 
 /// Guesses that are right, too small, too large, wrong by a byte or a word, or those of no record file at all.
 fn guesses(count: u64) -> [u64; 13] {

@@ -15,6 +15,8 @@ const KEEPING: &str = "\
 query;Sale;count;Sales -> 0 pool
 query;Sale;count,;Sales -> 5 none
 tally;Sale;.tags[];Sales -> 0 pool
+group;Sale;.price;Sales -> 0 pool
+group;Sale;.price;Ragged -> 6 none
 stream;Sale;count;Ragged -> 6 none
 stream;Sale;count;Sales -> 0 pool
 stream;Sale;count;nofile -> 2 none
@@ -28,15 +30,18 @@ query;Sale;count;Empty -> 0 pool
 layout;Sale -> 0 none
 migrate;Sale -> 0 none
 tally;Sale;.tags[];Empty -> 0 pool
+group;Sale;.price;Empty -> 0 pool
 sum;8;0;long;Sales -> 0 none
 texts;Sale;.tags;Sales -> 0 none
 query;--threads;16;Sale;count;Sales -> 0 pool
 query -> 1 none
 tally;Sale;.price;Sales -> 5 none
+group;Sale;.tags;Sales -> 5 none
 tally;Broken;.tags[];Sales -> 4 none
 query;Sale;count;Sales -> 8 pool at 0
 query;Sale;count,;Sales -> 8 none at 0
 tally;Sale;.tags[];Sales -> 8 pool at 0
+group;Sale;.price;Sales -> 8 pool at 0
 query;Sale;count,;Sales -> 8 none at 0
 stream;Sale;count;Sales -> 8 pool at 0
 query -> 8 none at 0
@@ -46,6 +51,7 @@ texts;Sale;.tags;Sales -> 8 none at 0
 query;Sale;count;Sales -> 8 pool at 3
 query;Sale;count,;Sales -> 8 none at 3
 tally;Sale;.tags[];Sales -> 8 pool at 3
+group;Sale;.price;Sales -> 8 pool at 3
 query;Sale;count,;Sales -> 8 none at 3
 stream;Sale;count;Sales -> 8 pool at 3
 query -> 8 none at 3
