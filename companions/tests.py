@@ -269,6 +269,9 @@ class Explain(Files):
         said = self.explained("tally", "--threads=2", "--", SALES[0], ".price", SALES[1])
         self.assertTrue(said.endswith("\n.price\n^^^^^^\n"), said)
         self.assertTrue(self.explained("tally", SALES[0], ".tags[9]", SALES[1]).endswith("\n.tags[9]\n     ^^^\n"))
+        for path, under in ((".tags", "^^^^^"), (".tags[9]", "     ^^^"), (".price.low", "      ^^^^")):
+            said = self.explained("group", "--threads=2", "--", SALES[0], path, SALES[1])
+            self.assertTrue(said.endswith(f"\n{path}\n{under}\n"), said)
         for path, under in (
             (".tags[]", "     ^^"), (".price", "^^^^^^"), (".nope", "^^^^^"), ("--", "^"), ("--threads", "^"),
         ):
@@ -308,6 +311,9 @@ class Json(Files):
         output, _, _ = companion("fmem-json", "tally", SALES[0], ".tags[]", SALES[1])
         lines = [json.loads(line) for line in output.splitlines()]
         self.assertEqual((lines[0], lines[-1]), ({"value": -1, "count": 1}, {"total": 8}))
+        output, _, _ = companion("fmem-json", "group", SALES[0], ".price", SALES[1])
+        lines = [json.loads(line) for line in output.splitlines()]
+        self.assertEqual(lines, [{"value": -40, "count": 1}, {"value": 250, "count": 1}, {"total": 2}])
         self.assertEqual(companion("fmem-json", "sum", "24", "8", "long", SALES[1])[0], '{"sum": 210}\n')
 
     def test_texts(self):

@@ -34,12 +34,12 @@ _fmem_query() { # a layout's file and a query's first part: what its last piece 
 }
 
 _fmem() {
-  local word current command k quote= behind=
+  local word current command k types quote= behind=
   local -a words=()
   current=${COMP_WORDS[COMP_CWORD]} command=${COMP_WORDS[1]}
   COMPREPLY=()
   if [ "$COMP_CWORD" = 1 ]; then
-    mapfile -t COMPREPLY < <(compgen -W 'sum layout migrate query stream tally texts demo run' -- "$current")
+    mapfile -t COMPREPLY < <(compgen -W 'sum layout migrate query stream tally group texts demo run' -- "$current")
     return
   fi
   for ((k = 2; k < COMP_CWORD; k++)); do # the words that aren't of the option
@@ -50,7 +50,7 @@ _fmem() {
       *) if [ -n "$behind" ]; then behind=; else words+=("$word"); fi ;;
     esac
   done
-  if [[ $command = query || $command = stream || $command = tally || $command = demo ]] && [[ $current = --* ]]; then
+  if [[ $command = @(query|stream|tally|group|demo) && $current = --* ]]; then
     mapfile -t COMPREPLY < <(compgen -W --threads -- "$current")
     return
   fi
@@ -62,9 +62,12 @@ _fmem() {
   [[ $current != [\"\']* ]] || quote=${current:0:1}
   case $command/${#words[@]} in
     sum/2) mapfile -t COMPREPLY < <(compgen -W 'byte boolean char short int long' -- "$current") ;;
-    tally/1) mapfile -t COMPREPLY < <(_fmem_paths "${words[0]}" '|byte|boolean|' | while read -r word; do
-      [[ $word != "${current#"$quote"}"* ]] || printf '%s\n' "$word"
-    done) ;;
+    tally/1 | group/1)
+      types='|byte|boolean|'
+      [ "$command" = tally ] || types+='char|short|int|long|'
+      mapfile -t COMPREPLY < <(_fmem_paths "${words[0]}" "$types" | while read -r word; do
+        [[ $word != "${current#"$quote"}"* ]] || printf '%s\n' "$word"
+      done) ;;
     texts/1) mapfile -t COMPREPLY < <(_fmem_rows "${words[0]}" | while read -r word; do
       [[ $word != "${current#"$quote"}"* ]] || printf '%s\n' "$word"
     done) ;;
@@ -72,7 +75,7 @@ _fmem() {
       # Where one is left bash would end the quote; by a second one, with a space behind it, the query may go on.
       [[ -z $quote || ${#COMPREPLY[@]} != 1 ]] || COMPREPLY+=("${COMPREPLY[0]} ")
       compopt -o nospace 2> /dev/null ;;
-    layout/0 | migrate/0 | run/0 | sum/3 | query/[02] | stream/[02] | tally/[02] | texts/[02])
+    layout/0 | migrate/0 | run/0 | sum/3 | query/[02] | stream/[02] | tally/[02] | group/[02] | texts/[02])
       compopt -o filenames 2> /dev/null
       mapfile -t COMPREPLY < <(compgen -f -- "$current") ;;
   esac
