@@ -2,7 +2,7 @@
 use Rattle.std.proofs.Common.{◌≡◌, ℕ, ◌+◌, ◌-◌, ◌*◌, ◌%◌, ◌^◌, ◌<◌, ap, ◌∙◌, inl, inr, arith}
 use Rattle.std.{specs.{Prelude.{ℤ}}, proofs.{Math.Nat.{add-mod_left, div-lt_iff_lt-mul, mod-eq_of_lt, mod-lt, mul-lt-mul_of_pos_right}, lemmas.Bool.{cases_lt}}}
 use Rattle.fm_base_bytes.specs.Signed.{unsigned_of}
-use Rattle.fm_group.specs.{Order.{TriesEachPlace, dealt, first_of, golden}, declared.order.PlaceOrder.{PlaceOrder, TheVariants.{ByRemainder, Mixed}}}
+use Rattle.fm_group.specs.{Order.{TriesEachPlace, dealt, first_of, folded, mixed}, declared.order.PlaceOrder.{PlaceOrder, TheVariants.{ByRemainder, Mixed}}}
 
 pub dealt_below : (places u : ℕ) → u < 2 ^ 64 → 0 < places → dealt places u < places
 dealt_below places u small some =
@@ -11,7 +11,9 @@ dealt_below places u small some =
 
 pub first_below : (order : PlaceOrder) (places : ℕ) (x : ℤ) → 0 < places → first_of order places x < places
 first_below ByRemainder places x some = mod-lt (unsigned_of 8 x) some
-first_below Mixed places x some = dealt_below places (unsigned_of 8 x * golden % 2 ^ 64) (mod-lt (unsigned_of 8 x * golden) (omega arith)) some
+first_below Mixed places x some =
+    let u = unsigned_of 8 x in
+    dealt_below places (mixed u) (mod-lt (folded (folded u * 18397679294719823053 % 2 ^ 64) * 14181476777654086739) (omega arith)) some
 
 each_reached : (most start p : ℕ) → start < most → p < most → (k : ℕ) × (k < most) × ((start + k) % most ≡ p)
 each_reached most start p high below = elim (cases_lt p start) [

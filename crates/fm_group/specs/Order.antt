@@ -1,11 +1,15 @@
 -- The order in which a table's places are tried for a number: upwards from a first one, and behind the last the place 0.
-use Rattle.std.specs.Prelude.{◌≡◌, ℕ, ◌+◌, ◌*◌, ◌/◌, ◌%◌, ◌^◌, ◌<◌, ℤ}
+use Rattle.std.specs.{Prelude.{◌≡◌, ℕ, ◌+◌, ◌*◌, ◌/◌, ◌%◌, ◌^◌, ◌<◌, ℤ}, Int.Bits.{bit_xor}}
 use Rattle.fm_base_bytes.specs.Signed.{unsigned_of}
 use Rattle.fm_group.specs.declared.order.PlaceOrder.{PlaceOrder, TheVariants.{ByRemainder, Mixed}}
 
--- 2^64 over the golden ratio, made odd: its multiples by numbers that lie near each other go far apart modulo 2^64
-abbrev pub golden : ℕ
-golden = 11400714819323198485
+-- the high bits of a number below 2^64, folded over its low ones
+abbrev pub folded : ℕ → ℕ
+folded u = bit_xor u (u / 2 ^ 33)
+
+-- all bits of it, mixed: numbers that lie near each other, or one as far from the next as the next from the third, go far apart
+abbrev pub mixed : ℕ → ℕ
+mixed u = folded (folded u * 18397679294719823053 % 2 ^ 64) * 14181476777654086739 % 2 ^ 64
 
 -- numbers below 2^64 are dealt evenly to so many places, by their high bits
 abbrev pub dealt : ℕ → ℕ → ℕ
@@ -14,7 +18,7 @@ dealt places u = u * places / 2 ^ 64
 -- the first place for a number
 abbrev pub first_of : PlaceOrder → ℕ → ℤ → ℕ
 first_of ByRemainder places x = unsigned_of 8 x % places
-first_of Mixed places x = dealt places (unsigned_of 8 x * golden % 2 ^ 64)
+first_of Mixed places x = dealt places (mixed (unsigned_of 8 x))
 
 -- the place that is tried after k others
 abbrev pub in_order : PlaceOrder → ℕ → ℤ → ℕ → ℕ

@@ -1,6 +1,6 @@
 ghost use Rattle.std.specs.Prelude.{◌≡◌, ◌+◌, ◌%◌, ◌<◌, true};
 ghost use Rattle.std.specs.Int.{IsPowerOfTwo};
-ghost use Rattle.fm_group.specs.Order.{dealt, first_of};
+ghost use Rattle.fm_group.specs.Order.{dealt, first_of, folded, mixed};
 
 /// The order in which a table's places are tried for a number: upwards from a first place, and behind the last one from
 /// place 0.
@@ -13,8 +13,8 @@ pub enum PlaceOrder {
     Mixed,
 }
 
-/// 2^64 over the golden ratio, made odd.
-const GOLDEN: u64 = 11_400_714_819_323_198_485;
+/// The odd numbers by which bits are multiplied, those of MurmurHash3's finalizer.
+const FACTORS: [u64; 2] = [0xff51_afd7_ed55_8ccd, 0xc4ce_b9fe_1a85_ec53];
 
 /// The first place that is tried for a number. `power` says that the places are a power of two in number.
 #[inline(always)]
@@ -26,8 +26,24 @@ pub(crate) fn first_place(order: PlaceOrder, places: u64, power: bool, number: i
     let bits = number.cast_unsigned();
     match order {
         PlaceOrder::ByRemainder => remainder(bits, places, power),
-        PlaceOrder::Mixed => deal(places, bits.wrapping_mul(GOLDEN)),
+        PlaceOrder::Mixed => deal(places, mix(bits)),
     }
+}
+
+/// The bits mixed, as MurmurHash3's finalizer does it but for its last step, which changes no high bit.
+#[inline(always)]
+fn mix(bits: u64) -> u64
+    ensures { result ≡ mixed bits }
+{
+    fold(fold(bits).wrapping_mul(FACTORS[0])).wrapping_mul(FACTORS[1])
+}
+
+/// The high bits folded over the low ones.
+#[inline(always)]
+fn fold(bits: u64) -> u64
+    ensures { result ≡ folded bits }
+{
+    bits ^ (bits >> 33)
 }
 
 /// The remainder by the places, without a division where they are a power of two in number.
