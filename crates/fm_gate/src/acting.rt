@@ -58,9 +58,9 @@ pub fn store_placed(pool: &Pool, pass: &mut Pass, word: u64, v: u64) -> u64
     ensures place { HasPlace pass.new word result }
     ensures small { result < 2 ^ 32 }
 {
-    let place = reach(pool, pass, word);
-    step_store(pool, pass, word, place, v);
-    place
+    let at = reach(pool, pass, word);
+    step_store(pool, pass, word, at, v);
+    at
 }
 
 /// Puts `v` into the word of this index of the arena that the pass is inside, at a place that is known to be its own.

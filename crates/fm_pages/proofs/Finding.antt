@@ -7,6 +7,7 @@ use Rattle.fm_base.proofs.{Making.{state_after-append, IsLegal-split}, Growing.{
 use Rattle.fm_rule_facts.specs.{Parts.{Mapping, mapping_of, reads_after}, Views.{View, In, IsSound, given_of, limit_of, state_in}, Moves.{LearnsMap}}
 use Rattle.fm_rule_facts.specs.{Steps.{Stepped, CanReach, HasPlace, HasParts, none_noted}, Loans.{HasPart, loans_of, loan_of}}
 use Rattle.fm_rule_calls.proofs.{Lent.{part_on}, UnderWay.{stands_under_way}}
+use Rattle.fm_rule.specs.Placing.{FindsPlace}
 use Rattle.fm_pages.specs.Places.{CanFind, Placed}
 
 -- the part of a word that can be found is lent
@@ -90,6 +91,12 @@ module _ (v w : View) (word x : ℕ) (a : ArenaId) (sound : IsSound v) (can : Ca
         reach = λ c. reach_on v w word (reads_after i x v.reads) c s;
         by = inr (reads_after i x v.reads, s);
       }
+
+-- as a step finds it
+pub placed_by : (v w : View) (word place : ℕ) (a : ArenaId) → IsSound v → CanFind v word → v.inside ≡ Some a → FindsPlace v a word place w → Placed v w word place
+placed_by v w word place a sound can ins f =
+    let m = mapped v w word f.found a sound can ins f.map f.stepped in
+    placed v w word f.found a sound can ins f.map f.stepped place (f.place (omega arith))
 
 -- a pass that has read each part from that of the one byte to that of the other has read them all
 pub parts_cover : (v : View) (from to : ℕ) → 0 < v.shape.page_words

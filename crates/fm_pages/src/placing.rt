@@ -1,7 +1,7 @@
 ghost use Rattle.fm_rule.specs.Passes.{IsOf};
 ghost use Rattle.fm_pages.specs.Places.{CanFind, Placed};
 
-use fm_rule::{Pass, Pool, step_read_map};
+use fm_rule::{Pass, Pool, step_find};
 
 /// Where a word of the arena that the pass is inside stands in the pool's table, in a page that is lent to the arena.
 ///
@@ -21,21 +21,16 @@ pub fn place_of(pool: &Pool, pass: &mut Pass, word: u64) -> u64
 }
 
 /// By the map word of the word's part.
+#[inline(always)]
 fn read_place(pool: &Pool, pass: &mut Pass, word: u64) -> u64
     requires of { IsOf pool.now pass.old }
     requires find { CanFind pass.old word }
     ensures { Placed pass.old pass.new word result }
 {
-    let shape = pool.shape();
-    let size = u64::from(shape.page_words);
     // Any pass is sound, which its calls alone tell.
     let _number = pass.number();
     match pass.inside() {
         None => unreachable!(),
-        Some(a) => {
-            let part = (word / size) as u32;
-            let page = step_read_map(pool, pass, a, part) - 1;
-            shape.page_place(page as u32, (word % size) as u32)
-        }
+        Some(a) => step_find(pool, pass, a, word),
     }
 }

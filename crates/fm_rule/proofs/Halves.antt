@@ -8,8 +8,9 @@ use Rattle.fm_rule_facts.specs.{declared.step.Step.TheVariants.{Looks}, Views.{M
 use Rattle.fm_rule_facts.specs.Splits.{drawn_left, drawn_right, as_gathered, gather, IsAtRest, caller_or}
 use Rattle.fm_rule_facts.specs.{Hands.{no_number, number_drawn, number_of_joined, last_term}, Steps.{part, entries, noted}, Facts.{Begins}}
 use Rattle.fm_rule_facts.{specs.Moves.{Gives, Tells}, proofs.Keeping.{none_added, in_left, in_right}}
-use Rattle.fm_rule.{specs.{declared.pass.Part.{Part}, Views.{homed, Keeps}}, proofs.{Allowed.{sound_with, sound_homed, all_of_in}, Keeping.{part_on}}}
+use Rattle.fm_rule.{specs.{declared.pass.Part.{Part}, Views.{homed, no_part, IsKept, Keeps}}, proofs.{Allowed.{sound_with, sound_homed, all_of_in}, Keeping.{part_on}}}
 use Rattle.fm_rule.specs.{Draws.{CanGather, Gathers, GivesBack}, declared.pool.Pool.{Pool}}
+use Rattle.fm_words.specs.declared.shape.Shape.{Shape}
 
 -- ---- the drawer and the new pass
 
@@ -73,6 +74,7 @@ left_keeps c i part' count v held w k = record {
   caller = k.caller;
   inside = k.inside;
   part_is = λ l. part_on v (drawn_left v) part' refl (λ x j. j) (k.part_is l);
+  kept = k.kept;
   met = k.met;
   counted = k.counted;
   sound = left_sound v w k.sound;
@@ -80,12 +82,13 @@ left_keeps c i part' count v held w k = record {
 }
 
 pub right_keeps : (c : Caller) (v : View) → v.number ≡ number_drawn c → IsSound v
-    → Keeps c None (record { first = 0; words = 0; from = 0 }) 0 (drawn_right v, [])
+    → Keeps c None no_part 0 (drawn_right v, [])
 right_keeps c v e s = record {
   live = refl;
   caller = ap caller_or (sym e);
   inside = refl;
   part_is = λ l. absurd (omega arith);
+  kept = λ l. absurd (omega arith);
   met = refl;
   counted = refl;
   sound = right_sound v c e s;
@@ -193,6 +196,7 @@ module _ (v o u w : View) (x : ℕ) (is : u ≡ gather v o) (met : v.met ≡ [])
         caller = k.caller ∙ sym (ap (λ (y : View). y.caller) g.is);
         inside = k.inside ∙ sym inside;
         part_is = λ l. part_on v w part' shape (λ x j. subst (In x) (sym (ap (λ (y : View). y.reads) g.is)) j) (k.part_is l);
+        kept = λ l. subst (λ (z : Shape). IsKept z part') (sym shape) (k.kept l);
         met = ap (λ (y : View). y.met) g.is;
         counted = (let a = count_is in let b = long in omega arith);
         sound = g.sound;

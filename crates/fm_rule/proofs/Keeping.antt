@@ -6,7 +6,7 @@ use Rattle.fm_words.specs.{declared.shape.Shape.{Shape}, Maps.{map_word}, Places
 use Rattle.fm_base.specs.{Arenas.{only_caller}, Calls.{Entry}, Finds.{Find, Gathered}, declared.{caller.Caller.{Caller}, arena_id.ArenaId.{ArenaId}}}
 use Rattle.fm_rule_facts.specs.{declared.step.Step.{Step, TheVariants.{Checks, Unmarks, ReadsMap}}, Views.{View, In, IsSound, brought}, Splits.{first_view}}
 use Rattle.fm_rule_facts.specs.{Words.{alive_holds, inside_found}, Steps.{part}, Parts.{Mapping, mapping_of, reads_after}, Moves.{Same, Gives}}
-use Rattle.fm_rule.{specs.{declared.{pass.Part.{Part}, seen.Seen.{Seen}}, Acts.{Acted}, Views.{IsPart, Keeps}}, proofs.Allowed.{StaysInside, leaves}}
+use Rattle.fm_rule.{specs.{declared.{pass.Part.{Part}, seen.Seen.{Seen}}, Acts.{Acted}, Views.{IsPart, IsKept, Keeps, no_part}}, proofs.Allowed.{StaysInside, leaves}}
 
 -- after a step that leaves the arena that it is inside
 pub part_on : (v w : View) (part : Part) → w.shape ≡ v.shape → ((x : Mapping) → In x v.reads → In x w.reads) → IsPart v part → IsPart w part
@@ -23,14 +23,15 @@ module _ {c : Caller} {i : Option ArenaId} {known : Part} {count : ℕ} where
   -- what it keeps, by where it is inside and the part that it knows then
   keeps_as : {v p w : View} {es : List Entry} {fs : ℕ → List Find} {held held' : List (ℕ × Unit {0})} {i' : Option ArenaId} {known' : Part}
       → Keeps c i known count (v, held) → Same v (record p { whole = v.whole }) → Gives v p es fs w → held' ≡ held → i' ≡ p.inside
-      → (0 < known'.words → IsPart w known') → Keeps c i' known' count (w, held')
-  keeps_as k s g e inside part =
+      → (0 < known'.words → IsPart w known') → (0 < known'.size → IsKept v.shape known') → Keeps c i' known' count (w, held')
+  keeps_as {known' = known'} k s g e inside part kept =
       let gathered = ap (λ (x : View). x.gathered) g.is ∙ (λ j. s.gathered j ++ brought ((s.met ∙ k.met) j)) in
       record {
         live = ap (λ (x : View). x.live) g.is ∙ (s.live ∙ k.live);
         caller = k.caller ∙ sym (ap (λ (x : View). x.caller) g.is ∙ s.caller);
         inside = inside ∙ sym (ap (λ (x : View). x.inside) g.is);
         part_is = part;
+        kept = λ l. subst (λ (z : Shape). IsKept z known') (sym (ap (λ (x : View). x.shape) g.is ∙ s.shape)) (kept l);
         met = ap (λ (x : View). x.met) g.is;
         counted = k.counted ∙ ap (λ (gs : List Gathered). length gs) (sym (gathered ∙ append-nil _));
         sound = g.sound;
@@ -42,7 +43,7 @@ module _ {c : Caller} {i : Option ArenaId} {known : Part} {count : ℕ} where
       → Gives v p es fs w → held' ≡ held → Keeps c i known count (w, held')
   keeps_on {v = v} {w = w} k s ins more g e = keeps_as k s g e (k.inside ∙ sym ins)
       (λ l. part_on v w known (ap (λ (x : View). x.shape) g.is ∙ s.shape)
-      (λ x j. subst (In x) (sym (ap (λ (u : View). u.reads) g.is)) (more x j)) (k.part_is l))
+      (λ x j. subst (In x) (sym (ap (λ (u : View). u.reads) g.is)) (more x j)) (k.part_is l)) k.kept
 
   module _ {old new : Seat (Unit {0}) Seen} {x : ℕ} (k : Keeps c i known count old.me) where
     -- a step that leaves it inside what it was inside
@@ -52,9 +53,11 @@ module _ {c : Caller} {i : Option ArenaId} {known : Part} {count : ℕ} where
 
     -- where it is inside, and that no part is known there
     pub check_keeps : {a : ArenaId} {i' : Option ArenaId} → Acted old new (Checks a) x → i' ≡ inside_found a (alive_holds a x)
-        → Keeps c i' (record { first = 0; words = 0; from = 0 }) count new.me
+        → Keeps c i' (record known { words = 0 }) count new.me
     unfolding part
     check_keeps {a = a} t ins = keeps_as k (leaves (Checks a) old.me.0 x).same t.tells.gives t.slots ins (λ l. absurd (omega arith))
+        (λ l. let h = k.kept l in
+        record { page = h.page; word = h.word; from = h.from; size = h.size; first = h.first; word_at = h.word_at; low = h.low })
 
     pub unmark_keeps : Acted old new Unmarks x → Keeps c None known count new.me
     unfolding part
@@ -62,16 +65,18 @@ module _ {c : Caller} {i : Option ArenaId} {known : Part} {count : ℕ} where
         let g = t.tells.gives in
         keeps_as k (leaves Unmarks old.me.0 x).same g t.slots refl
         (λ l. part_on old.me.0 new.me.0 known (ap (λ (u : View). u.shape) g.is)
-        (λ y j. subst (In y) (sym (ap (λ (u : View). u.reads) g.is)) j) (k.part_is l))
+        (λ y j. subst (In y) (sym (ap (λ (u : View). u.reads) g.is)) j) (k.part_is l)) k.kept
 
     -- a part is known by what was read last
     pub read_map_keeps : {a : ArenaId} {b : ℕ} (z : Shape) (now : Part) → Acted old new (ReadsMap a b) x → old.me.0.shape ≡ z
         → (x ≡ 0 → now.words ≡ 0)
         → ((p : ℕ) → x ≡ map_word p → (now.first ≡ b * z.page_words) × (now.words ≡ z.page_words) × (now.from ≡ at z (page_word p 0)))
+        → (0 < now.size → IsKept z now)
         → Keeps c i now count new.me
     unfolding part map_word
-    read_map_keeps {a = a} {b = b} z now t sh none some =
+    read_map_keeps {a = a} {b = b} z now t sh none some kept =
         keeps_as k (leaves (ReadsMap a b) old.me.0 x).same t.tells.gives t.slots k.inside (go x refl)
+        (λ l. subst (λ (y : Shape). IsKept y now) (sym sh) (kept l))
       where
         -- a word that isn't 0 adds its page
         read_adds : (b p x : ℕ) (ms : List Mapping) → x ≡ suc p → In (mapping_of b p) (reads_after b x ms)
@@ -97,12 +102,13 @@ module _ {c : Caller} {i : Option ArenaId} {known : Part} {count : ℕ} where
             }
 
 -- a new pool's first pass
-pub first_keeps : (z : Shape) → IsSound (first_view z) → Keeps only_caller None (record { first = 0; words = 0; from = 0 }) 0 (first_view z, [])
+pub first_keeps : (z : Shape) → IsSound (first_view z) → Keeps only_caller None no_part 0 (first_view z, [])
 first_keeps z sound = record {
   live = refl;
   caller = refl;
   inside = refl;
   part_is = λ l. absurd (omega arith);
+  kept = λ l. absurd (omega arith);
   met = refl;
   counted = refl;
   sound = sound;

@@ -176,7 +176,7 @@ pub record KnownPlace (v : View) (part : Part) (word : ℕ) : Type 0 where
   pub place : HasPlace v word (part.from + (word - part.first))
   pub small : part.from + (word - part.first) < 2 ^ 32
 
-page_word_from : (z : Shape) (p o : ℕ) → at z (page_word p 0) + o ≡ at z (page_word p o)
+pub page_word_from : (z : Shape) (p o : ℕ) → at z (page_word p 0) + o ≡ at z (page_word p o)
 unfolding at
 page_word_from z p o = let x : ℕ = p * z.page_words in omega arith
 

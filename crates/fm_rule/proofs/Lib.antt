@@ -12,3 +12,4 @@ pub mod Halves
 pub mod Counting
 pub mod Resting
 pub mod GivenBytes
+pub mod Placing

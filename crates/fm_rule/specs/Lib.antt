@@ -5,3 +5,4 @@ pub mod Draws
 pub mod Finishing
 pub mod GivenBytes
 pub mod Acts
+pub mod Placing

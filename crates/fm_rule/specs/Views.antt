@@ -1,7 +1,7 @@
 -- Views of the passes and notes of a pool, and what a pass keeps beside its seat.
 use Rattle.std.specs.Prelude.{◌≡◌, ◌*◌, ◌<◌, ℕ, Bool, true, false, List, [], ◌∷◌, length, Option, Some, None}
 use Rattle.atomic_table.specs.{Seated.{TableId}, Table.{Me}}
-use Rattle.fm_words.specs.{declared.shape.Shape.{Shape}, Places.{at, page_word}, Maps.{map_word}}
+use Rattle.fm_words.specs.{declared.shape.Shape.{Shape}, Places.{at, map, page_word}, Maps.{map_word}}
 use Rattle.fm_base.specs.{declared.{caller.Caller.{Caller}, arena_id.ArenaId.{ArenaId}}, Calls.{Entry}}
 use Rattle.fm_rule_facts.specs.{Views.{View, IsSound, In}, Splits.{first_view}, Parts.{Mapping}}
 use Rattle.fm_rule.specs.declared.pass.Part.{Part}
@@ -35,17 +35,32 @@ pub record IsPart (v : View) (part : Part) : Type 0 where
   pub first : part.first ≡ mapping.part * v.shape.page_words
   pub from : part.from ≡ at v.shape (page_word mapping.page 0)
 
+-- a part that the pass read at some visit: where its words begin as long as its map word is the same, and where that stands
+pub record IsKept (z : Shape) (part : Part) : Type 0 where
+  pub page : ℕ
+  pub word : part.word ≡ map_word page
+  pub from : part.from ≡ at z (page_word page 0)
+  pub size : part.size ≡ z.page_words
+  pub first : part.first ≡ part.index * z.page_words
+  pub word_at : part.word_at ≡ at z (map part.slot part.index)
+  pub low : part.index < z.reach
+
+abbrev pub no_part : Part
+no_part = record { first = 0; words = 0; from = 0; slot = 0; index = 0; size = 0; word = 0; word_at = 0 }
+
 -- the part of this index, where its map word is this one
 abbrev pub HasPart : Shape → (index word : ℕ) → Part → Type 0
 HasPart z index word part =
     (page : ℕ) → word ≡ map_word page → (part.first ≡ index * z.page_words) × (part.words ≡ z.page_words) × (part.from ≡ at z (page_word page 0))
 
--- what a pass keeps beside its seat: its caller, the arena that it is inside, the part that it read last, and how many callers are gathered into it
+-- what a pass keeps beside its seat: its caller, the arena that it is inside, the part that it read last, which is known in
+-- this visit where it has words, and how many callers are gathered into it
 pub record Keeps (c : Caller) (i : Option ArenaId) (part : Part) (count : ℕ) (me : Me (Unit {0}) View) : Type 0 where
   pub live : me.0.live ≡ true
   pub caller : c ≡ me.0.caller
   pub inside : i ≡ me.0.inside
   pub part_is : 0 < part.words → IsPart me.0 part
+  pub kept : 0 < part.size → IsKept me.0.shape part
   pub met : me.0.met ≡ []
   pub counted : count ≡ length me.0.gathered
   pub sound : IsSound me.0

@@ -1,4 +1,4 @@
-ghost use Rattle.std.specs.Prelude.{◌≡◌, ◌<◌};
+ghost use Rattle.std.specs.Prelude.{◌≡◌, ◌<◌, ◌/◌};
 ghost use Rattle.fm_rule_facts.specs.Steps as steps;
 
 use fm_base::round_up;
@@ -25,5 +25,18 @@ pub(crate) fn given_next(limit: u64, given: u64, size: u64, align: u64) -> u64
     match room(limit, given, size, align) {
         Some(place) => place + size,
         None => given,
+    }
+}
+
+/// How often `size` goes into `n`. No division is made where `size` is a power of two, as pages mostly are.
+pub(crate) fn quotient(n: u64, size: u64) -> u64
+    requires { 0 < size }
+    ensures { result ≡ n / size }
+{
+    let shift = size.trailing_zeros();
+    if 1 << shift == size {
+        n >> shift
+    } else {
+        n / size
     }
 }

@@ -45,7 +45,7 @@ pub use fitting::room;
 pub use holding::{step_back, step_hold, step_unhold};
 pub use notes::Note;
 pub use numbering::{step_give_number, step_learn_term, step_raise_term, step_take_number};
-pub use paging::{step_give_page, step_map, step_read_map, step_take_page};
+pub use paging::{step_find, step_give_page, step_map, step_read_map, step_take_page};
 pub use pass::{Part, Pass};
 pub use pool::Pool;
 pub use steps::{

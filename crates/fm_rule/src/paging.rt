@@ -1,7 +1,7 @@
 //! The steps by which a pass gets pages for an arena, and finds them.
 #![tactic(auto, using(crate::proofs::Stepping::step_rules), unfolding(fm_rule_facts::specs::Steps::part))]
 
-ghost use Rattle.std.specs.Prelude.{◌≡◌, ◌<◌, ◌≤◌, ◌==◌, [], ◌∷◌, Some};
+ghost use Rattle.std.specs.Prelude.{◌≡◌, ◌<◌, ◌≤◌, ◌/◌, ◌==◌, [], ◌∷◌, Some};
 ghost use Rattle.fm_base.specs.Calls as machine;
 ghost use Rattle.fm_base.specs.Calls.{entry_of};
 ghost use Rattle.fm_base.specs.Finds.{TakesPage as Claiming, Maps as Mapping};
@@ -11,8 +11,10 @@ ghost use Rattle.fm_rule_facts.specs.Moves.{LearnsMap};
 ghost use Rattle.fm_words.specs.Bits.{number_at};
 ghost use Rattle.fm_rule_facts.specs.Steps.{Stepped, none_noted, note_of, where_found};
 ghost use Rattle.fm_rule.specs.Passes.{IsOf};
+ghost use Rattle.fm_rule.specs.Placing.{FindsPlace};
 
 use crate::acts::{exchange_as, load_as, or_as};
+use crate::fitting::quotient;
 use crate::pass::Pass;
 use crate::pool::Pool;
 use crate::words::bit;
@@ -76,8 +78,48 @@ pub fn step_read_map(pool: &Pool, pass: &mut Pass, id: ArenaId, index: u32) -> u
     let seat = &mut pass.seat;
     let place = pool.shape.map_place(id.slot, index);
     let word = load_as::<Brand>(pool, seat, place, Step::ReadsMap(id, index));
-    pass.part = pool.part_of(index, word);
+    pass.part = pool.part_of(id.slot, index, word);
     word
+}
+
+/// Where the word of this index of the arena that the pass is inside stands, by the map word of its part.
+///
+/// Of the part that the pass read last all is kept but the map word: its page may have been given back since, and
+/// another may have come. Where that word is as it was, the place is found without the shape.
+#[inline(always)]
+pub fn step_find(pool: &Pool, pass: &mut Pass, id: ArenaId, word: u64) -> u64
+    requires of { IsOf pool.now pass.old }
+    requires inside { pass.old.inside ≡ Some id }
+    requires low { word / pool.now.shape.page_words < pool.now.shape.reach }
+    ensures { FindsPlace pass.old id word result pass.new }
+{
+    let part = pass.part;
+    if part.slot == id.slot && part.first <= word && word - part.first < part.size {
+        let seat = &mut pass.seat;
+        let step = Step::ReadsMap(id, part.index);
+        let found = load_as::<Brand>(pool, seat, part.word_at, step);
+        if found == part.word {
+            pass.part.words = part.size;
+            return part.from + (word - part.first);
+        }
+        pass.part = pool.part_of(part.slot, part.index, found);
+        return pool.word_place(found, (word - part.first) as u32);
+    }
+    step_find_anew(pool, pass, id, word)
+}
+
+/// As `step_find`, of any part.
+#[inline(never)]
+fn step_find_anew(pool: &Pool, pass: &mut Pass, id: ArenaId, word: u64) -> u64
+    requires of { IsOf pool.now pass.old }
+    requires inside { pass.old.inside ≡ Some id }
+    requires low { word / pool.now.shape.page_words < pool.now.shape.reach }
+    ensures { FindsPlace pass.old id word result pass.new }
+{
+    let size = u64::from(pool.shape.page_words);
+    let index = quotient(word, size);
+    let found = step_read_map(pool, pass, id, index as u32);
+    pool.word_place(found, (word - index * size) as u32)
 }
 
 /// Makes the bit of the page 1 that the pass has in its hand: it can be claimed from this step on.

@@ -22,13 +22,24 @@ fn inside_of(is_inside: bool, current: ArenaId) -> Option<ArenaId>
     if is_inside { Some(current) } else { None }
 }
 
-/// A part of an arena whose map word a pass has read: its first word, how many words it has, and where they begin in
-/// the table. A part of no words is none.
+/// A part of an arena whose map word a pass has read. It is kept over visits: where it says how many words it has, the
+/// map word was read in this visit; else it tells no more than where to look.
 #[derive(Clone, Copy)]
 pub struct Part {
+    /// Its first word.
     pub(crate) first: u64,
+    /// How many words it has, where its map word was read in this visit; else 0.
     pub(crate) words: u64,
+    /// Where its words begin in the table, as long as its map word is the same.
     pub(crate) from: u64,
+    /// The slot whose arenas have it.
+    pub(crate) slot: u32,
+    pub(crate) index: u32,
+    /// How many words it has in any visit; 0 where it is no part.
+    pub(crate) size: u64,
+    /// Its map word, and where that stands in the table.
+    pub(crate) word: u64,
+    pub(crate) word_at: u64,
 }
 
 /// No part.
@@ -36,6 +47,11 @@ pub(crate) const NO_PART: Part = Part {
     first: 0,
     words: 0,
     from: 0,
+    slot: 0,
+    index: 0,
+    size: 0,
+    word: 0,
+    word_at: 0,
 };
 
 /// One user of a pool. At most one step of it is under way at a time.
@@ -47,7 +63,7 @@ pub struct Pass {
     pub(crate) is_inside: bool,
     /// The arena whose session it looked at last; an option of it would be put together anew at each visit.
     pub(crate) current: ArenaId,
-    /// The part of that arena whose page it read last.
+    /// The part whose page it read last.
     pub(crate) part: Part,
     /// How many callers are gathered into it.
     pub(crate) gathered: u64,

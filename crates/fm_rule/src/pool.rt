@@ -1,11 +1,11 @@
-ghost use Rattle.std.specs.Prelude.{◌≡◌, ◌<◌, ◌≤◌, IfOk, IfErr, length};
+ghost use Rattle.std.specs.Prelude.{◌≡◌, ◌<◌, ◌≤◌, ◌-◌, IfOk, IfErr, length};
 ghost use Rattle.fm_words.specs.Shapes.{IsValid};
-ghost use Rattle.fm_words.specs.Places.{groups, page_groups, words};
+ghost use Rattle.fm_words.specs.Places.{IsPlace, at, groups, map, page_groups, page_word, words};
 ghost use Rattle.fm_base.specs.declared.refusal.Refusal.TheVariants.{Memory};
 ghost use Rattle.fm_rule_facts.specs.declared.step.Step.TheVariants.{Looks};
 ghost use Rattle.fm_rule_facts.specs.Views.{IsSound, limit_of, span};
 ghost use Rattle.fm_rule_facts.specs.Moves.{Tells};
-ghost use Rattle.fm_rule.specs.Views.{first_pass, numbers_of, HasPart};
+ghost use Rattle.fm_rule.specs.Views.{first_pass, numbers_of, HasPart, IsKept};
 ghost use Rattle.fm_rule.specs.Beginning.{AreFirst, IsBegun, IsFull};
 ghost use Rattle.fm_words.specs.Bits.{number_at};
 
@@ -156,20 +156,38 @@ impl Pool {
         self.span() * 8
     }
 
-    /// The part of this index, where this is its map word.
-    #[inline(always)]
-    pub(crate) fn part_of(&self, index: u32, word: u64) -> Part
-        requires { word ≤ self.now.shape.pages }
+    /// The part of this index of the slot's arena, where this is its map word.
+    pub(crate) fn part_of(&self, slot: u32, index: u32, word: u64) -> Part
+        requires low { word ≤ self.now.shape.pages }
+        requires place { IsPlace self.now.shape (map slot index) }
         ensures none { word ≡ 0 → result.words ≡ 0 }
         ensures some { HasPart self.now.shape index word result }
+        ensures kept { 0 < result.size → IsKept self.now.shape result }
     {
         match map_of(word) {
             Some(page) => Part {
                 first: u64::from(index) * u64::from(self.shape.page_words),
                 words: u64::from(self.shape.page_words),
                 from: self.shape.page_place(page, 0),
+                slot,
+                index,
+                size: u64::from(self.shape.page_words),
+                word,
+                word_at: self.shape.map_place(slot, index),
             },
             None => NO_PART,
+        }
+    }
+
+    /// Where this word of a page stands that has this map word; 0 where the map word is 0.
+    pub(crate) fn word_place(&self, word: u64, offset: u32) -> u64
+        requires low { word ≤ self.now.shape.pages }
+        requires offset { offset < self.now.shape.page_words }
+        ensures { 0 < word → result ≡ at self.now.shape (page_word (word - 1) offset) }
+    {
+        match map_of(word) {
+            Some(page) => self.shape.page_place(page, offset),
+            None => 0,
         }
     }
 

@@ -15,7 +15,7 @@ ghost use Rattle.fm_rule_facts.specs.Hands.{nothing, learnt};
 ghost use Rattle.fm_rule.specs.Passes.{IsOf};
 
 use crate::acts::{exchange_as, load_as, store_as};
-use crate::pass::{NO_PART, Pass};
+use crate::pass::Pass;
 use crate::pool::Pool;
 use crate::words::{alive_word, closing_word, is_alive, mark_of};
 use fm_base::{ArenaId, Kind};
@@ -60,7 +60,8 @@ pub fn step_check(pool: &Pool, pass: &mut Pass, id: ArenaId) -> u64
         owner: id.owner,
         term: id.term,
     };
-    pass.part = NO_PART;
+    // The part that it read last is known in this visit only once its map word was looked at.
+    pass.part.words = 0;
     word
 }
 

@@ -14,17 +14,20 @@ load_as-word-requires-clause-can c =
 
 pub invariant_of-pass : goal.invariant_of-pass
 invariant_of-pass c = read_map_keeps c.pass.invariant _ _ c.load_as-word.ensures (shape_is (sees c.pass.view_is c.requires.of.1 c.pass.invariant)) c.part_of-pass-inside.ensures.none
-    c.part_of-pass-inside.ensures.some
+    c.part_of-pass-inside.ensures.some c.part_of-pass-inside.ensures.kept
 
 pub returns-clause-stepped : goal.returns-clause-stepped
 unfolding part entries noted
 returns-clause-stepped c = step_stepped c.pass.view_is c.pass.invariant c.load_as-word.ensures
 
-pub part_of-pass-inside-requires : goal.part_of-pass-inside-requires
-part_of-pass-inside-requires c =
+pub part_of-pass-inside-requires-clause-low : goal.part_of-pass-inside-requires-clause-low
+part_of-pass-inside-requires-clause-low c =
     let low = c.load_as-word.ensures.tells.learns.low in
     let sh = ap (λ (x : Shape). x.pages) (shape_is (sees c.pass.view_is c.requires.of.1 c.pass.invariant)) in
     omega arith
 
 pub returns-clause-map : goal.returns-clause-map
 returns-clause-map c = map_learnt c.pass.view_is c.load_as-word.ensures.tells.learns
+
+pub part_of-pass-inside-requires-clause-place : goal.part_of-pass-inside-requires-clause-place
+part_of-pass-inside-requires-clause-place c = (inside_slot (sees c.pass.view_is c.requires.of.1 c.pass.invariant) c.requires.inside, c.requires.low)

@@ -4,7 +4,7 @@ use Rattle.fm_words.specs.{declared.shape.Shape.{Shape}, Places.{at, draw, slot_
 use Rattle.fm_base.specs.Arenas.{only_caller}
 use Rattle.fm_rule_facts.specs.{Views.{IsSound}, Splits.{first_view}, Facts.{Rule}}
 use Rattle.fm_rule_steps.proofs.First.{two_words}
-use Rattle.fm_rule.{specs.{Beginning.{IsBegun}, Views.{Keeps}}, proofs.{Beginning.{begun_none, begun_rule, begun_sound}, Allowed.{sound_homed}}}
+use Rattle.fm_rule.{specs.{Beginning.{IsBegun}, Views.{no_part, Keeps}}, proofs.{Beginning.{begun_none, begun_rule, begun_sound}, Allowed.{sound_homed}}}
 use Rattle.fm_rule.proofs.Keeping.{first_keeps}
 use Rattle.fm_rule.proofs.pool.Pool.make.Goals as goal
 
@@ -51,7 +51,7 @@ of_words-requires c =
 
 pub invariant_of-pass : goal.invariant_of-pass
 invariant_of-pass c =
-    subst (Keeps only_caller None (record { first = 0; words = 0; from = 0 }) 0) (sym c.in_ok-table.ensures.4)
+    subst (Keeps only_caller None no_part 0) (sym c.in_ok-table.ensures.4)
     (first_keeps c.args.shape (begun_sound c.args.shape _ c.requires c.set_number_bits.ensures))
 
 pub returns-clause-sound : goal.returns-clause-sound

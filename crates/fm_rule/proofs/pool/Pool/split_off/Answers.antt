@@ -1,4 +1,4 @@
-use Rattle.fm_rule.{proofs.{Knowing.{one_table}, Allowed.{sound_homed}, Noting.{some_words}}, specs.Views.{inside_of, Keeps}}
+use Rattle.fm_rule.{proofs.{Knowing.{one_table}, Allowed.{sound_homed}, Noting.{some_words}}, specs.Views.{inside_of, no_part, Keeps}}
 use Rattle.fm_rule.proofs.Halves.{left_keeps, right_keeps, right_sound}
 use Rattle.std.proofs.Common.{ap, sym, ◌∙◌, subst, None}
 use Rattle.fm_rule_facts.specs.Views.{View, IsSound}
@@ -19,7 +19,7 @@ invariant_of-giver c =
 
 pub invariant_of-result : goal.invariant_of-result
 invariant_of-result c =
-    subst (Keeps c.args.caller None (record { first = 0; words = 0; from = 0 }) 0) (sym c.split_seat-seat.ensures.4)
+    subst (Keeps c.args.caller None no_part 0) (sym c.split_seat-seat.ensures.4)
     (right_keeps c.args.caller c.giver.inside.seat.me.0 (ap (λ (x : View). x.number) c.giver.view_is ∙ c.requires.drawn) c.giver.invariant.sound)
 
 pub returns-clause-sound : goal.returns-clause-sound

@@ -1,0 +1,4 @@
+use Rattle.fm_rule.proofs.paging.step_find.Given as goal
+
+abbrev pub ghosts-load_as : goal.ghosts-load_as
+ghosts-load_as a = record { step = a.step }
