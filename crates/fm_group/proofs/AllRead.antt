@@ -1,68 +1,60 @@
--- Places are read in their order, and all of them.
-use Rattle.std.{proofs.Common.{◌≡◌, ◌≢◌, ℕ, ◌+◌, ◌<◌, List, [], ◌∷◌, ◌++◌, refl, subst, arith, None, Some, Ok, Err}, proofs.lemmas.List.{append-nil}}
+-- Runs are read in their order, and all of them.
+use Rattle.std.proofs.Common.{◌≡◌, ℕ, ◌+◌, ◌<◌, List, [], ◌++◌, refl, subst, None, Ok, Err}
 use Rattle.fm_base.specs.{declared.{caller.Caller.{Caller}, refusal.Refusal.{Refusal, TheVariants.{Closed, Memory}}}, Calls.{Entry}}
 use Rattle.fm_base.{specs.{View.{Did, Makes, View}}, proofs.{Making.{Makes-none, Makes-then}}}
 use Rattle.fm_group_lists.specs.Groups.{Group}
 use Rattle.fm_group.proofs.Lasting.{later}
-use Rattle.fm_group.specs.{Asked.{CanTry}, Reading.{DoesReadPlace, DoesReadPlaces, EndsAt, ReadsBelow, ReadsPlace, none_read, one_read}, Table.{Counter, places_in}}
+use Rattle.fm_group.specs.{Asked.{CanReadRun, CanTry}, Table.{Counter}}
+use Rattle.fm_group.specs.Reading.{DoesReadPlaces, DoesReadRun, EndsAt, ReadsPart, ReadsRun, ReadsRuns, at_run, no_run, one_run, runs_in}
 
--- so many places were read, and this was found
+-- so many runs were read, and this was found
 pub record ReadTo (x y : View) (w : Counter) (k : ℕ) (xs : List Group) : Type 0 where
-  pub did : Did x y (ReadsBelow x.caller w k xs)
+  pub did : Did x y (ReadsRuns x.caller w k xs)
   pub can : CanTry y w 0
 
 pub read_none : {x : View} {w : Counter} → CanTry x w 0 → ReadTo x x w 0 []
-read_none {x} can = record { did = record { own = []; does = none_read; makes = Makes-none x }; can = can }
+read_none {x} can = record { did = record { own = []; does = no_run; makes = Makes-none x }; can = can }
 
-some_last : (xs : List Group) (g : Group) → xs ++ g ∷ [] ≢ []
-some_last [] g e = absurd (cc)
-some_last (x ∷ xs) g e = absurd (cc)
+module _ {x y u : View} {w : Counter} {k : ℕ} {xs : List Group} (h : ReadTo x y w k xs) (new : List Group) where
+  pub read_more : Did y u (DoesReadRun y.caller w k xs new (Ok tt)) → u.inside ≡ None → ReadTo x u w (k + 1) new
+  read_more d outside =
+      let r = d.does in
+      record {
+        did = record {
+          own = h.did.own ++ d.own;
+          does = rw r.1 (one_run r.0 h.did.own d.own h.did.does (subst (λ (c : Caller). ReadsRun c w k r.0 d.own) h.did.makes.same_caller r.2));
+          makes = Makes-then x y u h.did.own d.own h.did.makes d.makes;
+        };
+        can = later h.can d.makes outside;
+      }
 
-module _ {x y u : View} {w : Counter} {k : ℕ} {xs : List Group} (h : ReadTo x y w k xs) where
-  place_more : (ys : List Group) → (d : Did y u (ReadsPlace y.caller w k ys)) → Did x u (ReadsBelow x.caller w (k + 1) (xs ++ ys))
-  place_more ys d = record {
-    own = h.did.own ++ d.own;
-    does = one_read ys h.did.own d.own h.did.does (subst (λ (c : Caller). ReadsPlace c w k ys d.own) h.did.makes.same_caller d.does);
-    makes = Makes-then x y u h.did.own d.own h.did.makes d.makes;
-  }
-
-  pub free_more : Did y u (DoesReadPlace y.caller w k (Ok None)) → u.inside ≡ None → ReadTo x u w (k + 1) xs
-  free_more d outside = record {
-    did = subst (λ (ys : List Group). Did x u (ReadsBelow x.caller w (k + 1) ys)) (append-nil xs) (place_more [] d);
-    can = later h.can d.makes outside;
-  }
-
-  pub taken_more : (g : Group) → Did y u (DoesReadPlace y.caller w k (Ok (Some g))) → u.inside ≡ None → ReadTo x u w (k + 1) (xs ++ g ∷ [])
-  taken_more g d outside = record { did = place_more (g ∷ []) d; can = later h.can d.makes outside }
-
-  pub ended_there : k < places_in w.table → (r : Refusal) → Did y u (DoesReadPlace y.caller w k (Err r)) → Did x u (DoesReadPlaces x.caller w (Err r))
-  ended_there within r d = by r d.own d.makes d.does
+  pub read_ended : k < runs_in w.table → (r : Refusal) → Did y u (DoesReadRun y.caller w k xs new (Err r)) → Did x u (DoesReadPlaces x.caller w (Err r))
+  read_ended within r d = by r d.own d.makes d.does
     where
-      by : (q : Refusal) (own : List Entry) → Makes y u own → DoesReadPlace y.caller w k (Err q) own → Did x u (DoesReadPlaces x.caller w (Err q))
+      same : y.caller ≡ x.caller
+      same = h.did.makes.same_caller
+
+      by : (q : Refusal) (own : List Entry) → Makes y u own → DoesReadRun y.caller w k xs new (Err q) own → Did x u (DoesReadPlaces x.caller w (Err q))
       by Closed own makes e = record {
         own = h.did.own ++ own;
         does = record {
-          p = k;
+          k = k;
           within = within;
           found = xs;
           before = h.did.own;
           reads = h.did.does;
           last = own;
-          ended = subst (λ (c : Caller). EndsAt c w k own) h.did.makes.same_caller e;
+          ended = subst (λ (c : Caller). EndsAt c w k own) same e;
           parts = refl;
         };
         makes = Makes-then x y u h.did.own own h.did.makes makes;
       }
+      by Memory own makes (j, ys, most, part, some) = record {
+        own = h.did.own ++ own;
+        does = at_run k j xs ys h.did.own own within most h.did.does (subst (λ (c : Caller). ReadsPart c w k j ys own) same part) some;
+        makes = Makes-then x y u h.did.own own h.did.makes makes;
+      }
       by q own makes e = absurd e
 
-  pub no_memory : k < places_in w.table → (g : Group) → Did y u (DoesReadPlace y.caller w k (Ok (Some g))) → Did x u (DoesReadPlaces x.caller w (Err Memory))
-  no_memory within g d =
-      let more = place_more (g ∷ []) d in
-      record {
-        own = more.own;
-        does = record { p = k + 1; within = omega (arith, within); found = xs ++ g ∷ []; reads = more.does; some = some_last xs g };
-        makes = more.makes;
-      }
-
-pub all_read : {x y : View} {w : Counter} {k : ℕ} {xs : List Group} → ReadTo x y w k xs → k ≡ places_in w.table → Did x y (DoesReadPlaces x.caller w (Ok xs))
-all_read {x} {y} {w} {k} {xs} h all = record { own = h.did.own; does = subst (λ (m : ℕ). ReadsBelow x.caller w m xs h.did.own) all h.did.does; makes = h.did.makes }
+pub all_read : {x y : View} {w : Counter} {k : ℕ} {xs : List Group} → ReadTo x y w k xs → k ≡ runs_in w.table → Did x y (DoesReadPlaces x.caller w (Ok xs))
+all_read {x} {y} {w} {k} {xs} h all = record { own = h.did.own; does = subst (λ (m : ℕ). ReadsRuns x.caller w m xs h.did.own) all h.did.does; makes = h.did.makes }

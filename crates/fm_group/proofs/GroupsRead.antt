@@ -4,7 +4,7 @@ use Rattle.fm_base.specs.{declared.refusal.Refusal.{Refusal, TheVariants.{Closed
 use Rattle.fm_base.{specs.{View.{Did, Makes, View}}, proofs.{Making.{Makes-none}, Outcomes.{Makes-lasts}}}
 use Rattle.fm_segment.proofs.Access.{known_still}
 use Rattle.fm_group_lists.specs.Groups.{AreSummed, Group}
-use Rattle.fm_group.specs.{Asked.{CanTry, IsReady}, Counting.{MayCount}, Learnt.{AfterReadGroups}, Reading.{DoesReadGroups, DoesReadPlaces}, Table.{CanTable, Counter, places_in}}
+use Rattle.fm_group.specs.{Asked.{CanTry, IsReady}, Counting.{MayCount}, Learnt.{AfterReadGroups}, Reading.{DoesReadGroups, DoesReadPlaces, at_end}, Table.{CanTable, Counter}}
 
 pub can_read_places : {x : View} {w : Counter} → CanTable w → IsReady x w → MayCount x.caller w → CanTry x w 0
 can_read_places table ready may = record { table = table; outside = ready.outside; records = ready.records; known = ready.table; may = may; below = omega arith }
@@ -38,7 +38,7 @@ module _ {x y : View} {w : Counter} (ready : IsReady x w) where
       -- or there was no memory to.
       pub groups_unsummed : xs ≢ [] → AfterReadGroups x y w (Err Memory)
       groups_unsummed some =
-          learnt (Err Memory) (record { own = d.own; does = (may, record { p = places_in w.table; within = omega arith; found = xs; reads = d.does; some = some }); makes = d.makes }) outside
+          learnt (Err Memory) (record { own = d.own; does = (may, at_end xs d.own d.does some); makes = d.makes }) outside
 
 -- Another caller's arena.
 pub groups_may_not : {x : View} {w : Counter} → IsReady x w → ¬ (MayCount x.caller w) → AfterReadGroups x x w (Err WrongThread)

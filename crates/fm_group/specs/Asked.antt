@@ -1,8 +1,8 @@
 -- What calls ask for.
-use Rattle.std.specs.Prelude.{◌≡◌, ℕ, ◌<◌, ◌≤◌, None}
+use Rattle.std.specs.Prelude.{◌≡◌, ℕ, ◌*◌, ◌<◌, ◌≤◌, None}
 use Rattle.fm_base.specs.{Arenas.{MayUse}, View.{View}}
 use Rattle.fm_segment.specs.Access.{IsKnown}
-use Rattle.fm_group.specs.{Counting.{MayCount}, Table.{CanTable, Counter, places_in}, Values.{AreValued, Valued, count_of}}
+use Rattle.fm_group.specs.{Counting.{MayCount}, Reading.{run_length, runs_in}, Table.{CanTable, Counter, places_in}, Values.{AreValued, Valued, count_of}}
 
 -- ---- of who calls
 
@@ -45,3 +45,13 @@ pub record CanTry (v : View) (w : Counter) (n : ℕ) : Type 0 where
 pub record CanTryAt (v : View) (w : Counter) (n p : ℕ) : Type 0 where
   pub can : CanTry v w n
   pub within : p < places_in w.table
+
+-- and there is such a run of places
+pub record CanReadRun (v : View) (w : Counter) (k : ℕ) : Type 0 where
+  pub can : CanTry v w 0
+  pub within : k < runs_in w.table
+
+-- which has so many words
+pub record CanLook (v : View) (w : Counter) (k count : ℕ) : Type 0 where
+  pub read : CanReadRun v w k
+  pub long : count ≡ 2 * run_length w.table k

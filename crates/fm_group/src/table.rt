@@ -99,8 +99,9 @@ impl CountTable {
     /// The numbers that places are claimed for, in rising order, each once, and beside each the sum of the counts of
     /// its places, modulo 2^64. Two places may be claimed for one number; they are summed up.
     ///
-    /// Each place is read once, the lowest first: its claim, and beside a claim that names a value its count in the
-    /// same visit, and then the value. Who reads while others count sees each place as it is then.
+    /// Each word is read once, the lowest first, in runs of 64 places, each in one visit: of each place its claim and
+    /// then its count. Behind the visit the values are read that the run's claims name. Who reads while others count
+    /// sees each place as it is then.
     ///
     /// Refused, in this order: `WrongThread`, where either arena is confined to another caller; then `Closed` at the
     /// visit that finds an arena closed, or `Memory`, which is wanting only where a claim was found to name a value.

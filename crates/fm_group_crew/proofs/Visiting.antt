@@ -1,14 +1,14 @@
 -- What counts and readings do are visits to the two arenas.
-use Rattle.std.proofs.Common.{◌≡◌, ℕ, ◌+◌, ◌<◌, ◌≤◌, List, [], ◌∷◌, ◌++◌, refl, sym, subst, inl, inr, ⊎_elim, arith, Result, Ok, Err}
-use Rattle.std.{specs.{Prelude.{ℤ}, List.{AllByRecursion, flat_map}}, proofs.{lemmas.List.{append_assoc}}}
+use Rattle.std.proofs.Common.{◌≡◌, ℕ, suc, ◌+◌, ◌*◌, ◌<◌, ◌≤◌, List, [], ◌∷◌, ◌++◌, length, refl, sym, subst, inl, inr, ⊎_elim, arith, Result, Ok, Err}
+use Rattle.std.{specs.{Prelude.{ℤ}, List.{AllByRecursion, flat_map}}, proofs.{lemmas.List.{append-nil, append_assoc}}}
 use Rattle.fm_base.specs.declared.{arena_id.ArenaId.{ArenaId}, caller.Caller.{Caller}, refusal.Refusal.{Refusal, TheVariants.{Closed, Memory, TableFull, WrongThread}}}
-use Rattle.fm_base.specs.{Calls.{Call, Entry, Found, Read, Reply}, Visits.{refused_visit, visit}}
+use Rattle.fm_base.specs.{Calls.{Call, Entry, Found, Read, Reply}, Visits.{reads, refused_visit, visit}}
 use Rattle.fm_records.specs.{Reads.{IsWordOf, read_visit, visits_to}, Words.{Seen}}
 use Rattle.fm_segment.specs.Region.{Region}
 use Rattle.fm_group_lists.specs.Groups.{Group}
 use Rattle.fm_group.specs.{Table.{Counter, IsTable, claim_word, count_word, places_in, tried_at}, Values.{Valued}}
 use Rattle.fm_group.specs.Counting.{CountsAt, DoesCount, DoesTries, EndsTries, FindsClaim, PassesBy, PassesFirst, ReadsAndTries, ReadsValue, StopsAt, add_act, add_one, claim_act, claim_try, claims, meets, none_yet, one_more, other, shut, uncounted, unnamed, unread}
-use Rattle.fm_group.specs.Reading.{DoesReadGroups, EndsAt, ReadsBelow, ReadsPlace, StopsReading, both_seen, claim_read, count_read, free, none_read, one_read, records_shut, table_shut, taken}
+use Rattle.fm_group.specs.Reading.{DoesReadGroups, EndsAt, ReadsNamed, ReadsPart, ReadsRuns, WantsMemory, at_end, at_run, free, no_run, none_read, one_run, records_shut, run_length, run_seen, runs_in, table_shut, taken}
 use Rattle.fm_group_laws.{specs.Shares.{CountsTo, DoesShare, none_counted, one_counted}, proofs.Trying.{tried_within}}
 use Rattle.fm_group_crew.specs.{Ends.{Concludes}, Grouped.{IsAct, OnlyVisits, adds, closed, no_more, reads_table, reads_value, swaps, visits}}
 
@@ -144,38 +144,55 @@ module _ (w : Counter) (c : Caller) where
 
     -- ---- the reading
 
-    both_visits : (p claim count : ℕ) → p < places_in w.table → OnlyVisits w c (both_seen c w p claim count)
-    both_visits p claim count within =
-        two_acts w.table.arena (claim_read c w p claim) (count_read c w p count) (reads_table (claim_word w.table p) (claim_in w.values w.table is p within))
-        (reads_table (count_word w.table p) (count_in w.values w.table is p within))
+    -- words of a run are words of the table
+    run_acts : (first : ℕ) (words : List ℕ) → ((k : ℕ) → first ≤ k → k < first + length words → IsWordOf w.table k)
+        → AllByRecursion (λ a. IsAct w w.table.arena a.0) (reads w.table.arena first words)
+    run_acts first [] are = tt
+    run_acts first (v ∷ words) are =
+        (reads_table first (are first (omega arith) (omega arith)), run_acts (suc first) words (λ k low below. are k (omega (arith, low)) (omega (arith, below))))
 
-    place_visits : (p : ℕ) → p < places_in w.table → (xs : List Group) (own : List Entry) → ReadsPlace c w p xs own → OnlyVisits w c own
-    place_visits p within xs own (free claim none) =
-        one_act w.table.arena (claim_read c w p claim) (reads_table (claim_word w.table p) (claim_in w.values w.table is p within))
-    place_visits p within xs own (taken g claim value reads names read) =
-        both_visit (both_seen c w p claim g.1) reads (both_visits p claim g.1 within) (value_visits value (Ok g.0) reads read)
+    run_visits : (k : ℕ) (words : List ℕ) → length words ≡ 2 * run_length w.table k → OnlyVisits w c (run_seen c w k words)
+    run_visits k words long =
+        as_visits (sym (append-nil (run_seen c w k words)))
+        (visits w.table.arena (reads w.table.arena (claim_word w.table (64 * k)) words) [] (run_acts (claim_word w.table (64 * k)) words run_in) no_more)
+      where
+        run_in : (i : ℕ) → claim_word w.table (64 * k) ≤ i → i < claim_word w.table (64 * k) + length words → IsWordOf w.table i
+        run_in i low below =
+            let a = is.aligned in let e = is.even in
+            record { above = omega (arith, a, e, low, below, long); below = omega (arith, a, e, low, below, long) }
 
-    end_visits : (p : ℕ) → p < places_in w.table → (own : List Entry) → EndsAt c w p own → OnlyVisits w c own
-    end_visits p within own table_shut = table_closed
-    end_visits p within own (records_shut claim count value reads names read) =
-        both_visit (both_seen c w p claim count) reads (both_visits p claim count within) (value_visits value (Err Closed) reads read)
+    named_visits : (words : List ℕ) (j : ℕ) (xs : List Group) (own : List Entry) → ReadsNamed c w words j xs own → OnlyVisits w c own
+    named_visits words j xs own none_read = no_more
+    named_visits words j xs own (free {j = i} before none) = named_visits words i xs own before
+    named_visits words j xs own (taken {j = i} {xs = ys} {own = first} before g value more names count read) =
+        both_visit first more (named_visits words i ys first before) (value_visits value (Ok g.0) more read)
 
-    below_visits : (k : ℕ) → k ≤ places_in w.table → (xs : List Group) (own : List Entry) → ReadsBelow c w k xs own → OnlyVisits w c own
-    below_visits k most xs own none_read = no_more
-    below_visits k most xs own (one_read {p = p} {xs = zs} ys first more before now) =
-        both_visit first more (below_visits p (omega (arith, most)) zs first before) (place_visits p (omega (arith, most)) ys more now)
+    part_visits : (k j : ℕ) (xs : List Group) (own : List Entry) → ReadsPart c w k j xs own → OnlyVisits w c own
+    part_visits k j xs own h = as_visits h.parts
+        (both_visit (run_seen c w k h.words) h.values (run_visits k h.words h.long) (named_visits h.words j xs h.values h.named))
 
-    stopped_visits : (own : List Entry) → StopsReading c w own → OnlyVisits w c own
-    stopped_visits own s =
-        let within = s.within in
-        as_visits s.parts (both_visit s.before s.last (below_visits s.p (omega (arith, within)) s.found s.before s.reads)
-        (end_visits s.p s.within s.last s.ended))
+    end_visits : (k : ℕ) (own : List Entry) → EndsAt c w k own → OnlyVisits w c own
+    end_visits k own table_shut = table_closed
+    end_visits k own (records_shut j value xs first more part within names read) =
+        both_visit first more (part_visits k j xs first part) (value_visits value (Err Closed) more read)
+
+    runs_visits : (k : ℕ) (xs : List Group) (own : List Entry) → ReadsRuns c w k xs own → OnlyVisits w c own
+    runs_visits k xs own no_run = no_more
+    runs_visits k xs own (one_run {k = i} {xs = zs} ys first more before now) =
+        both_visit first more (runs_visits i zs first before) (part_visits i (run_length w.table i) ys more now)
+
+    wants_visits : (own : List Entry) → WantsMemory c w own → OnlyVisits w c own
+    wants_visits own (at_run k j xs ys first more within most before part some) =
+        both_visit first more (runs_visits k xs first before) (part_visits k j ys more part)
+    wants_visits own (at_end xs all h some) = runs_visits (runs_in w.table) xs all h
 
     groups_visit : (r : Result (List Group) Refusal) (own : List Entry) → DoesReadGroups c w r own → OnlyVisits w c own
-    groups_visit (Ok gs) own d = below_visits (places_in w.table) (omega arith) d.1.found own d.1.reads
+    groups_visit (Ok gs) own d = runs_visits (runs_in w.table) d.1.found own d.1.reads
     groups_visit (Err WrongThread) own d = as_visits d.1 no_more
-    groups_visit (Err Closed) own d = stopped_visits own d.1
-    groups_visit (Err Memory) own d = below_visits d.1.p d.1.within d.1.found own d.1.reads
+    groups_visit (Err Closed) own d =
+        let s = d.1 in
+        as_visits s.parts (both_visit s.before s.last (runs_visits s.k s.found s.before s.reads) (end_visits s.k s.last s.ended))
+    groups_visit (Err Memory) own d = wants_visits own d.1
     groups_visit (Err r) own d = absurd d
 
     pub concludes_visit : (end : Result (Unit {0}) Refusal) (r : Result (List Group) Refusal) (own : List Entry) → Concludes w end r c own

@@ -6,7 +6,7 @@ use Rattle.fm_base.specs.{Calls.{Entry}, Histories.{made_by}, Untouched.{ComesIn
 use Rattle.fm_base_lists.proofs.Each.{all_split}
 use Rattle.fm_records.specs.Reads.{read_visit}
 use Rattle.fm_group.specs.{Counting.{DoesCount, EndsTries, FindsClaim, ReadsAndTries, ReadsValue, StopsAt, claim_try, shut, uncounted, unread}, Table.{Counter}, Values.{count_of}}
-use Rattle.fm_group.specs.Reading.{DoesReadGroups, EndsAt, both_seen, records_shut, table_shut}
+use Rattle.fm_group.specs.Reading.{DoesReadGroups, EndsAt, records_shut, table_shut}
 use Rattle.fm_group_laws.specs.Shares.{AreShared, DoesShare, Share}
 use Rattle.fm_group_crew.specs.{Dealt.{dealt}, Ends.{Concludes, first_end}, Grouped.{IsCounted}}
 use Rattle.fm_top_pooled.proofs.Crews.{made_too, not_shut}
@@ -57,13 +57,12 @@ module _ (w : Counter) where
 
     -- ---- a reading
 
-    not_there : (p : ℕ) (own : List Entry) → AllCome own → EndsAt c w p own → ⊥
-    not_there p own come table_shut = not_shut w.table.arena c own [] come.1 refl
-    not_there p own come (records_shut claim count value reads names read) =
-        value_read value reads (come_after own (both_seen c w p claim count) reads refl come) read
+    not_there : (k : ℕ) (own : List Entry) → AllCome own → EndsAt c w k own → ⊥
+    not_there k own come table_shut = not_shut w.table.arena c own [] come.1 refl
+    not_there k own come (records_shut j value xs first more part within names read) = value_read value more (come_after own first more refl come) read
 
     reading_ends : (own : List Entry) → AllCome own → DoesReadGroups c w (Err Closed) own → ⊥
-    reading_ends own come d = not_there d.1.p d.1.last (come_after own d.1.before d.1.last d.1.parts come) d.1.ended
+    reading_ends own come d = not_there d.1.k d.1.last (come_after own d.1.before d.1.last d.1.parts come) d.1.ended
 
   -- ---- all of them
 
