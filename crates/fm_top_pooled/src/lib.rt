@@ -13,7 +13,9 @@ mod stocking;
 mod tallying;
 mod wanting;
 
+pub use finishing::take_apart;
 pub use grouping::{TABLE_LIMIT, VALUES_LIMIT, table_size, values_in};
 pub use pooled::Pooled;
 pub use record_file::RecordFile;
 pub use tallying::COUNTS_SIZE;
+pub use wanting::unless_wanting;

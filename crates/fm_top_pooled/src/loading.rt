@@ -5,9 +5,9 @@ ghost use Rattle.fm_top_load.specs.Reading.{GoesBy, ReadsFurther, portion_limit}
 ghost use Rattle.fm_top_load.specs.Whole.{ByReads, CanRead, IsPortion, TellsLoad};
 ghost use Rattle.fm_top_pooled.specs.Stocked.{HoldsFirst, HoldsWhole, IsStock, LoadsStock, PutsFile, bytes_in_pool};
 
+use crate::finishing::take_apart;
 use crate::record_file::RecordFile;
 use crate::stock::{Stock, stock_of_bytes, stock_of_room};
-use crate::wanting::unless_wanting;
 use fm_arena::Shared;
 use fm_io::Files;
 use fm_segment::Segment;
@@ -199,7 +199,7 @@ fn take_out(alloc: Global, stock: Stock) -> Result<Vec<u8>, AllocError>
         segment,
         ..
     } = stock;
-    let finished = unless_wanting(pool.finish(alloc, pass))?;
+    let finished = take_apart(alloc, pool, pass);
     match finished.bytes_of(alloc, segment.arena()) {
         Ok(Some(mut bytes)) => {
             bytes.truncate(segment.size() as usize);

@@ -117,7 +117,7 @@ impl Pooled {
             ..
         } = self.stock;
         let found = ask(rt, alloc, &pool, &mut pass, &segment, q, threads, gate)?;
-        let finished = finish(alloc, pool, pass, &segment)?;
+        let finished = finish(alloc, pool, pass, &segment);
         Ok((found, finished))
     }
 
@@ -146,7 +146,7 @@ impl Pooled {
         } = self.stock;
         let first = ask(rt, alloc, &pool, &mut pass, &segment, p, threads, gate)?;
         let second = ask(rt, alloc, &pool, &mut pass, &segment, q, threads, gate)?;
-        let finished = finish(alloc, pool, pass, &segment)?;
+        let finished = finish(alloc, pool, pass, &segment);
         Ok((first, second, finished))
     }
 
@@ -178,7 +178,7 @@ impl Pooled {
         let found = count(
             rt, alloc, &pool, &mut pass, &segment, &counts, q, threads, gate,
         )?;
-        let finished = finish(alloc, pool, pass, &segment)?;
+        let finished = finish(alloc, pool, pass, &segment);
         Ok((found, finished))
     }
 
@@ -210,7 +210,7 @@ impl Pooled {
         let places = open_beside(rt, &pool, &mut pass, &segment, table_size(values.len()));
         let table = CountTable::with_order(places, values, PlaceOrder::Mixed);
         let found = group(rt, alloc, &pool, &mut pass, &table, threads, gate)?;
-        let finished = finish(alloc, pool, pass, &segment)?;
+        let finished = finish(alloc, pool, pass, &segment);
         Ok((found, finished))
     }
 }

@@ -10,4 +10,4 @@ ask-requires-clause-even g c κs within =
     subst (λ (n : ℕ). n % c.args.q.now.size ≡ 0) (sym count) c.requires.even
 
 pub returns-clause-shows : goal.returns-clause-shows
-returns-clause-shows g c = shows_query c.args.self.bytes c.in_ok-found.ensures.asked c.in_ok-finished.ensures (ap (λ (v : PooledView). v.bytes) c.self.view_is)
+returns-clause-shows g c = shows_query c.args.self.bytes c.in_ok-found.ensures.asked c.finish-finished.ensures (ap (λ (v : PooledView). v.bytes) c.self.view_is)

@@ -16,4 +16,4 @@ ask-requires-2-clause-even g c κs within =
     subst (λ (n : ℕ). n % c.args.q.now.size ≡ 0) (sym count) c.requires.second_even
 
 pub returns-clause-shows : goal.returns-clause-shows
-returns-clause-shows g c = shows_both c.args.self.bytes c.in_ok-first.ensures.asked c.in_ok-second.ensures.asked c.in_ok-finished.ensures (ap (λ (v : PooledView). v.bytes) c.self.view_is)
+returns-clause-shows g c = shows_both c.args.self.bytes c.in_ok-first.ensures.asked c.in_ok-second.ensures.asked c.finish-finished.ensures (ap (λ (v : PooledView). v.bytes) c.self.view_is)

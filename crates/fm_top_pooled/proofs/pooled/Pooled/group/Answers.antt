@@ -32,4 +32,4 @@ pub returns-clause-shows : goal.returns-clause-shows
 returns-clause-shows g c =
     shows_of c.with_order-table.result.values c.open_beside-places.new.pass c.args.self.bytes
     (ap (λ (w : Counter). w.values) c.with_order-table.ensures ∙ c.of-values.ensures)
-    (c.open_beside-places.ensures.bytes ∙ ap (λ (v : PooledView). v.bytes) c.self.view_is) c.in_ok-found.ensures.read c.in_ok-finished.ensures
+    (c.open_beside-places.ensures.bytes ∙ ap (λ (v : PooledView). v.bytes) c.self.view_is) c.in_ok-found.ensures.read c.finish-finished.ensures

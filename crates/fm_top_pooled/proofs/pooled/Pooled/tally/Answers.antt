@@ -23,5 +23,5 @@ count-requires-clause-can g c κs within =
 
 pub returns-clause-shows : goal.returns-clause-shows
 returns-clause-shows g c =
-    shows_query c.args.self.bytes c.in_ok-found.ensures.asked c.in_ok-finished.ensures
+    shows_query c.args.self.bytes c.in_ok-found.ensures.asked c.finish-finished.ensures
     (c.open_beside-counts.ensures.bytes ∙ ap (λ (v : PooledView). v.bytes) c.self.view_is)
