@@ -1,7 +1,8 @@
 -- What a crew answered over a segment, and what its drawer put beside that.
-use Rattle.std.proofs.Common.{◌≡◌, ◌≢◌, ℕ, ◌+◌, ◌<◌, ◌≤◌, List, length, Option, Some, Result, Ok, Err, refl, ap, sym, ◌∙◌, subst}
+use Rattle.std.proofs.Common.{◌≡◌, ◌≢◌, ℕ, ◌+◌, ◌%◌, ◌<◌, ◌≤◌, List, length, Option, Some, Result, Ok, Err, refl, ap, sym, ◌∙◌, subst}
 use Rattle.std.specs.{Prelude.{IfErr, IfOk}, Result.{result_err}}
 use Rattle.fm_base.specs.{declared.{arena_id.ArenaId.{ArenaId}, caller.Caller.{Caller}, refusal.Refusal.{Refusal}}, Calls.{Entry}}
+use Rattle.fm_base.specs.declared.refusal.Refusal.TheVariants as refusal
 use Rattle.fm_gate.specs.Needs.{IsOutside}
 use Rattle.fm_io.specs.View.{FilesView}
 use Rattle.fm_records_query.specs.Plan.{Plan}
@@ -11,12 +12,12 @@ use Rattle.fm_rule.specs.declared.pool.Pool.{Pool}
 use Rattle.fm_segment.specs.Region.{Region}
 use Rattle.fm_workers.specs.Beside.{AskedBeside}
 use Rattle.fm_top_load.specs.{declared.{load_fault.LoadFault.{LoadFault, TheVariants.{Memory, Refused}}, reached.Reached.{Reached}, room.Room.TheVariants.{Given}}}
-use Rattle.fm_top_load.specs.{Putting.{DoesPutStretch, StopsPutting}, Reading.{GoesBy, ReadsFurther}, Whole.{ByPuts, ByReads, TellsLoad}}
+use Rattle.fm_top_load.specs.{Putting.{ArePut, DoesPutStretch, StopsPutting}, Reading.{GoesBy, ReadsFurther}, Whole.{ByPuts, ByReads, TellsLoad}}
 use Rattle.fm_top_load.proofs.{Portions.{further_says}, Telling.{read_quietly, tells_memory, tells_of}}
 use Rattle.fm_top_pooled.proofs.Filed.{by_reads}
 use Rattle.fm_top_stream.specs.declared.{ahead.Ahead.{Ahead}, placed.Placed.{Placed}, putting.Putting.{Putting}}
-use Rattle.fm_top_stream.specs.{Ahead.{AsksAhead, IsBoth, IsFollowed, IsNeither, PutsAhead, WasTried}, Steps.{AnswersBeside}}
-use Rattle.fm_top_stream.proofs.{Refusing.{never_refused}, Rounds.{AwaitsBeside, answered_beside}}
+use Rattle.fm_top_stream.specs.{Ahead.{AsksAhead, IsBoth, IsFollowed, IsNeither, PutsAhead, WantsMemory, WasTried}, Steps.{AnswersBeside}}
+use Rattle.fm_top_stream.proofs.{Refusing.{never_refused, wants_beside}, Rounds.{AwaitsBeside, answered_beside}}
 
 -- There is one answer.
 put_same : {old new : FilesView} {x y : Putting} {c : Caller} {own other : List Entry} (puts : PutsAhead old new x y c own) (h : PutsAhead old new x y c other)
@@ -86,3 +87,16 @@ module _ {m q : View} {s : Region} {plan : Plan} {threads : ℕ} {old new : File
   -- It was tried.
   pub was_tried : WasTried y
   was_tried = record { put = asked.crew.acts.put; is = asked.crew.acts.is }
+
+  -- Once it was put, nothing but memory was wanting to the answer.
+  pub answer_wants : {passes most : ℕ} {pool : Pool} {p : View} → AwaitsBeside passes most pool p m s x.arena → s.size % plan.size ≡ 0 → WantsMemory answer y
+  answer_wants w even chunk put = wants answer asked
+    where
+      are_put : (own : List Entry) → PutsAhead old new x y m.caller own → (bytes : List ℕ) × ArePut m.caller (Given x.arena) bytes own
+      are_put own h =
+          let puts = subst (λ (e : Result Reached LoadFault). DoesPutStretch x.stretch old.holds m.caller (Given x.arena) x.portion e own) (put_is h chunk put) h.does in
+          (puts.bytes, puts.put)
+
+      wants : (a : Result (List Found) Refusal) → AskedBeside (PutsAhead old new x y m.caller) threads m q plan s a → IfErr a (λ r. r ≡ refusal.Memory)
+      wants (Ok a) asks = tt
+      wants (Err r) asks = wants_beside w r asks even are_put

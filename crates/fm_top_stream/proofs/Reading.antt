@@ -1,5 +1,6 @@
 -- A crew that answers a query over a segment changes no arena's life nor words.
-use Rattle.std.proofs.Common.{◌≡◌, ◌≢◌, ℕ, ◌%◌, List, [], ◌∷◌, ◌++◌, Result, Ok, Err, refl, ap, sym, ◌∙◌, subst, ⊎_elim, arith}
+use Rattle.std.proofs.Common.{◌≡◌, ℕ, ◌%◌, List, [], ◌∷◌, ◌++◌, Result, Ok, Err, refl, ap, sym, ◌∙◌, subst, inl, inr, ⊎_elim, arith}
+use Rattle.std.specs.Prelude.{◌⊎◌}
 use Rattle.fm_base.specs.declared.{arena_id.ArenaId.{ArenaId}, caller.Caller.{Caller}, refusal.Refusal.{Refusal, TheVariants.{Memory, NoPass}}}
 use Rattle.fm_base.specs.Arenas.{Arena, State, arena_of, changed}
 use Rattle.fm_base.specs.{Calls.{Call, Closed, Enter, Entry, Fine, Found, Given, Held, Leave, NoRoom, Read, Reply, TooManyHolds}, Histories.{state_after}}
@@ -16,6 +17,7 @@ use Rattle.fm_top_load.proofs.Holding.{changed_names}
 use Rattle.fm_top_pooled.specs.{Shown.{AsksWord, IsReadByOther}, Stocked.{IsAlone, IsStockedOf, bytes_in_pool}}
 use Rattle.fm_top_pooled.proofs.{Crews.{AllTouch, Touches, bytes_stay, stocked_still}, Shows.{NoneMayAdd, answers, read_in, touch, wants, was_asked}}
 use Rattle.fm_workers.specs.Query.{QueriedWith}
+use Rattle.fm_workers_crew.specs.Crew.{AreTooMany}
 use Rattle.fm_top_stream.{specs.Steps.{Answers, GoesOn, Stand}, proofs.Going.{goes_here, goes_then}}
 
 -- ---- the arenas
@@ -122,7 +124,8 @@ module _ {passes : ℕ} {pool : Pool} {p m q : View} {s : Region} {plan : Plan} 
             (read_in asks.more (m.seen ++ asks.more) s.arena word (λ e i. among_right e m.seen asks.more i) (asks.read word was));
       }
 
-  -- Memory is wanting, or a pass.
-  pub wanting : (r : Refusal) → QueriedWith threads m q plan s (Err r) → s.size % plan.size ≡ 0 → r ≢ NoPass → r ≡ Memory
-  wanting r queried even other =
-      ⊎_elim (λ (e : r ≡ Memory). e) (λ t. absurd (other t.0)) (wants w.stocked (queried.still_sound w.goes.alone.sound) (Err r) queried even)
+  -- A pass is wanting, or memory.
+  pub wanting : (r : Refusal) → QueriedWith threads m q plan s (Err r) → s.size % plan.size ≡ 0 → (r ≡ NoPass) ⊎ (r ≡ Memory)
+  wanting r queried even =
+      ⊎_elim (λ (e : r ≡ Memory). inr e) (λ (t : (r ≡ NoPass) × AreTooMany m threads). inl t.0)
+      (wants w.stocked (queried.still_sound w.goes.alone.sound) (Err r) queried even)

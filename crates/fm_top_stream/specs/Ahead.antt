@@ -2,6 +2,7 @@
 use Rattle.std.specs.{Prelude.{◌≡◌, ◌≢◌, ℕ, ◌+◌, ◌%◌, ◌<◌, ◌≤◌, ◌^◌, List, length, Option, Some, Result, Ok, IfErr, IfOk, IfSome}, Result.{result_err}}
 use Rattle.std.proofs.Math.Nat.{le_trans}
 use Rattle.fm_base.specs.{declared.{arena_id.ArenaId.{ArenaId}, caller.Caller.{Caller}, refusal.Refusal.{Refusal}}, Calls.{Entry}}
+use Rattle.fm_base.specs.declared.refusal.Refusal.TheVariants as refusal
 use Rattle.fm_io.specs.{Files.{Contents}, Reads.{Next}, View.{FilesView}}
 use Rattle.fm_records_query.specs.Plan.{Plan}
 use Rattle.fm_records.specs.declared.found.Found.{Found}
@@ -75,6 +76,10 @@ IsFollowed at next n = IfSome next (λ x. GoesBy x.chunk.ended (at + x.chunk.cou
 pub record WasTried (x : Putting) : Type 0 where
   pub put : Result Reached LoadFault
   pub is : x.put ≡ Some put
+
+-- once the stretch was put, nothing but memory was wanting to the answer
+abbrev pub WantsMemory : Result (List Found) Refusal → Putting → Type 0
+WantsMemory answer x = (chunk : Reached) → x.put ≡ Some (Ok chunk) → IfErr answer (λ r. r ≡ refusal.Memory)
 
 -- both came to something
 pub record IsBoth (v : View) (answer : Result (List Found) Refusal) (x : Putting) (r : Ahead) : Type 0 where

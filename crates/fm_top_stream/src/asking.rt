@@ -1,9 +1,9 @@
-ghost use Rattle.std.specs.Prelude.{◌≡◌, ◌+◌, ◌%◌, ◌<◌, ◌≤◌, length, IfErr, IfOk};
+ghost use Rattle.std.specs.Prelude.{◌≡◌, ◌+◌, ◌%◌, ◌<◌, ◌≤◌, ◌⊎◌, length, IfErr, IfOk};
 ghost use Rattle.std.specs.Result.{result_err};
 ghost use Rattle.fm_top_load.specs.Reading.{GoesBy, ReadsFurther};
 ghost use Rattle.fm_top_load.specs.Whole.{ByReads, TellsLoad};
 ghost use Rattle.fm_top_pooled.specs.Stocked.{IsAlone, IsStockedOf};
-ghost use Rattle.fm_top_stream.specs.Ahead.{AsksAhead, CanAskBeside, IsBoth, IsFollowed, IsNeither, WasTried};
+ghost use Rattle.fm_top_stream.specs.Ahead.{AsksAhead, CanAskBeside, IsBoth, IsFollowed, IsNeither, WantsMemory, WasTried};
 ghost use Rattle.fm_top_stream.specs.Steps.{Answers};
 
 use crate::ahead::Ahead;
@@ -16,6 +16,7 @@ use fm_records::Answer;
 use fm_rule::Pass;
 use fm_segment::Segment;
 use fm_top_load::LoadFault;
+use fm_top_pooled::unless_wanting;
 use fm_workers::{query_beside, query_with};
 use std::alloc::AllocError;
 use std::sync::Wait;
@@ -49,9 +50,7 @@ pub(crate) fn ask<R: Threads + Wait + Sync, G: Gate>(
             crew.gate,
         ) {
             Ok(answer) => return Ok(answer),
-            Err(Refusal::NoPass) => thread::yield_now(),
-            // The arena is alive and shared, and the records are whole.
-            Err(_) => return Err(AllocError),
+            Err(refusal) => wait_for_pass(refusal)?,
         }
     }
     unreachable!()
@@ -91,13 +90,32 @@ pub(crate) fn ask_beside<R: Threads + Wait + Sync, F: Files, G: Gate>(
         );
         match asked {
             Ok(answer) => return join_both(back, answer, putting),
-            Err(Refusal::NoPass) => thread::yield_now(),
-            // The arena is alive and shared, and the records are whole.
-            Err(_) => return Err(LoadFault::Memory),
+            Err(refusal) => {
+                let Ok(()) = wait_for_pass(refusal) else {
+                    return Err(LoadFault::Memory);
+                };
+            }
         }
         pass = back;
     }
     unreachable!()
+}
+
+/// Lets others run, where a crew was refused for want of a number. Else it was for want of memory.
+fn wait_for_pass(refusal: Refusal) -> Result<(), AllocError>
+    requires { (refusal ≡ Refusal.NoPass) ⊎ (refusal ≡ Refusal.Memory) }
+    ensures pass { IfOk result (λ _. refusal ≡ Refusal.NoPass) }
+    ensures memory { IfErr result (λ _. refusal ≡ Refusal.Memory) }
+{
+    match refusal {
+        Refusal::NoPass => {
+            thread::yield_now();
+            Ok(())
+        }
+        Refusal::Memory => Err(AllocError),
+        // The arena is alive and shared, and the records are whole.
+        _ => unreachable!(),
+    }
 }
 
 /// What was answered, and what was put beside it. A read's fault goes before want of memory at the query.
@@ -106,7 +124,8 @@ fn join_both(
     answer: Result<Answer, Refusal>,
     putting: Putting<'_>,
 ) -> Result<Ahead, LoadFault>
-    requires { WasTried putting }
+    requires tried { WasTried putting }
+    requires wanting { WantsMemory answer putting }
     ensures both { IfOk result (IsBoth pass answer putting.entry) }
     ensures neither { IfErr result (IsNeither putting.entry) }
 {
@@ -122,14 +141,14 @@ fn join_both(
         // The crew was drawn, so it was tried.
         None => unreachable!(),
     };
-    match answer {
+    // Nobody shut the segment's arena meanwhile.
+    match unless_wanting(answer) {
         Ok(answer) => Ok(Ahead {
             pass,
             answer,
             portion,
             next: Some(Placed { arena, chunk }),
         }),
-        // So is the segment's.
         Err(_) => Err(LoadFault::Memory),
     }
 }

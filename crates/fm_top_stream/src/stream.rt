@@ -13,6 +13,7 @@ use fm_records::Answer;
 use fm_records_query::Query;
 use fm_rule::{Finished, Pool};
 use fm_top_load::{LoadFault, Portion};
+use fm_top_pooled::take_apart;
 use std::alloc::Global;
 use std::sync::Wait;
 use std::thread::Threads;
@@ -64,8 +65,6 @@ pub fn stream_with<R: Threads + Wait + Sync, F: Files, G: Gate>(
         Ok(gone) => gone,
         Err(fault) => return Err(fault),
     };
-    match pool.finish(alloc, gone.pass) {
-        Ok(finished) => Ok((gone.answer, finished)),
-        Err(_) => Err(LoadFault::Memory),
-    }
+    let finished = take_apart(alloc, pool, gone.pass);
+    Ok((gone.answer, finished))
 }

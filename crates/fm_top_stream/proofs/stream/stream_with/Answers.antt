@@ -10,11 +10,11 @@ go_through-requires-clause-can g c κs within =
     can_go c.in-Ok.pool c.in-Ok.pass c.chunk_bytes.result c.requires c.chunk_bytes.ensures.sized (made.pool ∙ c.shape_of.ensures.is)
     (made.pass ∙ ap (first_pass (numbers_of c.in-Ok.pool.table.shared.table_id)) c.shape_of.ensures.is) made.sound c.chunk_bytes.ensures.is
 
-pub returns-in-Ok-finish-clause-streams : goal.returns-in-Ok-finish-clause-streams
-returns-in-Ok-finish-clause-streams g c =
+pub returns-clause-streams : goal.returns-clause-streams
+returns-clause-streams g c =
     let most = c.chunk_bytes.ensures in
     streamed c.chunk_bytes.result most.is (subst (λ n. 0 < n) (sym most.is) (some_in_chunk c.args.q.now.size most.sized c.requires.small))
-    (c.in-Ok.ensures.pool ∙ c.shape_of.ensures.is) c.in-Ok-go_through.ensures.goes c.in-Ok-finish.ensures.finishes
+    (c.in-Ok.ensures.pool ∙ c.shape_of.ensures.is) c.in-Ok-go_through.ensures.goes c.take_apart-finished.ensures
 
 pub returns-in_default-clause-tells : goal.returns-in_default-clause-tells
 returns-in_default-clause-tells g c = tells_no_memory (g.F.Files.view c.args.files.now) tt
@@ -22,8 +22,5 @@ returns-in_default-clause-tells g c = tells_no_memory (g.F.Files.view c.args.fil
 pub returns-in_default-none-clause-tells : goal.returns-in_default-none-clause-tells
 returns-in_default-none-clause-tells g c = tells_no_memory (g.F.Files.view c.args.files.now) tt
 
-pub returns-in-Ok-finish-clause-tells : goal.returns-in-Ok-finish-clause-tells
-returns-in-Ok-finish-clause-tells g c = tells_none (read_quietly c.in-Ok-go_through.ensures.tells)
-
-pub returns-in-Err-finish-clause-tells : goal.returns-in-Err-finish-clause-tells
-returns-in-Err-finish-clause-tells g c = tells_memory tt (read_quietly c.in-Ok-go_through.ensures.tells)
+pub returns-clause-tells : goal.returns-clause-tells
+returns-clause-tells g c = tells_none (read_quietly c.in-Ok-go_through.ensures.tells)
