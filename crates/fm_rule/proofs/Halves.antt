@@ -8,9 +8,8 @@ use Rattle.fm_rule_facts.specs.{declared.step.Step.TheVariants.{Looks}, Views.{M
 use Rattle.fm_rule_facts.specs.Splits.{drawn_left, drawn_right, as_gathered, gather, IsAtRest, caller_or}
 use Rattle.fm_rule_facts.specs.{Hands.{no_number, number_drawn, number_of_joined, last_term}, Steps.{part, entries, noted}, Facts.{Begins}}
 use Rattle.fm_rule_facts.{specs.Moves.{Gives, Tells}, proofs.Keeping.{none_added, in_left, in_right}}
-use Rattle.fm_rule.{specs.{declared.pass.Part.{Part}, Views.{homed, no_part, IsKept, Keeps}}, proofs.{Allowed.{sound_with, sound_homed, all_of_in}, Keeping.{part_on}}}
+use Rattle.fm_rule.{specs.{declared.pass.Part.{Part}, Views.{homed, no_part, Keeps}}, proofs.{Allowed.{sound_with, sound_homed, all_of_in}, Keeping.{stands_on, stands_none}}}
 use Rattle.fm_rule.specs.{Draws.{CanGather, Gathers, GivesBack}, declared.pool.Pool.{Pool}}
-use Rattle.fm_words.specs.declared.shape.Shape.{Shape}
 
 -- ---- the drawer and the new pass
 
@@ -67,14 +66,14 @@ right_sound v c e s =
 abbrev Held : Type 0
 Held = List (ℕ × Unit {0})
 
-pub left_keeps : (c : Caller) (i : Option ArenaId) (part' : Part) (count : ℕ) (v : View) (held : Held) → v.whole ≡ false → Keeps c i part' count (v, held)
+pub left_keeps : (c : Caller) (i : Option ArenaId) (part' : Part × Part) (count : ℕ) (v : View) (held : Held) → v.whole ≡ false → Keeps c i part' count (v, held)
     → Keeps c i part' count (drawn_left v, held)
 left_keeps c i part' count v held w k = record {
   live = k.live;
   caller = k.caller;
   inside = k.inside;
-  part_is = λ l. part_on v (drawn_left v) part' refl (λ x j. j) (k.part_is l);
-  kept = k.kept;
+  last = stands_on v (drawn_left v) part'.0 refl (λ x j. j) k.last;
+  other = stands_on v (drawn_left v) part'.1 refl (λ x j. j) k.other;
   met = k.met;
   counted = k.counted;
   sound = left_sound v w k.sound;
@@ -82,13 +81,13 @@ left_keeps c i part' count v held w k = record {
 }
 
 pub right_keeps : (c : Caller) (v : View) → v.number ≡ number_drawn c → IsSound v
-    → Keeps c None no_part 0 (drawn_right v, [])
+    → Keeps c None (no_part, no_part) 0 (drawn_right v, [])
 right_keeps c v e s = record {
   live = refl;
   caller = ap caller_or (sym e);
   inside = refl;
-  part_is = λ l. absurd (omega arith);
-  kept = λ l. absurd (omega arith);
+  last = stands_none (drawn_right v);
+  other = stands_none (drawn_right v);
   met = refl;
   counted = refl;
   sound = right_sound v c e s;
@@ -182,7 +181,7 @@ module _ (v o u w : View) (x : ℕ) (is : u ≡ gather v o) (met : v.met ≡ [])
       ap (λ (gs : List Gathered). length gs) gathered_is ∙ length-append v.gathered (as_gathered o ∷ o.gathered) in
       omega arith
 
-  pub gather_keeps : (c : Caller) (i : Option ArenaId) (part' : Part) (count more : ℕ) (held held' : Held) → Keeps c i part' count (v, held)
+  pub gather_keeps : (c : Caller) (i : Option ArenaId) (part' : Part × Part) (count more : ℕ) (held held' : Held) → Keeps c i part' count (v, held)
       → more ≡ length o.gathered → held' ≡ held → Keeps c i part' (count + 1 + more) (w, held')
   gather_keeps c i part' count more held held' k m e =
       let g = told_of in
@@ -195,8 +194,8 @@ module _ (v o u w : View) (x : ℕ) (is : u ≡ gather v o) (met : v.met ≡ [])
         live = ap (λ (y : View). y.live) g.is ∙ k.live;
         caller = k.caller ∙ sym (ap (λ (y : View). y.caller) g.is);
         inside = k.inside ∙ sym inside;
-        part_is = λ l. part_on v w part' shape (λ x j. subst (In x) (sym (ap (λ (y : View). y.reads) g.is)) j) (k.part_is l);
-        kept = λ l. subst (λ (z : Shape). IsKept z part') (sym shape) (k.kept l);
+        last = stands_on v w part'.0 shape (λ x j. subst (In x) (sym (ap (λ (y : View). y.reads) g.is)) j) k.last;
+        other = stands_on v w part'.1 shape (λ x j. subst (In x) (sym (ap (λ (y : View). y.reads) g.is)) j) k.other;
         met = ap (λ (y : View). y.met) g.is;
         counted = (let a = count_is in let b = long in omega arith);
         sound = g.sound;

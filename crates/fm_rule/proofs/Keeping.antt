@@ -1,12 +1,12 @@
 -- What a pass keeps over each step.
-use Rattle.std.proofs.Common.{◌≡◌, ◌==◌, if◌then◌else◌, Bool, false, ◌∷◌, ◌++◌, ne_eqb, ℕ, zero, suc, ◌+◌, ◌-◌, ◌*◌, ◌<◌, inl, arith, subst, List, [], length, Option, None, sym, refl, ap, ◌∙◌}
+use Rattle.std.proofs.Common.{◌≡◌, ◌==◌, if◌then◌else◌, Bool, true, false, ◌∷◌, ◌++◌, ne_eqb, ℕ, zero, suc, ◌+◌, ◌-◌, ◌*◌, ◌<◌, inl, inr, arith, subst, List, [], length, Option, None, sym, refl, ap, ◌∙◌}
 use Rattle.std.proofs.lemmas.List.{append-nil}
 use Rattle.atomic_table.specs.declared.shared.Seat.{Seat}
 use Rattle.fm_words.specs.{declared.shape.Shape.{Shape}, Maps.{map_word}, Places.{at, page_word}}
 use Rattle.fm_base.specs.{Arenas.{only_caller}, Calls.{Entry}, Finds.{Find, Gathered}, declared.{caller.Caller.{Caller}, arena_id.ArenaId.{ArenaId}}}
 use Rattle.fm_rule_facts.specs.{declared.step.Step.{Step, TheVariants.{Checks, Unmarks, ReadsMap}}, Views.{View, In, IsSound, brought}, Splits.{first_view}}
 use Rattle.fm_rule_facts.specs.{Words.{alive_holds, inside_found}, Steps.{part}, Parts.{Mapping, mapping_of, reads_after}, Moves.{Same, Gives}}
-use Rattle.fm_rule.{specs.{declared.{pass.Part.{Part}, seen.Seen.{Seen}}, Acts.{Acted}, Views.{IsPart, IsKept, Keeps, no_part}}, proofs.Allowed.{StaysInside, leaves}}
+use Rattle.fm_rule.{specs.{declared.{pass.Part.{Part}, seen.Seen.{Seen}}, Acts.{Acted}, Views.{IsPart, IsKept, Stands, Keeps, no_part}}, proofs.Allowed.{StaysInside, leaves}}
 
 -- after a step that leaves the arena that it is inside
 pub part_on : (v w : View) (part : Part) → w.shape ≡ v.shape → ((x : Mapping) → In x v.reads → In x w.reads) → IsPart v part → IsPart w part
@@ -19,19 +19,36 @@ part_on v w part sh more k = record {
   from = k.from ∙ ap (λ (z : Shape). at z (page_word k.mapping.page 0)) (sym sh);
 }
 
-module _ {c : Caller} {i : Option ArenaId} {known : Part} {count : ℕ} where
+pub stands_on : (v w : View) (part : Part) → w.shape ≡ v.shape → ((x : Mapping) → In x v.reads → In x w.reads) → Stands v part → Stands w part
+stands_on v w part sh more s = record {
+  known = λ l. part_on v w part sh more (s.known l);
+  kept = λ l. subst (λ (z : Shape). IsKept z part) (sym sh) (s.kept l);
+}
+
+-- no part, and one that isn't known in this visit
+pub stands_none : (v : View) → Stands v no_part
+stands_none v = record { known = λ l. absurd (omega arith); kept = λ l. absurd (omega arith) }
+
+stands_off : (v w : View) (part : Part) → w.shape ≡ v.shape → Stands v part → Stands w (record part { words = 0 })
+stands_off v w part sh s = record {
+  known = λ l. absurd (omega arith);
+  kept = λ l. subst (λ (z : Shape). IsKept z (record part { words = 0 })) (sym sh) (let h = s.kept l in
+  record { page = h.page; word = h.word; from = h.from; size = h.size; first = h.first; word_at = h.word_at; low = h.low });
+}
+
+module _ {c : Caller} {i : Option ArenaId} {known : Part × Part} {count : ℕ} where
   -- what it keeps, by where it is inside and the part that it knows then
-  keeps_as : {v p w : View} {es : List Entry} {fs : ℕ → List Find} {held held' : List (ℕ × Unit {0})} {i' : Option ArenaId} {known' : Part}
+  keeps_as : {v p w : View} {es : List Entry} {fs : ℕ → List Find} {held held' : List (ℕ × Unit {0})} {i' : Option ArenaId} {known' : Part × Part}
       → Keeps c i known count (v, held) → Same v (record p { whole = v.whole }) → Gives v p es fs w → held' ≡ held → i' ≡ p.inside
-      → (0 < known'.words → IsPart w known') → (0 < known'.size → IsKept v.shape known') → Keeps c i' known' count (w, held')
-  keeps_as {known' = known'} k s g e inside part kept =
+      → Stands w known'.0 → Stands w known'.1 → Keeps c i' known' count (w, held')
+  keeps_as k s g e inside last other =
       let gathered = ap (λ (x : View). x.gathered) g.is ∙ (λ j. s.gathered j ++ brought ((s.met ∙ k.met) j)) in
       record {
         live = ap (λ (x : View). x.live) g.is ∙ (s.live ∙ k.live);
         caller = k.caller ∙ sym (ap (λ (x : View). x.caller) g.is ∙ s.caller);
         inside = inside ∙ sym (ap (λ (x : View). x.inside) g.is);
-        part_is = part;
-        kept = λ l. subst (λ (z : Shape). IsKept z known') (sym (ap (λ (x : View). x.shape) g.is ∙ s.shape)) (kept l);
+        last = last;
+        other = other;
         met = ap (λ (x : View). x.met) g.is;
         counted = k.counted ∙ ap (λ (gs : List Gathered). length gs) (sym (gathered ∙ append-nil _));
         sound = g.sound;
@@ -41,9 +58,11 @@ module _ {c : Caller} {i : Option ArenaId} {known : Part} {count : ℕ} where
   pub keeps_on : {v p w : View} {es : List Entry} {fs : ℕ → List Find} {held held' : List (ℕ × Unit {0})}
       → Keeps c i known count (v, held) → Same v (record p { whole = v.whole }) → p.inside ≡ v.inside → ((x : Mapping) → In x v.reads → In x p.reads)
       → Gives v p es fs w → held' ≡ held → Keeps c i known count (w, held')
-  keeps_on {v = v} {w = w} k s ins more g e = keeps_as k s g e (k.inside ∙ sym ins)
-      (λ l. part_on v w known (ap (λ (x : View). x.shape) g.is ∙ s.shape)
-      (λ x j. subst (In x) (sym (ap (λ (u : View). u.reads) g.is)) (more x j)) (k.part_is l)) k.kept
+  keeps_on {v = v} {w = w} k s ins more g e =
+      let shape = ap (λ (x : View). x.shape) g.is ∙ s.shape in
+      keeps_as k s g e (k.inside ∙ sym ins)
+      (stands_on v w known.0 shape (λ x j. subst (In x) (sym (ap (λ (u : View). u.reads) g.is)) (more x j)) k.last)
+      (stands_on v w known.1 shape (λ x j. subst (In x) (sym (ap (λ (u : View). u.reads) g.is)) (more x j)) k.other)
 
   module _ {old new : Seat (Unit {0}) Seen} {x : ℕ} (k : Keeps c i known count old.me) where
     -- a step that leaves it inside what it was inside
@@ -53,31 +72,40 @@ module _ {c : Caller} {i : Option ArenaId} {known : Part} {count : ℕ} where
 
     -- where it is inside, and that no part is known there
     pub check_keeps : {a : ArenaId} {i' : Option ArenaId} → Acted old new (Checks a) x → i' ≡ inside_found a (alive_holds a x)
-        → Keeps c i' (record known { words = 0 }) count new.me
+        → Keeps c i' (record known.0 { words = 0 }, record known.1 { words = 0 }) count new.me
     unfolding part
-    check_keeps {a = a} t ins = keeps_as k (leaves (Checks a) old.me.0 x).same t.tells.gives t.slots ins (λ l. absurd (omega arith))
-        (λ l. let h = k.kept l in
-        record { page = h.page; word = h.word; from = h.from; size = h.size; first = h.first; word_at = h.word_at; low = h.low })
+    check_keeps {a = a} t ins =
+        let g = t.tells.gives in
+        keeps_as k (leaves (Checks a) old.me.0 x).same g t.slots ins
+        (stands_off old.me.0 new.me.0 known.0 (ap (λ (u : View). u.shape) g.is) k.last)
+        (stands_off old.me.0 new.me.0 known.1 (ap (λ (u : View). u.shape) g.is) k.other)
 
     pub unmark_keeps : Acted old new Unmarks x → Keeps c None known count new.me
     unfolding part
     unmark_keeps t =
         let g = t.tells.gives in
         keeps_as k (leaves Unmarks old.me.0 x).same g t.slots refl
-        (λ l. part_on old.me.0 new.me.0 known (ap (λ (u : View). u.shape) g.is)
-        (λ y j. subst (In y) (sym (ap (λ (u : View). u.reads) g.is)) j) (k.part_is l)) k.kept
+        (stands_on old.me.0 new.me.0 known.0 (ap (λ (u : View). u.shape) g.is) (λ y j. subst (In y) (sym (ap (λ (u : View). u.reads) g.is)) j) k.last)
+        (stands_on old.me.0 new.me.0 known.1 (ap (λ (u : View). u.shape) g.is) (λ y j. subst (In y) (sym (ap (λ (u : View). u.reads) g.is)) j) k.other)
 
     -- a part is known by what was read last
     pub read_map_keeps : {a : ArenaId} {b : ℕ} (z : Shape) (now : Part) → Acted old new (ReadsMap a b) x → old.me.0.shape ≡ z
         → (x ≡ 0 → now.words ≡ 0)
         → ((p : ℕ) → x ≡ map_word p → (now.first ≡ b * z.page_words) × (now.words ≡ z.page_words) × (now.from ≡ at z (page_word p 0)))
-        → (0 < now.size → IsKept z now)
-        → Keeps c i now count new.me
+        → (0 < now.size → IsKept z now) → (other : Part) → Stands old.me.0 other
+        → Keeps c i (now, other) count new.me
     unfolding part map_word
-    read_map_keeps {a = a} {b = b} z now t sh none some kept =
-        keeps_as k (leaves (ReadsMap a b) old.me.0 x).same t.tells.gives t.slots k.inside (go x refl)
-        (λ l. subst (λ (y : Shape). IsKept y now) (sym sh) (kept l))
+    read_map_keeps {a = a} {b = b} z now t sh none some kept other stands =
+        let g = t.tells.gives in
+        keeps_as k (leaves (ReadsMap a b) old.me.0 x).same g t.slots k.inside
+        (record { known = go x refl; kept = λ l. subst (λ (y : Shape). IsKept y now) (sym (ap (λ (u : View). u.shape) g.is ∙ sh)) (kept l) })
+        (stands_on old.me.0 new.me.0 other (ap (λ (u : View). u.shape) g.is)
+        (λ m j. subst (In m) (sym (ap (λ (u : View). u.reads) g.is)) (reads_keep (x == 0) m (mapping_of b (x - 1)) old.me.0.reads j)) stands)
       where
+        reads_keep : (r : Bool) (m n : Mapping) (ms : List Mapping) → In m ms → In m (if r then ms else n ∷ ms)
+        reads_keep true m n ms j = j
+        reads_keep false m n ms j = inr j
+
         -- a word that isn't 0 adds its page
         read_adds : (b p x : ℕ) (ms : List Mapping) → x ≡ suc p → In (mapping_of b p) (reads_after b x ms)
         read_adds b p x ms e =
@@ -102,13 +130,13 @@ module _ {c : Caller} {i : Option ArenaId} {known : Part} {count : ℕ} where
             }
 
 -- a new pool's first pass
-pub first_keeps : (z : Shape) → IsSound (first_view z) → Keeps only_caller None no_part 0 (first_view z, [])
+pub first_keeps : (z : Shape) → IsSound (first_view z) → Keeps only_caller None (no_part, no_part) 0 (first_view z, [])
 first_keeps z sound = record {
   live = refl;
   caller = refl;
   inside = refl;
-  part_is = λ l. absurd (omega arith);
-  kept = λ l. absurd (omega arith);
+  last = stands_none (first_view z);
+  other = stands_none (first_view z);
   met = refl;
   counted = refl;
   sound = sound;

@@ -66,7 +66,7 @@ pub record IsOpen (pool : Pool) (now : View) (seat : Seat (Unit {0}) Seen) : Typ
   pub live : seat.me.0.live ≡ true
   pub met : seat.me.0.met ≡ []
 
-module _ {now : View} {c : Caller} {i : Option ArenaId} {part : Part} {count : ℕ} where
+module _ {now : View} {c : Caller} {i : Option ArenaId} {part : Part × Part} {count : ℕ} where
   pub sees : {z : Shape} {home : List ℕ} {me : Me (Unit {0}) View} → homed home me.0 ≡ now → now.shape ≡ z → Keeps c i part count me
       → Sees z now home me.0
   sees is of k = record { is = is; of = of; sound = k.sound }
@@ -157,7 +157,7 @@ module _ {z : Shape} {now : View} {home : List ℕ} {v : View} (k : Sees z now h
   group_in_sweep {p = p} e = page_group z p (page_in_sweep e)
 
 -- what an open pass knows of an arena: its slot and its owner are the pool's
-module _ {z : Shape} {now : View} {home : List ℕ} {c : Caller} {i : Option ArenaId} {part : Part} {count : ℕ} {me : Me (Unit {0}) View} (a : ArenaId) where
+module _ {z : Shape} {now : View} {home : List ℕ} {c : Caller} {i : Option ArenaId} {part : Part × Part} {count : ℕ} {me : Me (Unit {0}) View} (a : ArenaId) where
   pub known_slot : homed home me.0 ≡ now → now.shape ≡ z → Keeps c i part count me → IsKnown now a → a.slot < z.slots
   known_slot is of k known = (fits (sees is of k) a known).slot
 

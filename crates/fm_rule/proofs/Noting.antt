@@ -33,7 +33,7 @@ meet_stepped now v n u w home home' x is stays m e t =
     subst (λ (y : View × List ℕ). Stepped y.0 (homed y.1 w) y.0 [] none_noted) (λ j. (is j, sym stays j))
     (stepped home v v w [] none_noted (all_same v) m (met_gives v n w x (subst (λ (y : View). Tells Looks y x w) e t)))
 
-pub meet_keeps : {c : Caller} {i : Option ArenaId} {part' : Part} {count : ℕ} {v u w : View} {held held' : List (ℕ × Unit {0})} {x : ℕ} (n : View)
+pub meet_keeps : {c : Caller} {i : Option ArenaId} {part' : Part × Part} {count : ℕ} {v u w : View} {held held' : List (ℕ × Unit {0})} {x : ℕ} (n : View)
     → Keeps c i part' count (v, held)
     → u ≡ met v n → Tells Looks u x w → held' ≡ held → Keeps c i part' count (w, held')
 meet_keeps {v = v} {w = w} {x = x} n k e t h =

@@ -8,9 +8,9 @@ use Rattle.atomic_table.specs.Table.{Me}
 use Rattle.fm_rule.{specs.{declared.pass.Part.{Part}, Views.{homed, IsKept, HasPart, Keeps}, Placing.{FindsPlace}}, proofs.Knowing.{page_word_from, sees, shape_is, words_small}}
 
 -- the part that a pass keeps is one of its pool
-pub kept_here : {z : Shape} {now : View} {home : List ℕ} {c : Caller} {i : Option ArenaId} {part : Part} {count : ℕ} {me : Me (Unit {0}) View} (word : ℕ)
-    → homed home me.0 ≡ now → now.shape ≡ z → Keeps c i part count me → word - part.first < part.size → IsKept z part
-kept_here {part = part} word is of k high = subst (λ (y : Shape). IsKept y part) (shape_is (sees is of k)) (k.kept (omega arith))
+pub kept_here : {z : Shape} {now : View} {home : List ℕ} {c : Caller} {i : Option ArenaId} {parts : Part × Part} {count : ℕ} {me : Me (Unit {0}) View} (word : ℕ)
+    → homed home me.0 ≡ now → now.shape ≡ z → Keeps c i parts count me → word - parts.0.first < parts.0.size → IsKept z parts.0
+kept_here {parts = parts} word is of k high = subst (λ (y : Shape). IsKept y parts.0) (shape_is (sees is of k)) (k.last.kept (omega arith))
 
 module _ (z : Shape) (part : Part) (word : ℕ) (k : IsKept z part) (low : part.first ≤ word) (high : word - part.first < part.size) where
   pub fits : word - part.first < z.page_words

@@ -6,7 +6,7 @@ use Rattle.fm_rule_facts.specs.{declared.step.Step.{Step}, Views.{View}, Steps.{
 use Rattle.fm_rule.specs.{declared.{pass.Part.{Part}, seen.Seen.{Seen}}, Acts.{Acted}, Views.{homed, numbers_of, Keeps}}
 use Rattle.fm_rule.proofs.{Allowed.{Outcome, leaves, stepped}, Keeping.{step_keeps}, Knowing.{known_slot, known_owner}}
 
-module _ {now : View} {c : Caller} {i : Option ArenaId} {part' : Part} {count : ℕ} {old : Seat (Unit {0}) Seen} where
+module _ {now : View} {c : Caller} {i : Option ArenaId} {part' : Part × Part} {count : ℕ} {old : Seat (Unit {0}) Seen} where
   -- the step of the views in the table is one of the views that contracts see
   pub step_stepped : {new : Seat (Unit {0}) Seen} {s : Step} {x : ℕ} → homed (numbers_of old.table_id) old.me.0 ≡ now → Keeps c i part' count old.me
       → Acted old new s x → Stepped now (homed (numbers_of new.table_id) new.me.0) (part s now x) (entries s now x) (noted s now x)

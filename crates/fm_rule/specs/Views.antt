@@ -53,14 +53,19 @@ abbrev pub HasPart : Shape → (index word : ℕ) → Part → Type 0
 HasPart z index word part =
     (page : ℕ) → word ≡ map_word page → (part.first ≡ index * z.page_words) × (part.words ≡ z.page_words) × (part.from ≡ at z (page_word page 0))
 
--- what a pass keeps beside its seat: its caller, the arena that it is inside, the part that it read last, which is known in
--- this visit where it has words, and how many callers are gathered into it
-pub record Keeps (c : Caller) (i : Option ArenaId) (part : Part) (count : ℕ) (me : Me (Unit {0}) View) : Type 0 where
+-- what a pass has of a part: its page, where it has words, for this visit; and where it looks for the page in later ones
+pub record Stands (v : View) (part : Part) : Type 0 where
+  pub known : 0 < part.words → IsPart v part
+  pub kept : 0 < part.size → IsKept v.shape part
+
+-- what a pass keeps beside its seat: its caller, the arena that it is inside, the two parts that it read last, and how many
+-- callers are gathered into it
+pub record Keeps (c : Caller) (i : Option ArenaId) (parts : Part × Part) (count : ℕ) (me : Me (Unit {0}) View) : Type 0 where
   pub live : me.0.live ≡ true
   pub caller : c ≡ me.0.caller
   pub inside : i ≡ me.0.inside
-  pub part_is : 0 < part.words → IsPart me.0 part
-  pub kept : 0 < part.size → IsKept me.0.shape part
+  pub last : Stands me.0 parts.0
+  pub other : Stands me.0 parts.1
   pub met : me.0.met ≡ []
   pub counted : count ≡ length me.0.gathered
   pub sound : IsSound me.0

@@ -78,6 +78,7 @@ pub fn step_read_map(pool: &Pool, pass: &mut Pass, id: ArenaId, index: u32) -> u
     let seat = &mut pass.seat;
     let place = pool.shape.map_place(id.slot, index);
     let word = load_as::<Brand>(pool, seat, place, Step::ReadsMap(id, index));
+    pass.other = pass.part;
     pass.part = pool.part_of(id.slot, index, word);
     word
 }

@@ -63,8 +63,10 @@ pub struct Pass {
     pub(crate) is_inside: bool,
     /// The arena whose session it looked at last; an option of it would be put together anew at each visit.
     pub(crate) current: ArenaId,
-    /// The part whose page it read last.
+    /// The part whose page it read last, and the one that it read before: who goes from one page to another at each
+    /// word, as a copy does, looks up neither again.
     pub(crate) part: Part,
+    pub(crate) other: Part,
     /// How many callers are gathered into it.
     pub(crate) gathered: u64,
 }
@@ -77,7 +79,7 @@ impl Model for Pass {
 
     ghost view = { λ p. homed (numbers_of p.seat.table_id) p.seat.me.0 };
 
-    ghost invariant = { λ p. Keeps p.caller (inside_of p.is_inside p.current) p.part p.gathered p.seat.me };
+    ghost invariant = { λ p. Keeps p.caller (inside_of p.is_inside p.current) (p.part, p.other) p.gathered p.seat.me };
 }
 
 impl Pass {
@@ -110,7 +112,7 @@ impl Pass {
         self.caller.term
     }
 
-    /// Where the word of this index of the arena stands that the pass is inside, if it has read its part last.
+    /// Where the word of this index of the arena stands that the pass is inside, if its part is one of the two that it read last.
     #[inline(always)]
     pub fn known_place(&self, word: u64) -> Option<u64>
         ensures { IfSome result (λ place. HasPlace self.now word place) }
@@ -118,6 +120,10 @@ impl Pass {
         let part = self.part;
         if part.first <= word && word - part.first < part.words {
             return Some(part.from + (word - part.first));
+        }
+        let other = self.other;
+        if other.first <= word && word - other.first < other.words {
+            return Some(other.from + (word - other.first));
         }
         None
     }

@@ -129,6 +129,7 @@ impl Pool {
             is_inside: false,
             current: NO_ARENA,
             part: NO_PART,
+            other: NO_PART,
             gathered: 0,
         };
         Ok((Pool { table, shape }, pass))

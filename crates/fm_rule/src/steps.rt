@@ -60,8 +60,9 @@ pub fn step_check(pool: &Pool, pass: &mut Pass, id: ArenaId) -> u64
         owner: id.owner,
         term: id.term,
     };
-    // The part that it read last is known in this visit only once its map word was looked at.
+    // A part that it read before is known in this visit only once its map word was looked at.
     pass.part.words = 0;
+    pass.other.words = 0;
     word
 }
 

@@ -42,7 +42,7 @@ invariant_of-pass c =
     read_map_keeps c.pass.invariant _ _ c.load_as-found.ensures z
     (λ e. kept_some _ _ c.args.word k c.if-part-word.true c.if-word-part.true (sym c.if-found-part.true ∙ e))
     (λ p e. kept_part _ _ c.args.word k c.if-part-word.true c.if-word-part.true p (sym c.if-found-part.true ∙ e))
-    (λ l. kept_on _ _ c.args.word k c.if-part-word.true c.if-word-part.true)
+    (λ l. kept_on _ _ c.args.word k c.if-part-word.true c.if-word-part.true) _ c.pass.invariant.other
 
 pub returns-then-found-part : goal.returns-then-found-part
 unfolding part entries noted
@@ -58,7 +58,7 @@ returns-then-found-part c =
 pub invariant_of-pass-then-word-part : goal.invariant_of-pass-then-word-part
 invariant_of-pass-then-word-part c =
     read_map_keeps c.pass.invariant _ _ c.load_as-found.ensures (shape_is (sees c.pass.view_is c.requires.of.1 c.pass.invariant))
-    c.part_of-pass-inside.ensures.none c.part_of-pass-inside.ensures.some c.part_of-pass-inside.ensures.kept
+    c.part_of-pass-inside.ensures.none c.part_of-pass-inside.ensures.some c.part_of-pass-inside.ensures.kept _ c.pass.invariant.other
 
 pub returns-then-word-part : goal.returns-then-word-part
 unfolding part entries noted

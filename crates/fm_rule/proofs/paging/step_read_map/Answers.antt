@@ -14,7 +14,7 @@ load_as-word-requires-clause-can c =
 
 pub invariant_of-pass : goal.invariant_of-pass
 invariant_of-pass c = read_map_keeps c.pass.invariant _ _ c.load_as-word.ensures (shape_is (sees c.pass.view_is c.requires.of.1 c.pass.invariant)) c.part_of-pass-inside.ensures.none
-    c.part_of-pass-inside.ensures.some c.part_of-pass-inside.ensures.kept
+    c.part_of-pass-inside.ensures.some c.part_of-pass-inside.ensures.kept _ c.pass.invariant.last
 
 pub returns-clause-stepped : goal.returns-clause-stepped
 unfolding part entries noted

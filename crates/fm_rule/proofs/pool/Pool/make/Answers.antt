@@ -51,7 +51,7 @@ of_words-requires c =
 
 pub invariant_of-pass : goal.invariant_of-pass
 invariant_of-pass c =
-    subst (Keeps only_caller None no_part 0) (sym c.in_ok-table.ensures.4)
+    subst (Keeps only_caller None (no_part, no_part) 0) (sym c.in_ok-table.ensures.4)
     (first_keeps c.args.shape (begun_sound c.args.shape _ c.requires c.set_number_bits.ensures))
 
 pub returns-clause-sound : goal.returns-clause-sound

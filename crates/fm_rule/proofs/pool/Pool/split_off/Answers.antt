@@ -14,12 +14,12 @@ split_seat-seat-requires c = (
 
 pub invariant_of-giver : goal.invariant_of-giver
 invariant_of-giver c =
-    subst (Keeps c.giver.inside.caller (inside_of c.giver.inside.is_inside c.giver.inside.current) c.giver.inside.part c.giver.inside.gathered)
+    subst (Keeps c.giver.inside.caller (inside_of c.giver.inside.is_inside c.giver.inside.current) (c.giver.inside.part, c.giver.inside.other) c.giver.inside.gathered)
     (sym c.split_seat-seat.ensures.2) (left_keeps _ _ _ _ _ _ (ap (λ (x : View). x.whole) c.giver.view_is ∙ c.requires.drew) c.giver.invariant)
 
 pub invariant_of-result : goal.invariant_of-result
 invariant_of-result c =
-    subst (Keeps c.args.caller None no_part 0) (sym c.split_seat-seat.ensures.4)
+    subst (Keeps c.args.caller None (no_part, no_part) 0) (sym c.split_seat-seat.ensures.4)
     (right_keeps c.args.caller c.giver.inside.seat.me.0 (ap (λ (x : View). x.number) c.giver.view_is ∙ c.requires.drawn) c.giver.invariant.sound)
 
 pub returns-clause-sound : goal.returns-clause-sound
