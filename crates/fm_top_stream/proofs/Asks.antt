@@ -12,9 +12,9 @@ use Rattle.fm_rule.specs.declared.pool.Pool.{Pool}
 use Rattle.fm_segment.specs.Region.{Region}
 use Rattle.fm_words.specs.declared.shape.Shape.{Shape}
 use Rattle.fm_top_load.specs.{declared.{reached.Reached.{Reached}, stretch.Stretch.{Stretch}, load_fault.LoadFault.{LoadFault}}, Held.{IsHeld}, Portions.{PortionView}}
-use Rattle.fm_top_pooled.{specs.{Shown.{AsksWord}, Stocked.{IsStockedOf, bytes_in_pool}}, proofs.Shows.{pooled_is}}
+use Rattle.fm_top_pooled.{specs.Stocked.{IsStockedOf, bytes_in_pool}, proofs.Shows.{pooled_is}}
 use Rattle.fm_top_stream.specs.{Ahead.{AsksAhead, CanAskBeside, CanPutAs}, Gone.{AnswersAhead, CanAnswer}, declared.ahead.Ahead.{Ahead}}
-use Rattle.fm_top_stream.specs.{declared.{placed.Placed.{Placed}, putting.Putting.{Putting}}, Steps.{Answers, AnswersBeside, AnswersOn, Gives, Opens}}
+use Rattle.fm_top_stream.specs.{declared.{placed.Placed.{Placed}, putting.Putting.{Putting}}, Shown.{ReadStanding}, Steps.{Answers, AnswersBeside, AnswersOn, Gives, Opens}}
 use Rattle.fm_top_stream.proofs.{Going.{goes_then}, Runs.{ends_here}}
 
 module _ {stretch : Stretch} {told : Option Contents} {threads : ℕ} {p : Plan} {pool : Pool} {v : View} {s : Region} {first : PortionView}
@@ -103,7 +103,7 @@ module _ {stretch : Stretch} {told : Option Contents} {threads : ℕ} {p : Plan}
           stocked = subst (λ n. IsStockedOf n pool q s) (ap (λ (z : Shape). z.passes) same_shape) answers.stocked;
           value = answers.value ∙ ap (answer p) bytes;
           few = answers.few;
-          read = λ word asks. answers.read word (subst (λ bs. AsksWord p bs s.arena word) (sym bytes) asks);
+          read = subst (ReadStanding (limit_of q.shape) q.seen p s) bytes answers.read;
           life = λ x k. answers.stand.life x (apart x k) ∙ ap (λ o. o.life) (still x k);
           words = λ x k. answers.stand.words x (apart x k) ∙ ap (λ o. o.words) (still x k);
           names = answers.stand.names ∙ gives.elsewhere.names ∙ opens.opened.names;

@@ -55,10 +55,11 @@ streamed {threads} {p = p} {pool = pool} {v = v} {a = a} {f = f} most is any sha
       shows = record {
         is_history = kept.is_history;
         shape = finishes.shape ∙ shape;
-        chunks = subst (λ n. AllZip (ShowsChunk (state_of f) f.history p) (names_in (state_of f)) (cut_in n (all_bytes through.runs))) is
-            (subst (λ runs. AllZip (ShowsChunk (state_of f) f.history p) (names_in (state_of f)) runs) (sym cut)
-            (subst (λ (x : State × List Entry). AllZip (ShowsChunk x.0 x.1 p) (names_in x.0) through.runs) (λ i. (sym state i, sym finishes.history i))
-            (subst (λ ids. AllZip (ShowsChunk (state_in v) v.seen p) ids through.runs) names through.gone.chunks)));
+        chunks = subst (λ n. AllZip (ShowsChunk (limit_of f.shape) (state_of f) f.history p) (names_in (state_of f)) (cut_in n (all_bytes through.runs))) is
+            (subst (λ runs. AllZip (ShowsChunk (limit_of f.shape) (state_of f) f.history p) (names_in (state_of f)) runs) (sym cut)
+            (subst (λ (x : ℕ × State × List Entry). AllZip (ShowsChunk x.0 x.1 x.2 p) (names_in x.1) through.runs)
+            (λ i. (sym (ap limit_of kept.shape) i, sym state i, sym finishes.history i))
+            (subst (λ ids. AllZip (ShowsChunk (limit_of v.shape) (state_in v) v.seen p) ids through.runs) names through.gone.chunks)));
       };
       printed = few_answer (length (all_bytes through.runs)) p.items a through.gone.few;
     }

@@ -18,13 +18,13 @@ use Rattle.fm_words.specs.declared.shape.Shape.{Shape}
 use Rattle.fm_top_load.specs.{declared.{load_fault.LoadFault.{LoadFault, TheVariants.{Ragged}}, stretch.Stretch.{Stretch}}, Held.{IsHeld, OnlyIn, names_in}, Portions.{PortionView}}
 use Rattle.fm_top_load.specs.Whole.{IsCut, IsPortion, IsWhole}
 use Rattle.fm_top_load.{specs.Records.{IsRest, TellsRecords}, proofs.{FileBytes.{first_to_last}, Telling.{tells_rest}}}
-use Rattle.fm_top_pooled.{specs.{Shown.{AsksWord, IsReadByOther}, Stocked.{IsAlone, IsStockedOf, bytes_in_pool}}, proofs.Filling.{held_room}}
+use Rattle.fm_top_pooled.{specs.Stocked.{IsAlone, IsStockedOf, bytes_in_pool}, proofs.Filling.{held_room}}
 use Rattle.fm_top_pooled.proofs.Shows.{pooled_is, read_in}
 use Rattle.fm_top_stream.specs.{Chunks.{all_bytes}, Gone.{CanAnswer, CanAsk, CanTakeChunk, GoesByChunk, GoneSoFar, GoneThrough, HasGone, HasNext}}
-use Rattle.fm_top_stream.specs.{declared.{under_way.UnderWay.{UnderWay}, placed.Placed.{Placed}}, Shown.{ShowsChunk}}
+use Rattle.fm_top_stream.specs.{declared.{under_way.UnderWay.{UnderWay}, placed.Placed.{Placed}}, Shown.{ReadStanding, ShowsChunk}}
 use Rattle.fm_top_stream.specs.Steps.{AnswersOn, CanClose, Closes, GoesOn, StandsIn, arenas_of}
 use Rattle.fm_top_stream.proofs.Runs.{all_more, count_more, cut_more, cut_whole, even_all, even_sum, first_more, is_ragged, whole_file, whole_more}
-use Rattle.fm_top_stream.proofs.Standing.{all_shown, all_zip_more, named_known}
+use Rattle.fm_top_stream.proofs.Standing.{all_shown, all_zip_more, named_known, still_read}
 
 -- ---- the stream so far
 
@@ -64,7 +64,8 @@ module _ {pool : Pool} {v w : View} {p : Plan} {behind : List ArenaId} {runs : L
     value = gone.value;
     few = gone.few;
     ids = gone.ids;
-    chunks = all_shown v w p gone.ids runs goes.more goes.seen (λ b i. life b (shown_known gone b i)) (λ b i. words b (shown_known gone b i)) gone.chunks;
+    chunks = all_shown v w p gone.ids runs goes.more (goes.alone.outside.of.1 ∙ sym gone.alone.outside.of.1) goes.seen
+        (λ b i. life b (shown_known gone b i)) (λ b i. words b (shown_known gone b i)) gone.chunks;
     names = names ∙ ap (λ ns. ns ++ new) gone.names ∙ append_assoc gone.ids behind new;
     apart = all_both (λ id. ¬ (IsAmong id gone.ids)) behind new gone.apart
         (all_weaker (λ b. ¬ (IsKnown v b)) (λ b. ¬ (IsAmong b gone.ids)) (λ b not i. not (shown_known gone b i)) new unknown);
@@ -130,10 +131,6 @@ pub unknown_next : (P : ArenaId → Type 0) (Q : Placed → Type 0) (next : Opti
 unknown_next P Q None h = tt
 unknown_next P Q (Some x) h = (h.0, tt)
 
--- What was read is read later.
-read_later : (es more : List Entry) (id : ArenaId) (word : ℕ) → IsReadByOther es id word → IsReadByOther (es ++ more) id word
-read_later es more id word read = read_in es (es ++ more) id word (λ e i. among_left e es more i) read
-
 module _ {limit most at : ℕ} {told : Option Contents} {name : List ℕ} {pool : Pool} {v : View} {x : Placed} (alone : IsAlone v.gathered pool v)
     (room : most ≤ limit_of pool.shape) (stands : StandsIn limit most told name at v x) where
   abbrev pub chunk_bytes : List ℕ
@@ -185,20 +182,17 @@ module _ {limit most at : ℕ} {told : Option Contents} {name : List ℕ} {pool 
 
     module _ {z : View} (closes : Closes pool y z x.arena) where
       -- It shows what it had.
-      pub shown : ShowsChunk (state_in z) z.seen plan x.arena chunk_bytes
+      pub shown : ShowsChunk (limit_of z.shape) (state_in z) z.seen plan x.arena chunk_bytes
       shown =
           let words : (arena_of (state_in z) x.arena).words ≡ (arena_of (state_in v) x.arena).words = closes.words ∙ answers.words x.arena stands.held.known in
           let region : region_of x.arena 0 (length chunk_bytes) ≡ s = ap (λ n. region_of x.arena 0 n) long ∙ sym is in
-          let arena : s.arena ≡ x.arena = ap (λ (r : Region). r.arena) is in
+          let limit : limit_of y.shape ≡ limit_of z.shape = ap limit_of (answers.goes.alone.outside.of.1 ∙ sym closes.goes.alone.outside.of.1) in
           record {
             ended = closes.ended;
             stand = ap (λ (ws : List ℕ). map (byte_at ws) (range_with_len 0 (length chunk_bytes))) words
                 ∙ ap (bytes_at_places (state_in v)) region ∙ sym (pooled_is v s) ∙ bytes_are s is;
-            read = λ word asks.
-                let was : AsksWord plan (bytes_in_pool v s) s.arena word =
-                subst (λ (q : List ℕ × ArenaId). AsksWord plan q.0 q.1 word) (λ i. (sym (bytes_are s is) i, sym arena i)) asks in
-                let read : IsReadByOther y.seen x.arena word = subst (λ b. IsReadByOther y.seen b word) arena (answers.read word was) in
-                subst (λ es. IsReadByOther es x.arena word) (sym closes.goes.seen) (read_later y.seen closes.goes.more x.arena word read);
+            read = still_read closes.goes.more closes.goes.seen
+                (subst (λ (q : ℕ × Region × List ℕ). ReadStanding q.0 y.seen plan q.1 q.2) (λ i. (limit i, sym region i, bytes_are s is i)) answers.read);
           }
 
       -- The runs go on by it, and so does the answer.
@@ -215,7 +209,8 @@ module _ {limit most at : ℕ} {told : Option Contents} {name : List ℕ} {pool 
           let mid : HasGone pool y plan (x.arena ∷ arenas_of next) runs was =
           gone_behind (arenas_of next) gone answers.goes answers.life answers.words answers.names unknown in
           let other : (b : ArenaId) → IsAmong b mid.ids → b ≢ x.arena = λ b i e. mid.apart.0 (subst (λ (a : ArenaId). IsAmong a mid.ids) e i) in
-          let kept = all_shown y z plan mid.ids runs closes.goes.more closes.goes.seen (λ b i. ap (λ o. o.life) (closes.elsewhere.others b (other b i)))
+          let kept = all_shown y z plan mid.ids runs closes.goes.more
+          (closes.goes.alone.outside.of.1 ∙ sym answers.goes.alone.outside.of.1) closes.goes.seen (λ b i. ap (λ o. o.life) (closes.elsewhere.others b (other b i)))
           (λ b i. ap (λ o. o.words) (closes.elsewhere.others b (other b i))) mid.chunks in (
             joins.can,
             record {
@@ -224,7 +219,7 @@ module _ {limit most at : ℕ} {told : Option Contents} {name : List ℕ} {pool 
                   ∙ answer-append plan (all_bytes runs) chunk_bytes some even ∙ ap (answer plan) (sym all);
               few = subst (λ n. AreFew n plan (joined was found)) count joins.few;
               ids = mid.ids ++ x.arena ∷ [];
-              chunks = all_zip_more (ShowsChunk (state_in z) z.seen plan) mid.ids runs x.arena chunk_bytes kept shown;
+              chunks = all_zip_more (ShowsChunk (limit_of z.shape) (state_in z) z.seen plan) mid.ids runs x.arena chunk_bytes kept shown;
               names = closes.elsewhere.names ∙ mid.names ∙ sym (append_assoc mid.ids (x.arena ∷ []) (arenas_of next));
               apart = apart_behind mid.ids x.arena (arenas_of next) mid.apart.1
                   (all_weaker (λ b. ¬ (IsKnown v b)) (λ b. b ≢ x.arena) (λ b not e. not (subst (λ (a : ArenaId). IsKnown v a) (sym e) stands.held.known)) (arenas_of next)

@@ -12,10 +12,10 @@ use Rattle.fm_rule_facts.specs.Views.{View, limit_of, state_in}
 use Rattle.fm_rule.specs.declared.pool.Pool.{Pool}
 use Rattle.fm_segment.specs.Region.{Region}
 use Rattle.fm_records_query.specs.Plan.{Plan}
-use Rattle.fm_records.specs.{declared.found.Found.{Found as Answer}, Answers.{answer}}
+use Rattle.fm_records.specs.{declared.found.Found.{Found as Answer}, Alone.{bytes_at_places}, Answers.{answer}}
 use Rattle.fm_top_load.proofs.Holding.{changed_names}
-use Rattle.fm_top_pooled.specs.{Shown.{AsksWord, IsReadByOther}, Stocked.{IsAlone, IsStockedOf, bytes_in_pool}}
-use Rattle.fm_top_pooled.proofs.{Crews.{AllTouch, Touches, bytes_stay, stocked_still}, Shows.{NoneMayAdd, answers, read_in, touch, wants, was_asked}}
+use Rattle.fm_top_pooled.specs.{Shown.{AsksWord}, Stocked.{IsAlone, IsStockedOf, bytes_in_pool}}
+use Rattle.fm_top_pooled.proofs.{Crews.{AllTouch, Touches, bytes_stay, stocked_still}, Shows.{NoneMayAdd, answers, pooled_is, touch, wants, was_asked}}
 use Rattle.fm_workers.specs.Query.{QueriedWith}
 use Rattle.fm_workers_crew.specs.Crew.{AreTooMany}
 use Rattle.fm_top_stream.{specs.Steps.{Answers, GoesOn, Stand}, proofs.Going.{goes_here, goes_then}}
@@ -118,10 +118,13 @@ module _ {passes : ℕ} {pool : Pool} {p m q : View} {s : Region} {plan : Plan} 
         stand = next.stand;
         value = answers w.stocked sound a queried ∙ ap (answer plan) bytes;
         few = queried.few;
-        read = λ word asked.
-            let was : AsksWord plan (bytes_in_pool m s) s.arena word = subst (λ bs. AsksWord plan bs s.arena word) (sym bytes) asked in
-            subst (λ es. IsReadByOther es s.arena word) (sym asks.seen)
-            (read_in asks.more (m.seen ++ asks.more) s.arena word (λ e i. among_right e m.seen asks.more i) (asks.read word was));
+        read = record {
+          before = m.seen;
+          after = asks.more;
+          parts = asks.seen;
+          stood = ap (λ (v : View). bytes_at_places (state_after (limit_of v.shape) [] m.seen) s) queried.crew.is ∙ sym (pooled_is m s) ∙ bytes;
+          read = λ word asked. asks.read word (subst (λ bs. AsksWord plan bs s.arena word) (sym bytes) asked);
+        };
       }
 
   -- A pass is wanting, or memory.

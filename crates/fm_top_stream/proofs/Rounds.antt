@@ -11,7 +11,7 @@ use Rattle.fm_base_lists.{specs.Among.{IsAmong}, proofs.{Among.{among_right}, Ea
 use Rattle.fm_gate.specs.Needs.{IsOutside}
 use Rattle.fm_io.specs.Files.{Contents}
 use Rattle.fm_records_query.specs.Plan.{Plan}
-use Rattle.fm_records.specs.{declared.found.Found.{Found as Answer}, Answers.{answer}}
+use Rattle.fm_records.specs.{declared.found.Found.{Found as Answer}, Alone.{bytes_at_places}, Answers.{answer}}
 use Rattle.fm_rule_calls.{specs.Told.{view_of_pass}, proofs.Going.{Reached, reached_by}}
 use Rattle.fm_rule_facts.specs.Views.{View, limit_of, state_in}
 use Rattle.fm_rule.specs.declared.pool.Pool.{Pool}
@@ -20,14 +20,14 @@ use Rattle.fm_segment_access.specs.Alone.{bytes_of_arena}
 use Rattle.fm_segment_laws.proofs.{Staying.{ChangesBelow, StayBelow, tidy_alone}}
 use Rattle.fm_top_load.specs.{declared.{reached.Reached.{Reached as Reach}, room.Room.TheVariants.{Given}, stretch.Stretch.{Stretch}}, Held.{IsHeld, names_in, words_at}, Portions.{PortionView}, Putting.{ArePut, PutsStretch}}
 use Rattle.fm_top_load.{specs.{Whole.{IsCut}}, proofs.{Lone.{StandsAt, puts_stand}, Machine.{AreOwn, lone, own_are}}}
-use Rattle.fm_top_pooled.specs.{Shown.{AreRead, AsksWord, IsReadByOther}, Stocked.{IsAlone, IsStockedOf, bytes_in_pool}}
-use Rattle.fm_top_pooled.proofs.{Filed.{puts_stay}, Crews.{AllTouch, Touches, only_reads_touch, stay_below}, Shows.{NoneMayAdd, are_read, is_whole, pooled_is, read_in}}
+use Rattle.fm_top_pooled.specs.{Shown.{AsksWord}, Stocked.{IsAlone, IsStockedOf, bytes_in_pool}}
+use Rattle.fm_top_pooled.proofs.{Filed.{puts_stay}, Crews.{AllTouch, Touches, only_reads_touch, stay_below}, Shows.{NoneMayAdd, are_read, is_whole, pooled_is}}
 use Rattle.fm_top_pooled.proofs.Tidying.{tidy_on}
 use Rattle.fm_base.proofs.Either.{by_either}
 use Rattle.fm_workers.specs.{Beside.{AskedBeside}, Query.{IsAnswer, NobodyElseWrites, OnlyReads, QueriedWith}}
 use Rattle.fm_workers_crew.specs.Crew.{IsFresh, callers}
 use Rattle.fm_words.specs.declared.shape.Shape.{Shape}
-use Rattle.fm_top_stream.{specs.Steps.{AnswersBeside, GoesOn, HasChunk, Stand, StandBut}, proofs.{Elsewhere.{put_elsewhere}, Going.{goes_then}}}
+use Rattle.fm_top_stream.{specs.{Shown.{ReadStanding}, Steps.{AnswersBeside, GoesOn, HasChunk, Stand, StandBut}}, proofs.{Elsewhere.{put_elsewhere}, Going.{goes_then}}}
 use Rattle.fm_top_stream.proofs.Reading.{Awaits, awaits_more}
 
 -- ---- whose entries they are
@@ -299,13 +299,16 @@ module _ {passes : ℕ} {stretch : Stretch} {told : Option Contents} {pool : Poo
       asked.value (nobody_else s m.caller (callers asked.crew.crew) asked.crew.more (are_of asked w.awaits.stocked)
       (λ place. put_elsewhere s.arena place b other m.caller put.bytes (made_by m.caller asked.crew.more) put.put))
 
-  read : AreRead q.seen (AsksWord plan (bytes_in_pool p s)) s.arena
-  read word asks =
-      let more = asked.crew.more in
-      let was : AsksWord plan (bytes_in_pool m s) s.arena word = subst (λ bs. AsksWord plan bs s.arena word) (sym w.awaits.same) asks in
-      subst (λ es. IsReadByOther es s.arena word) (sym asked.crew.seen)
-      (read_in more (m.seen ++ more) s.arena word (λ e i. among_right e m.seen more i)
-      (are_read plan (callers asked.crew.crew) more w.awaits.stocked asked.crew.fresh is_answer.read word was))
+  read : ReadStanding (limit_of q.shape) q.seen plan s (bytes_in_pool p s)
+  read = record {
+    before = m.seen;
+    after = asked.crew.more;
+    parts = asked.crew.seen;
+    stood = ap (λ (z : Shape). bytes_at_places (state_after (limit_of z) [] m.seen) s) asked.crew.shape ∙ sym (pooled_is m s) ∙ w.awaits.same;
+    read = λ word asks.
+        are_read plan (callers asked.crew.crew) asked.crew.more w.awaits.stocked asked.crew.fresh is_answer.read word
+        (subst (λ bs. AsksWord plan bs s.arena word) (sym w.awaits.same) asks);
+  }
 
   has : HasChunk stretch told (bytes_of_arena (state_in q) b) chunk
   has =

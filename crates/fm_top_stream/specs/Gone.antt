@@ -20,7 +20,7 @@ pub record HasGone (pool : Pool) (v : View) (p : Plan) (behind : List ArenaId) (
   pub value : a ≡ answer p (all_bytes runs)
   pub few : AreFew (length (all_bytes runs)) p a
   pub ids : List ArenaId
-  pub chunks : AllZip (ShowsChunk (state_in v) v.seen p) ids runs
+  pub chunks : AllZip (ShowsChunk (limit_of v.shape) (state_in v) v.seen p) ids runs
   pub names : names_in (state_in v) ≡ ids ++ behind
   pub apart : AllByRecursion (λ id. ¬ (IsAmong id ids)) behind
 

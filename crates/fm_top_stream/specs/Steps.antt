@@ -5,14 +5,14 @@ use Rattle.fm_base.specs.{Calls.{Entry}, View.{given_in}}
 use Rattle.fm_io.specs.Files.{Contents, EndsBefore}
 use Rattle.fm_segment_access.specs.Alone.{bytes_of_arena}
 use Rattle.fm_rule_calls.specs.Told.{view_of_pass}
-use Rattle.fm_rule_facts.specs.Views.{View, IsKnown, state_in}
+use Rattle.fm_rule_facts.specs.Views.{View, IsKnown, limit_of, state_in}
 use Rattle.fm_rule.specs.declared.pool.Pool.{Pool}
 use Rattle.fm_segment.specs.Region.{Region}
 use Rattle.fm_records_query.specs.Plan.{Plan}
 use Rattle.fm_records.specs.{declared.found.Found.{Found}, Answers.{answer}, Few.{AreFew}}
 use Rattle.fm_top_load.specs.{declared.{reached.Reached.{Reached}, stretch.Stretch.{Stretch}}, Held.{HoldsThen, IsHeld, OnlyIn, names_in, words_at}, Whole.{IsCut}}
-use Rattle.fm_top_pooled.specs.{Shown.{AreRead, AsksWord}, Stocked.{HasOpened, IsAlone, IsStockedOf, bytes_in_pool}}
-use Rattle.fm_top_stream.specs.declared.placed.Placed.{Placed}
+use Rattle.fm_top_pooled.specs.Stocked.{HasOpened, IsAlone, IsStockedOf, bytes_in_pool}
+use Rattle.fm_top_stream.specs.{declared.placed.Placed.{Placed}, Shown.{ReadStanding}}
 
 -- it is known to be whole still, and has seen more
 pub record GoesOn (pool : Pool) (p q : View) : Type 0 where
@@ -59,7 +59,7 @@ pub record Answers (passes : ℕ) (pool : Pool) (p q : View) (s : Region) (plan 
   pub stand : Stand (state_in p) (state_in q)
   pub value : a ≡ answer plan (bytes_in_pool p s)
   pub few : AreFew s.size plan a
-  pub read : AreRead q.seen (AsksWord plan (bytes_in_pool p s)) s.arena
+  pub read : ReadStanding (limit_of q.shape) q.seen plan s (bytes_in_pool p s)
 
 -- there are the same arenas, and each but this one has the life and the words that it had
 pub record StandBut (b : ArenaId) (s t : State) : Type 0 where
@@ -76,7 +76,7 @@ pub record AnswersBeside (passes : ℕ) (stretch : Stretch) (told : Option Conte
   pub stand : StandBut b (state_in p) (state_in q)
   pub value : a ≡ answer plan (bytes_in_pool p s)
   pub few : AreFew s.size plan a
-  pub read : AreRead q.seen (AsksWord plan (bytes_in_pool p s)) s.arena
+  pub read : ReadStanding (limit_of q.shape) q.seen plan s (bytes_in_pool p s)
   pub held : IsHeld (view_of_pass q) b
   pub given : stretch.most ≤ given_in (view_of_pass q) b
   pub has : HasChunk stretch told (bytes_of_arena (state_in q) b) chunk
@@ -101,7 +101,7 @@ pub record AnswersOn (passes : ℕ) (stretch : Stretch) (told : Option Contents)
   pub stocked : IsStockedOf passes pool q s
   pub value : a ≡ answer plan (bytes_in_pool p s)
   pub few : AreFew s.size plan a
-  pub read : AreRead q.seen (AsksWord plan (bytes_in_pool p s)) s.arena
+  pub read : ReadStanding (limit_of q.shape) q.seen plan s (bytes_in_pool p s)
   -- what was known is as it was
   pub life : (x : ArenaId) → IsKnown p x → (arena_of (state_in q) x).life ≡ (arena_of (state_in p) x).life
   pub words : (x : ArenaId) → IsKnown p x → (arena_of (state_in q) x).words ≡ (arena_of (state_in p) x).words

@@ -31,8 +31,8 @@ pub(crate) fn read_next<F: Files>(
     ensures took { IfOk result (λ _. IsPortion stretch.now.limit stretch.now.most (F.view files.old).holds
         stretch.now.name.now stretch.now.at portion.new) }
     ensures none { ended ≡ true → IfOk result (λ _. length portion.new.bytes ≡ 0) }
-    ensures reads { ReadsFurther (F.view files.old).reads (F.view files.new).reads stretch.now.name.now stretch.now.limit
-        (GoesBy ended stretch.now.at)
+    ensures reads { ReadsFurther (F.view files.old).reads (F.view files.new).reads stretch.now.name.now
+        stretch.now.limit (GoesBy ended stretch.now.at)
         (λ next. IfOk result (λ _. GoesBy portion.new.ended (stretch.now.at + length portion.new.bytes) next)) }
     ensures tells { TellsLoad ByReads stretch.now.limit (F.view files.old) (F.view files.new) stretch.now.name.now
         (result_err result) }

@@ -70,7 +70,8 @@ pub(crate) fn ask_beside<R: Threads + Wait + Sync, F: Files, G: Gate>(
     ensures asks { IfOk result
         (AsksAhead (F.view files.old).holds crew.now.pool.now crew.now.q.now pass s.now putting.entry) }
     ensures reads { ReadsFurther (F.view files.old).reads (F.view files.new).reads putting.entry.stretch.name.now
-        putting.entry.stretch.limit (GoesBy putting.entry.portion.ended (putting.entry.stretch.at + length putting.entry.portion.bytes))
+        putting.entry.stretch.limit
+        (GoesBy putting.entry.portion.ended (putting.entry.stretch.at + length putting.entry.portion.bytes))
         (λ next. IfOk result (λ r. IsFollowed putting.entry.stretch.at r.next next)) }
     ensures tells { TellsLoad ByReads putting.entry.stretch.limit (F.view files.old) (F.view files.new)
         putting.entry.stretch.name.now (result_err result) }

@@ -34,8 +34,9 @@ pub(crate) fn take_chunk<R: Threads + Wait + Sync, F: Files, G: Gate>(
         going standing }
     ensures goes { IfOk result
         (λ r. GoesByChunk stretch.now (F.view files.old).holds crew.now.q.now crew.now.pool.now r.0 r.1) }
-    ensures reads { ReadsFurther (F.view files.old).reads (F.view files.new).reads stretch.now.name.now stretch.now.limit
-        (GoesBy standing.chunk.ended stretch.now.at) (λ next. IfOk result (λ r. IsFollowed stretch.now.at r.1 next)) }
+    ensures reads { ReadsFurther (F.view files.old).reads (F.view files.new).reads stretch.now.name.now
+        stretch.now.limit (GoesBy standing.chunk.ended stretch.now.at)
+        (λ next. IfOk result (λ r. IsFollowed stretch.now.at r.1 next)) }
     ensures tells { TellsLoad ByReads stretch.now.limit (F.view files.old) (F.view files.new) stretch.now.name.now
         (result_err result) }
 {
