@@ -1,5 +1,5 @@
 -- Arenas that can be visited, and passes that can visit them.
-use Rattle.std.specs.Prelude.{◌≡◌, ◌≤◌, ℕ, List, [], None, All}
+use Rattle.std.specs.Prelude.{◌≡◌, ◌≤◌, ℕ, List, None, All}
 use Rattle.fm_base.specs.{declared.arena_id.ArenaId.{ArenaId}, Arenas.{arena_of}}
 use Rattle.fm_gate.specs.{Crews.{HasNothing}, Needs.{IsOutside}}
 use Rattle.fm_mono.specs.Shown.{Arenas, IsKnown}
@@ -13,15 +13,14 @@ pub record IsReady (m : Arenas) (a : ArenaId) (size : ℕ) : Type 0 where
   pub known : IsKnown m a
   pub given : size ≤ (arena_of m.state a).given
 
--- the pass is outside, with no page in its hand
+-- the pass is outside, and has nothing, so that it can be gathered
 pub record IsFree (pool : Pool) (p : View) : Type 0 where
   pub outside : IsOutside pool p
-  pub no_page : p.pages ≡ []
+  pub nothing : HasNothing p
 
--- the pass is outside again, with the pages in its hand that it had, and knows what it knew
-pub record IsBack (pool : Pool) (old new : View) : Type 0 where
-  pub outside : IsOutside pool new
-  pub pages : new.pages ≡ old.pages
+-- the pass is free, and knows what the other one knew
+pub record FreeAfter (pool : Pool) (old new : View) : Type 0 where
+  pub free : IsFree pool new
   pub lasts : Lasts old new
 
 -- the pass knows the arena, which has given these bytes
@@ -33,17 +32,6 @@ pub record IsOpen (p : View) (bytes : ℕ) (a : ArenaId) : Type 0 where
 pub record AreOpen (pool : Pool) (p : View) (arenas : List ArenaId) (bytes : ℕ) : Type 0 where
   pub free : IsFree pool p
   pub each : All (IsOpen p bytes) arenas
-
--- the arena is open to the pass with eight bytes, and it has nothing
-pub record IsIdle (p : View) (a : ArenaId) : Type 0 where
-  pub opened : IsOpen p 8 a
-  pub nothing : HasNothing p
-
--- the pass is outside, the arena is open to it with eight bytes, and it has nothing, so that it can be gathered
-pub record CanWork (pool : Pool) (p : View) (a : ArenaId) : Type 0 where
-  pub outside : IsOutside pool p
-  pub opened : IsOpen p 8 a
-  pub nothing : HasNothing p
 
 -- the pass is free, and the arena is open to it with these bytes
 pub record CanRead (pool : Pool) (p : View) (bytes : ℕ) (a : ArenaId) : Type 0 where

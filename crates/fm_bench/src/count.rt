@@ -1,20 +1,40 @@
-/// What came of all calls.
+use fm_base::Refusal;
+
+/// What came of some calls.
 #[derive(Clone, Copy)]
 pub struct Count {
-    /// Arenas that were opened, filled and closed, each in a slot that others had used before.
-    pub reuses: u64,
-    /// Words that a reader found as the arena's opener had put them.
-    pub reads: u64,
-    /// Openings where no slot was free, and reads where the arena was closed.
+    /// Those that came out as they should.
+    pub fine: u64,
+    /// Those that were refused.
     pub refusals: u64,
-    /// Words that weren't 0 in a new arena, that another arena's owner had put, or that a closed arena gave.
+    /// Those that found what they shouldn't.
     pub wrong: u64,
 }
 
 /// No call yet.
 pub const NOTHING: Count = Count {
-    reuses: 0,
-    reads: 0,
+    fine: 0,
     refusals: 0,
     wrong: 0,
 };
+
+impl Count {
+    /// One call more, which was fine or not, or was refused.
+    #[inline(always)]
+    pub fn note(&mut self, came: Result<bool, Refusal>) {
+        match came {
+            Ok(true) => self.fine = self.fine.wrapping_add(1),
+            Ok(false) => self.wrong = self.wrong.wrapping_add(1),
+            Err(_) => self.refusals = self.refusals.wrapping_add(1),
+        }
+    }
+
+    /// These calls and the others.
+    pub fn and(self, other: Count) -> Count {
+        Count {
+            fine: self.fine.wrapping_add(other.fine),
+            refusals: self.refusals.wrapping_add(other.refusals),
+            wrong: self.wrong.wrapping_add(other.wrong),
+        }
+    }
+}

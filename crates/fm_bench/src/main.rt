@@ -32,16 +32,16 @@ mod updates;
 mod visits;
 
 use crate::count::Count;
-use crate::crews::{crowd, draws};
-use crate::gates::{Words, closes, gates, hops};
+use crate::crews::{Job, Plan, crowd, draws};
+use crate::gates::{Next, PAGE, PAGES, closes, gates, hops};
 use crate::loads::loads;
-use crate::opens::{Opening, gives, opens};
+use crate::opens::{EMPTY, FIRST_PAGE, LARGE, LAST_PAGE, PAGED, SMALL, gives, opens};
 use crate::polls::{By, polls, rows, sets};
 use crate::reuse::reuse;
 use crate::stress::{Trial, stress};
 use crate::updates::{Update, updates};
 use crate::visits::visits;
-use std::alloc::{AllocGlobal, Global};
+use std::alloc::Global;
 use std::env;
 use std::process::ExitCode;
 use std::sync::Wait;
@@ -60,9 +60,10 @@ fn main(rt: HostRuntime) -> ExitCode {
     let printed = match words(&rt) {
         Some(asked) => match asked.what.as_str() {
             "reuse" => {
-                let start = Instant::now(&rt);
-                let count = reuse_by(&rt, asked.count, &asked.text);
-                print_count(&rt, start.ok(), count).is_some()
+                let start = Instant::now(&rt).ok();
+                let threads = asked.text.parse::<u32>().unwrap_or(0);
+                let came = reuse(&rt, rt.alloc(), asked.count, threads);
+                print_reuse(&rt, start, came.ok()).is_some()
             }
             _ => match run(&rt, rt.alloc(), &asked) {
                 Some(joined) => println!(rt; "{joined}").is_ok(),
@@ -78,31 +79,20 @@ fn main(rt: HostRuntime) -> ExitCode {
     }
 }
 
-/// What so many rounds of reuse come to, by as many threads as the text says: 2 to 16.
-fn reuse_by<R: AllocGlobal + Threads + Wait + Sync>(
-    rt: &R,
-    rounds: u64,
-    text: &str,
-) -> Option<Count> {
-    let threads = text.parse::<u32>().ok()?;
-    if threads < 2 || threads > 16 {
-        return None;
-    }
-    reuse(rt, rounds, threads).ok()
-}
-
-/// Prints what came of all calls since the start.
-fn print_count(rt: &HostRuntime, start: Option<Instant>, count: Option<Count>) -> Option<()> {
-    let Count {
-        reuses,
-        reads,
-        refusals,
-        wrong,
-    } = count?;
+/// Prints what came of all reads and of all uses since the start.
+fn print_reuse(
+    rt: &HostRuntime,
+    start: Option<Instant>,
+    came: Option<(Count, Count)>,
+) -> Option<()> {
+    let (reads, uses) = came?;
     let seconds = start?.elapsed(rt).ok()?.as_secs();
+    let all = reads.and(uses);
     println!(rt;
-        "{reuses} reuses, {reads} reads, {refusals} refusals, {wrong} wrong, {seconds} s"
-    ).ok()
+        "{} reuses, {} reads, {} refusals, {} wrong, {seconds} s",
+        uses.fine, reads.fine, all.refusals, all.wrong
+    )
+    .ok()
 }
 
 /// The words behind the program's name, where they are of the form; a third one may be left out.
@@ -120,17 +110,17 @@ fn run<R: Threads + Wait + Sync>(rt: &R, alloc: Global, asked: &Asked) -> Option
     let joined = match asked.what.as_str() {
         "loads" => return loads(alloc, count).ok(),
         "visits" => visits(rt, alloc, count),
-        "gates" => gates(rt, alloc, count, Words::OfOnePage),
-        "spreads" => gates(rt, alloc, count, Words::OfPages),
-        "nexts" => gates(rt, alloc, count, Words::InTurn),
+        "gates" => gates(rt, alloc, count, PAGE, Next::Found),
+        "spreads" => gates(rt, alloc, count, PAGES, Next::Found),
+        "nexts" => gates(rt, alloc, count, PAGES, Next::InTurn),
         "hops" => hops(rt, alloc, count),
         "closes" => closes(rt, alloc, count),
-        "opens" => opens(rt, alloc, count, Opening::Small),
-        "wipes" => opens(rt, alloc, count, Opening::Large),
-        "grows" => opens(rt, alloc, count, Opening::Paged),
-        "empties" => opens(rt, alloc, count, Opening::Empty),
-        "firsts" => opens(rt, alloc, count, Opening::FirstPage),
-        "lasts" => opens(rt, alloc, count, Opening::LastPage),
+        "opens" => opens(rt, alloc, count, SMALL),
+        "wipes" => opens(rt, alloc, count, LARGE),
+        "grows" => opens(rt, alloc, count, PAGED),
+        "empties" => opens(rt, alloc, count, EMPTY),
+        "firsts" => opens(rt, alloc, count, FIRST_PAGE),
+        "lasts" => opens(rt, alloc, count, LAST_PAGE),
         "gives" => gives(rt, alloc, count),
         _ => return run_closes(rt, alloc, asked),
     };
@@ -149,11 +139,20 @@ fn run_closes<R: Threads + Wait + Sync>(rt: &R, alloc: Global, asked: &Asked) ->
         "swaps" => updates(rt, alloc, count, Update::Swap),
         "patches" => updates(rt, alloc, count, Update::Patch),
         "draws" => draws(rt, alloc, count),
-        "beside" => crowd(rt, alloc, count, asked.text.parse::<u64>().ok()?, 7),
-        "apart" => crowd(rt, alloc, count, asked.text.parse::<u64>().ok()?, 0),
+        "beside" => crowd(rt, alloc, crowding(asked, 7)?),
+        "apart" => crowd(rt, alloc, crowding(asked, 0)?),
         "stress" => stress(rt, alloc, count, Trial::Adds),
         "recruits" => stress(rt, alloc, count, Trial::Recruits),
         _ => return None,
     };
     joined.ok()
+}
+
+/// The words ask for so many threads that load a word so often, behind each of which so many passes are drawn.
+fn crowding(asked: &Asked, between: u64) -> Option<Plan> {
+    Some(Plan {
+        workers: asked.text.parse::<u64>().ok()?,
+        between,
+        job: Job::Load(asked.count),
+    })
 }

@@ -6,11 +6,11 @@ ghost use Rattle.fm_gate.specs.Needs.{CanLeave, IsOutside};
 ghost use Rattle.fm_async.specs.Sets.{CanBegin, closes_of, unfinished};
 ghost use Rattle.fm_bench.specs.Knowing.{Knows};
 
-use crate::pools::{AGAIN, ONE, made};
+use crate::pools::{AGAIN, ONE, drawn, made};
 use fm_async::{Closer, SetCloser, Start};
 use fm_base::{ArenaId, Kind, Refusal};
 use fm_close::{Visit, close};
-use fm_gate::{a_crew_stands, enter, leave, open_arena};
+use fm_gate::{enter, leave, open_arena};
 use fm_rule::{Pass, Pool};
 use fm_words::Shape;
 use std::alloc::Global;
@@ -41,16 +41,6 @@ pub fn polls<R: Wait>(rt: &R, alloc: Global, count: u64, by: By) -> Result<u64, 
     let ours = drawn(rt, &pool, &mut theirs)?;
     enter(&pool, &mut theirs, arena)?;
     close_late(rt, &pool, ours, &mut theirs, arena, (count, by))
-}
-
-/// A pass that has nothing, and knows what its giver knows.
-fn drawn<R: Wait>(rt: &R, pool: &Pool, giver: &mut Pass) -> Result<Pass, Refusal>
-    requires { IsOutside pool.now giver.old }
-    ensures ours { IfOk result (λ ours. CanBegin pool.now ours × Lasts giver.old ours) }
-    ensures giver { IfOk result (λ ours. IsOutside pool.now giver.new × Lasts giver.old giver.new) }
-{
-    a_crew_stands();
-    pool.draw(rt, giver)
 }
 
 /// The reader leaves after that, and the arena ends.
@@ -152,27 +142,12 @@ fn opened<R: Wait>(
 {
     let mut arenas = Vec::new(alloc);
     for _ in 0..ARENAS {
-        open_more(rt, pool, pass, &mut arenas)?;
+        let arena = open_arena(rt, pool, pass, Kind::Shared)?;
+        if arenas.push(arena).is_err() {
+            return Err(Refusal::Memory);
+        }
     }
     Ok(arenas)
-}
-
-/// One arena more.
-fn open_more<R: Wait>(
-    rt: &R,
-    pool: &Pool,
-    pass: &mut Pass,
-    arenas: &mut Vec<ArenaId>,
-) -> Result<(), Refusal>
-    requires { Knows pool.now pass.old arenas.old.items }
-    ensures knows { IfOk result (λ done. Knows pool.now pass.new arenas.new.items) }
-    ensures len { IfOk result (λ done. vec_len arenas.new ≡ vec_len arenas.old + 1) }
-{
-    let arena = open_arena(rt, pool, pass, Kind::Shared)?;
-    if arenas.push(arena).is_err() {
-        return Err(Refusal::Memory);
-    }
-    Ok(())
 }
 
 /// Closes 64 arenas by one set.

@@ -1,4 +1,4 @@
-ghost use Rattle.std.specs.Prelude.{◌≡◌, bit_and, IfOk};
+ghost use Rattle.std.specs.Prelude.{◌≡◌, bit_and};
 ghost use Rattle.fm_gate.specs.Needs.{CanReach};
 
 use crate::pools::{ONE, given, made};
@@ -7,16 +7,6 @@ use fm_gate::{add, enter, leave, patch, swap_if};
 use fm_rule::{Pass, Pool};
 use std::alloc::Global;
 use std::sync::Wait;
-
-/// A pool, and its first pass inside an arena that has given a word.
-fn entered<R: Wait>(rt: &R, alloc: Global) -> Result<(Pool, Pass), Refusal>
-    ensures { IfOk result (λ r. CanReach r.0 r.1 0) }
-{
-    let (pool, mut pass) = made(alloc, ONE)?;
-    let arena = given(rt, &pool, &mut pass, 8)?;
-    enter(&pool, &mut pass, arena)?;
-    Ok((pool, pass))
-}
 
 /// What is done with a word of an arena that the pass is inside.
 #[derive(Clone, Copy)]
@@ -31,7 +21,9 @@ pub enum Update {
 
 /// Updates a word so often, and answers the words found, joined by exclusive or, or the last word where they are swapped.
 pub fn updates<R: Wait>(rt: &R, alloc: Global, count: u64, update: Update) -> Result<u64, Refusal> {
-    let (pool, pass) = entered(rt, alloc)?;
+    let (pool, mut pass) = made(alloc, ONE)?;
+    let arena = given(rt, &pool, &mut pass, 8)?;
+    enter(&pool, &mut pass, arena)?;
     Ok(match update {
         Update::Add => adding(pool, pass, count),
         Update::Swap => swapping(pool, pass, count),
@@ -40,6 +32,7 @@ pub fn updates<R: Wait>(rt: &R, alloc: Global, count: u64, update: Update) -> Re
 }
 
 /// The additions alone, of a pool that nothing else has a name for. So are the next two.
+#[inline(always)]
 fn adding(pool: Pool, mut pass: Pass, count: u64) -> u64
     requires { CanReach pool pass 0 }
 {
@@ -51,6 +44,7 @@ fn adding(pool: Pool, mut pass: Pass, count: u64) -> u64
     joined
 }
 
+#[inline(always)]
 fn swapping(pool: Pool, mut pass: Pass, count: u64) -> u64
     requires { CanReach pool pass 0 }
 {
@@ -64,6 +58,7 @@ fn swapping(pool: Pool, mut pass: Pass, count: u64) -> u64
     word
 }
 
+#[inline(always)]
 fn patching<R: Wait>(rt: &R, pool: Pool, mut pass: Pass, count: u64) -> u64
     requires { CanReach pool pass 0 }
 {

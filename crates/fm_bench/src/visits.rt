@@ -1,7 +1,4 @@
-ghost use Rattle.std.specs.Prelude.{◌<◌};
-ghost use Rattle.fm_bench.specs.Ready.{IsReady};
-
-use fm_base::{ArenaId, Kind, Memory, Refusal};
+use fm_base::{Kind, Memory, Refusal};
 use fm_mono::Mono;
 use std::alloc::Global;
 use std::sync::Wait;
@@ -16,36 +13,16 @@ pub fn visits<R: Wait>(rt: &R, alloc: Global, count: u64) -> Result<u64, Refusal
     let mut memory = Mono::make(alloc, SIZE);
     let arena = memory.open_arena(rt, Kind::Shared)?;
     memory.allocate(rt, arena, SIZE, 8)?;
+    memory.enter(arena)?;
     for word in 0..SIZE / 8 {
-        put(&mut memory, arena, word, word.wrapping_mul(count))?;
+        memory.store(word, word.wrapping_mul(count));
     }
+    memory.leave();
     let mut joined: u64 = 0;
     for turn in 0..count {
-        joined ^= visit(&mut memory, arena, joined.wrapping_add(turn) % (SIZE / 8))?;
+        memory.enter(arena)?;
+        joined ^= memory.load(joined.wrapping_add(turn) % (SIZE / 8));
+        memory.leave();
     }
     Ok(joined)
-}
-
-/// Loads a word in a visit of its own.
-fn visit(memory: &mut Mono, arena: ArenaId, word: u64) -> Result<u64, Refusal>
-    requires ready { IsReady memory.old arena 65536 }
-    requires within { word < 8192 }
-    ensures { IsReady memory.new arena 65536 }
-{
-    memory.enter(arena)?;
-    let found = memory.load(word);
-    memory.leave();
-    Ok(found)
-}
-
-/// Stores a word in a visit of its own.
-fn put(memory: &mut Mono, arena: ArenaId, word: u64, v: u64) -> Result<(), Refusal>
-    requires ready { IsReady memory.old arena 65536 }
-    requires within { word < 8192 }
-    ensures { IsReady memory.new arena 65536 }
-{
-    memory.enter(arena)?;
-    memory.store(word, v);
-    memory.leave();
-    Ok(())
 }

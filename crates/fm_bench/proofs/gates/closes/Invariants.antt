@@ -1,5 +1,5 @@
 use Rattle.fm_bench.proofs.gates.closes.Given as goal
-use Rattle.fm_gate.specs.Needs.{IsOutside}
+use Rattle.fm_bench.specs.Ready.{IsFree}
 
 abbrev pub invariant-loop-2 : goal.invariant-loop-2
-invariant-loop-2 g l = IsOutside l.pool l.pass
+invariant-loop-2 g l = IsFree l.pool l.pass

@@ -1,11 +1,20 @@
-use Rattle.std.proofs.Common.{◌∙◌}
 use Rattle.fm_rule_calls.proofs.Lasting.{lasts_then}
-use Rattle.fm_bench.proofs.Lasting.{pages_kept}
+use Rattle.fm_bench.proofs.Working.{free_after, nothing_stays}
 use Rattle.fm_bench.proofs.gates.visit.Goals as goal
 
+pub returns-in_err-enter : goal.returns-in_err-enter
+returns-in_err-enter c =
+    let after = c.in_err-enter.ensures in
+    free_after c.requires.free after.outside after.did.rest after.lasts
+
+pub act_inside-found-requires-clause-nothing : goal.act_inside-found-requires-clause-nothing
+act_inside-found-requires-clause-nothing c = nothing_stays c.in_ok-enter.ensures.did.rest c.requires.free.nothing
+
 pub returns : goal.returns
-returns c = record {
-  outside = c.leave.ensures.outside;
-  pages = pages_kept c.leave.ensures.did ∙ (pages_kept c.load-found.ensures.did ∙ pages_kept c.enter.ensures.did);
-  lasts = lasts_then (lasts_then c.enter.ensures.lasts c.load-found.ensures.lasts) c.leave.ensures.lasts;
-}
+returns c =
+    let did = c.act_inside-found.ensures in
+    let left = c.leave.ensures in
+    record {
+      free = record { outside = left.outside; nothing = nothing_stays left.did.rest did.nothing };
+      lasts = lasts_then (lasts_then c.enter.ensures.lasts did.lasts) left.lasts;
+    }

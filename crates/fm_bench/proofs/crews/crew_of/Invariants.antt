@@ -1,7 +1,0 @@
-use Rattle.std.specs.Prelude.{All}
-use Rattle.fm_bench.proofs.crews.crew_of.Given as goal
-use Rattle.fm_bench.specs.Ready.{CanWork, IsOpen}
-use Rattle.fm_gate.specs.Needs.{IsOutside}
-
-abbrev pub invariant-loop : goal.invariant-loop
-invariant-loop g l = IsOutside l.fn.pool l.pass × IsOpen l.pass 8 l.fn.a × All (λ w. CanWork l.fn.pool w.pass l.fn.a) l.crew.items
