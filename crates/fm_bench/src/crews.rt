@@ -98,13 +98,24 @@ pub fn draws<R: Wait>(rt: &R, alloc: Global, count: u64) -> Result<u64, Refusal>
 
 /// Threads visit an arena at once, so often each. Their marks share no cache line: those of numbers in a row lie 8 words
 /// apart, and where 7 passes are drawn between two workers, theirs lie 64 words apart. Answers how often they came in.
-pub fn crowd<R: Threads + Wait + Sync>(rt: &R, alloc: Global, plan: Plan) -> Result<u64, Refusal> {
+pub fn crowd<R: Threads + Wait + Sync>(
+    rt: &R,
+    alloc: Global,
+    count: u64,
+    threads: u64,
+    between: u64,
+) -> Result<u64, Refusal> {
+    let plan = Plan {
+        workers: threads,
+        between,
+        job: Job::Load(count),
+    };
     let (pool, mut pass) = made(alloc, CROWD)?;
     let a = given(rt, &pool, &mut pass, 64)?;
     Ok(run_crew(rt, alloc, &pool, &mut pass, a, plan)?.visits.fine)
 }
 
-/// A crew is drawn, does its job in threads, and is gathered.
+/// A crew is drawn, each of its workers does the job in a thread of its own, and all are gathered.
 pub fn run_crew<R: Threads + Wait + Sync>(
     rt: &R,
     alloc: Global,
@@ -117,7 +128,15 @@ pub fn run_crew<R: Threads + Wait + Sync>(
     ensures { FreeAfter pool.now pass.old pass.new }
 {
     let mut crew = hire(rt, alloc, pool, pass, plan)?;
-    work_all(rt, pool, crew.as_mut_slice(), a, plan.job);
+    thread::for_each_mut(
+        rt,
+        crew.as_mut_slice(),
+        16,
+        &|place: usize, worker: &mut Worker|
+            requires { CanRead pool.now worker.now.pass 64 a }
+            ensures { IsFree pool.entry.now worker.exit.now.pass }
+        { work(rt, pool, worker, a, plan.job, place) },
+    );
     Ok(gather_all(pool, pass, crew))
 }
 
@@ -150,28 +169,6 @@ fn hire<R: Wait>(
         }
     }
     Ok(crew)
-}
-
-/// Each worker does the job, in a thread of its own.
-fn work_all<R: Threads + Wait + Sync>(
-    rt: &R,
-    pool: &Pool,
-    crew: &mut [Worker],
-    a: ArenaId,
-    job: Job,
-)
-    requires { All (λ w. CanRead pool.now w.pass 64 a) crew.old }
-    ensures { All (λ w. IsFree pool.now w.pass) crew.new }
-{
-    thread::for_each_mut(
-        rt,
-        crew,
-        16,
-        &|place: usize, worker: &mut Worker|
-            requires { CanRead pool.now worker.now.pass 64 a }
-            ensures { IsFree pool.entry.now worker.exit.now.pass }
-        { work(rt, pool, worker, a, job, place) },
-    );
 }
 
 /// The worker in this place does the job.

@@ -138,24 +138,11 @@ fn leaps(pool: Pool, mut pass: Pass, arenas: &[ArenaId], count: u64) -> Result<u
 {
     let mut joined: u64 = 0;
     for turn in 0..count {
-        joined ^= hop(&pool, &mut pass, arenas, joined.wrapping_add(turn) % WORDS)?;
+        let word = joined.wrapping_add(turn) % WORDS;
+        let arena = arenas[(word / SHARE) as usize];
+        joined ^= visit(&pool, &mut pass, arena, word % SHARE, Act::Load)?;
     }
     Ok(joined)
-}
-
-/// Loads a word of the arenas in a visit of its own.
-fn hop(pool: &Pool, pass: &mut Pass, arenas: &[ArenaId], word: u64) -> Result<u64, Refusal>
-    requires ready { AreOpen pool.now pass.old arenas.now 1024 }
-    requires within { word < length arenas.now * 128 }
-    ensures { AreOpen pool.now pass.new arenas.now 1024 }
-{
-    visit(
-        pool,
-        pass,
-        arenas[(word / SHARE) as usize],
-        word % SHARE,
-        Act::Load,
-    )
 }
 
 /// Opens and closes arenas in pools of 16 passes, so many pools of 64 arenas, and answers how many were closed.

@@ -32,7 +32,7 @@ mod updates;
 mod visits;
 
 use crate::count::Count;
-use crate::crews::{Job, Plan, crowd, draws};
+use crate::crews::{crowd, draws};
 use crate::gates::{Next, PAGE, PAGES, closes, gates, hops};
 use crate::loads::loads;
 use crate::opens::{EMPTY, FIRST_PAGE, LARGE, LAST_PAGE, PAGED, SMALL, gives, opens};
@@ -122,15 +122,6 @@ fn run<R: Threads + Wait + Sync>(rt: &R, alloc: Global, asked: &Asked) -> Option
         "firsts" => opens(rt, alloc, count, FIRST_PAGE),
         "lasts" => opens(rt, alloc, count, LAST_PAGE),
         "gives" => gives(rt, alloc, count),
-        _ => return run_closes(rt, alloc, asked),
-    };
-    joined.ok()
-}
-
-/// The same of the loops that close arenas by polls, that update words, and those of crews.
-fn run_closes<R: Threads + Wait + Sync>(rt: &R, alloc: Global, asked: &Asked) -> Option<u64> {
-    let count = asked.count;
-    let joined = match asked.what.as_str() {
         "polls" => polls(rt, alloc, count, By::Poll),
         "looks" => polls(rt, alloc, count, By::Visit),
         "sets" => sets(rt, alloc, count),
@@ -139,20 +130,11 @@ fn run_closes<R: Threads + Wait + Sync>(rt: &R, alloc: Global, asked: &Asked) ->
         "swaps" => updates(rt, alloc, count, Update::Swap),
         "patches" => updates(rt, alloc, count, Update::Patch),
         "draws" => draws(rt, alloc, count),
-        "beside" => crowd(rt, alloc, crowding(asked, 7)?),
-        "apart" => crowd(rt, alloc, crowding(asked, 0)?),
+        "beside" => crowd(rt, alloc, count, asked.text.parse::<u64>().ok()?, 7),
+        "apart" => crowd(rt, alloc, count, asked.text.parse::<u64>().ok()?, 0),
         "stress" => stress(rt, alloc, count, Trial::Adds),
         "recruits" => stress(rt, alloc, count, Trial::Recruits),
         _ => return None,
     };
     joined.ok()
-}
-
-/// The words ask for so many threads that load a word so often, behind each of which so many passes are drawn.
-fn crowding(asked: &Asked, between: u64) -> Option<Plan> {
-    Some(Plan {
-        workers: asked.text.parse::<u64>().ok()?,
-        between,
-        job: Job::Load(asked.count),
-    })
 }

@@ -40,23 +40,19 @@ pub fn stress<R: Threads + Wait + Sync>(
 ) -> Result<u64, Refusal> {
     let mut fine: u64 = 0;
     for _ in 0..rounds {
-        if is_fine(rt, alloc, trial)? {
+        let came = match trial {
+            Trial::Adds => {
+                let adding = round(rt, alloc, FIVE, Job::Add(TIMES))?;
+                let closing = round(rt, alloc, FIVE, Job::CloseAndAdd(TIMES))?;
+                adding && closing
+            }
+            Trial::Recruits => round(rt, alloc, NINE, Job::Recruit(TIMES / 2))?,
+        };
+        if came {
             fine = fine.wrapping_add(1);
         }
     }
     Ok(fine)
-}
-
-/// Whether a round came out as it should.
-fn is_fine<R: Threads + Wait + Sync>(rt: &R, alloc: Global, trial: Trial) -> Result<bool, Refusal> {
-    match trial {
-        Trial::Adds => {
-            let adding = round(rt, alloc, FIVE, Job::Add(TIMES))?;
-            let closing = round(rt, alloc, FIVE, Job::CloseAndAdd(TIMES))?;
-            Ok(adding && closing)
-        }
-        Trial::Recruits => round(rt, alloc, NINE, Job::Recruit(TIMES / 2)),
-    }
 }
 
 /// Whether the pass is whole after the job, and the word shows what all workers added; or where one of them closed the
