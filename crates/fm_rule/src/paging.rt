@@ -1,7 +1,7 @@
 //! The steps by which a pass gets pages for an arena, and finds them.
 #![tactic(auto, using(crate::proofs::Stepping::step_rules), unfolding(fm_rule_facts::specs::Steps::part))]
 
-ghost use Rattle.std.specs.Prelude.{◌≡◌, ◌<◌, ◌≤◌, ◌/◌, ◌==◌, [], ◌∷◌, Some};
+ghost use Rattle.std.specs.Prelude.{◌≡◌, ◌≢◌, None, ◌<◌, ◌≤◌, ◌/◌, ◌==◌, [], ◌∷◌, Some};
 ghost use Rattle.fm_base.specs.Calls as machine;
 ghost use Rattle.fm_base.specs.Calls.{entry_of};
 ghost use Rattle.fm_base.specs.Finds.{TakesPage as Claiming, Maps as Mapping};
@@ -106,21 +106,27 @@ pub fn step_find(pool: &Pool, pass: &mut Pass, id: ArenaId, word: u64) -> u64
         pass.part = pool.part_of(part.slot, part.index, found);
         return pool.word_place(found, (word - part.first) as u32);
     }
-    step_find_anew(pool, pass, id, word)
+    step_find_anew(pool, pass, word)
 }
 
-/// As `step_find`, of any part.
+/// As `step_find`, of any part. The arena is the one that the pass is inside: its name would be put into memory for this
+/// call at each visit.
 #[inline(never)]
-fn step_find_anew(pool: &Pool, pass: &mut Pass, id: ArenaId, word: u64) -> u64
+fn step_find_anew(pool: &Pool, pass: &mut Pass, word: u64) -> u64
     requires of { IsOf pool.now pass.old }
-    requires inside { pass.old.inside ≡ Some id }
+    requires inside { pass.old.inside ≢ None }
     requires low { word / pool.now.shape.page_words < pool.now.shape.reach }
-    ensures { FindsPlace pass.old id word result pass.new }
+    ensures { (a : ArenaId) → pass.old.inside ≡ Some a → FindsPlace pass.old a word result pass.new }
 {
-    let size = u64::from(pool.shape.page_words);
-    let index = quotient(word, size);
-    let found = step_read_map(pool, pass, id, index as u32);
-    pool.word_place(found, (word - index * size) as u32)
+    match pass.inside() {
+        None => unreachable!(),
+        Some(a) => {
+            let size = u64::from(pool.shape.page_words);
+            let index = quotient(word, size);
+            let found = step_read_map(pool, pass, a, index as u32);
+            pool.word_place(found, (word - index * size) as u32)
+        }
+    }
 }
 
 /// Makes the bit of the page 1 that the pass has in its hand: it can be claimed from this step on.

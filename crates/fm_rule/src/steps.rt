@@ -53,13 +53,11 @@ pub fn step_check(pool: &Pool, pass: &mut Pass, id: ArenaId) -> u64
     let word = load_as::<Brand>(pool, seat, place, Step::Checks(id));
     pass.is_inside = is_alive(id, word);
     // Field by field: a copy of the whole name takes the bytes between its fields along, at each visit.
-    pass.current = ArenaId {
-        slot: id.slot,
-        generation: id.generation,
-        kind: id.kind,
-        owner: id.owner,
-        term: id.term,
-    };
+    pass.current.slot = id.slot;
+    pass.current.generation = id.generation;
+    pass.current.kind = id.kind;
+    pass.current.owner = id.owner;
+    pass.current.term = id.term;
     // A part that it read before is known in this visit only once its map word was looked at.
     pass.part.words = 0;
     pass.other.words = 0;
