@@ -5,6 +5,7 @@
 //!   groups maps FILE THREADS     each thread counts a run of the values in a hash map of its own, which are then added
 //!   groups table FILE THREADS    all threads claim places of one table of atomics, and count there
 //!   groups bare FILE THREADS     a swap, a load and an add a value in one table, and nothing found
+//!   groups begun FILE THREADS    what `bare` begins with: the values, and a table of zeros
 
 use std::collections::HashMap;
 use std::io::{self, BufWriter, Read, Write};
@@ -165,6 +166,7 @@ fn main() -> io::Result<()> {
         "maps" => print(maps(&values, threads)),
         "table" => print(read(&in_table(&values, threads, false), &values)),
         "bare" => Ok(drop(in_table(&values, threads, true))),
+        "begun" => Ok(drop(std::hint::black_box(Table::of(values.len())))),
         _ => panic!("no such counting"),
     }
 }

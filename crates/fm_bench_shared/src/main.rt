@@ -5,11 +5,13 @@
 //! layout that is read as JSON, at offsets and by a path, `queries COUNT QUERY` of records, and `fills COUNT`, `copies
 //! COUNT` and `mismatches COUNT` of segments of 64 MiB are the loops. With `visit-` in front `known`, `handles`, `fills`,
 //! `copies` and `mismatches` are made in one visit, and `visit-words COUNT` and `visit-bytes COUNT` read 64 KiB into a
-//! slice so often; of these `list`, a third memory, is what `known` and the two are measured against. It prints what it
-//! found, so that they are run; the script that calls it takes the time.
+//! slice so often; of these `list`, a third memory, is what `known` and the two are measured against. `counts STEPS
+//! NUMBERS` counts longs in a table. It prints what it found, so that they are run; the script that calls it takes the
+//! time.
 #![tactic(auto)]
 
 mod cells;
+mod counts;
 mod inside;
 mod lists;
 mod memories;

@@ -2,6 +2,7 @@ ghost use Rattle.std.specs.Prelude.{◌≡◌, None};
 ghost use Rattle.fm_arena.specs.Shares.{CanShare};
 
 use crate::cells::cells;
+use crate::counts::counts;
 use crate::inside::visited;
 use crate::queries::queries;
 use crate::ranges::{SIZE, ranges};
@@ -27,11 +28,11 @@ pub fn over_mono<R: Wait>(rt: &R, alloc: Global, asked: &Asked) -> Option<u64> {
     looped(rt, alloc, &mut memory, asked)
 }
 
-/// Runs the loop over a pool of one pass, whose one arena gives as many bytes as that of the `Mono`.
+/// Runs the loop over a pool of one pass, whose two arenas give as many bytes as those of the `Mono`.
 pub fn over_shared<R: Wait>(rt: &R, alloc: Global, asked: &Asked) -> Option<u64> {
     let shape = Shape {
         passes: 16,
-        slots: 1,
+        slots: 2,
         pages: 16,
         page_words: 1_048_576,
         reach: 16,
@@ -55,6 +56,7 @@ fn looped<R: Wait, M: Memory>(rt: &R, alloc: Global, m: &mut M, asked: &Asked) -
 {
     match asked.what.as_str() {
         "known" | "gets" | "handles" => cells(rt, alloc, m, asked).ok(),
+        "counts" => counts(rt, alloc, m, asked).ok(),
         "queries" => queries(rt, alloc, m, &asked.text, asked.count).ok(),
         "visit-known" | "visit-handles" | "visit-words" | "visit-bytes" => {
             visited(rt, alloc, m, asked).ok()
