@@ -1,11 +1,15 @@
 -- A visit as a value: it has the name of the arena that was entered, and takes segments of this arena alone.
-use Rattle.std.specs.Prelude.{◌≡◌, ◌⊎◌, ℕ, ◌+◌, List, [], ◌∷◌, length, Result, Ok, Err}
+use Rattle.std.specs.Prelude.{◌≡◌, ◌⊎◌, ℕ, ℤ, Bool, ◌+◌, List, [], ◌∷◌, length, Result, Ok, Err}
 use Rattle.fm_base.specs.declared.{arena_id.ArenaId.{ArenaId}, refusal.Refusal.{Refusal, TheVariants.{Unsupported}}}
 use Rattle.fm_base.specs.{View.{View}, Visits.{Acts}}
 use Rattle.fm_base_bytes.specs.Words.{bytes_in}
+use Rattle.fm_lanes.specs.declared.value.Value.{Value, TheVariants.{Long}}
+use Rattle.fm_path.specs.Resolution.{Resolution}
 use Rattle.fm_segment_access.specs.Alone.{ChangesBytes}
 use Rattle.fm_segment.specs.Region.{Region}
 use Rattle.fm_visit.specs.{Acts.{ActsAt, GetsWord, GetsWords, PutsWords}, Learnt.{AfterInside, FindsWords, place_of_words, place_to_put}}
+use Rattle.fm_visit.specs.Handles.{AddsIt, DoesAdd, DoesAddLong, DoesCompareAndSet, DoesExchange, DoesExchangeLong, DoesGetBy, DoesSetBy, DoesSetLong}
+use Rattle.fm_visit.specs.Handles.{ExchangesIt, Finds, Puts, SetsIt}
 
 -- whether it was refused, and by what
 abbrev pub outcome_of : {X : Type 0} → Result X Refusal → Result (Unit {0}) Refusal
@@ -49,3 +53,31 @@ ActsInBoth id a b Do result acts = (AreOf id a b × Do result acts) ⊎ (¬ (Are
 abbrev pub AfterVisitBoth : {X : Type 0} → View → View → ArenaId → Region → Region → (Result X Refusal → Acts → Type 0) → (X → Type 0)
     → Result X Refusal → Type 0
 AfterVisitBoth old new id a b Do Alone result = AfterInside old new id a (ActsInBoth id a b Do) Alone result
+
+-- ---- of the calls by a handle
+
+module _ (old new : View) (id : ArenaId) (h : Resolution) (r : Region) (base : ℕ) (is : List ℕ) where
+  abbrev pub AfterVisitGetBy : Result Value Refusal → Type 0
+  AfterVisitGetBy = AfterVisit old new id r (DoesGetBy h r base is) (Finds h r base is old new)
+
+  abbrev pub AfterVisitSetBy : Value → Result (Unit {0}) Refusal → Type 0
+  AfterVisitSetBy x = AfterVisit old new id r (DoesSetBy h r base is x) (λ u. Puts h r base is old new x)
+
+  abbrev pub AfterVisitCompareAndSet : Value → Value → Result Bool Refusal → Type 0
+  AfterVisitCompareAndSet expected x = AfterVisit old new id r (DoesCompareAndSet h r base is expected x) (SetsIt h r base is old new expected x)
+
+  abbrev pub AfterVisitExchange : Value → Value → Result Value Refusal → Type 0
+  AfterVisitExchange expected x = AfterVisit old new id r (DoesExchange h r base is expected x) (ExchangesIt h r base is old new expected x)
+
+  abbrev pub AfterVisitAdd : Value → Result Value Refusal → Type 0
+  AfterVisitAdd delta = AfterVisit old new id r (DoesAdd h r base is delta) (AddsIt h r base is old new delta)
+
+  abbrev pub AfterVisitSetLong : ℤ → Result (Unit {0}) Refusal → Type 0
+  AfterVisitSetLong n = AfterVisit old new id r (DoesSetLong h r base is n) (λ u. Puts h r base is old new (Long n))
+
+  abbrev pub AfterVisitExchangeLong : ℤ → ℤ → Result ℤ Refusal → Type 0
+  AfterVisitExchangeLong expected n =
+      AfterVisit old new id r (DoesExchangeLong h r base is expected n) (λ x. ExchangesIt h r base is old new (Long expected) (Long n) (Long x))
+
+  abbrev pub AfterVisitAddLong : ℤ → Result ℤ Refusal → Type 0
+  AfterVisitAddLong delta = AfterVisit old new id r (DoesAddLong h r base is delta) (λ x. AddsIt h r base is old new (Long delta) (Long x))

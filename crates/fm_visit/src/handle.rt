@@ -88,7 +88,8 @@ pub fn compare_and_exchange<R: Wait, M: Memory>(
     v: Value,
 ) -> Result<Value, Refusal>
     requires { CanExchange (M.view m.old) s.now.arena handle.now s.now indices.now expected v }
-    ensures exchanged { AfterExchange (M.view m.old) (M.view m.new) handle.now s.now base indices.now expected v result }
+    ensures exchanged { AfterExchange (M.view m.old) (M.view m.new) handle.now s.now base indices.now
+        expected v result }
     ensures kind { IfOk result (λ v. kind_of v ≡ handle.now.value.kind) }
 {
     let place = handle.update_place_of(Support::Number, s, base, indices)?;

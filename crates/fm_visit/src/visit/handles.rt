@@ -1,9 +1,8 @@
 ghost use Rattle.std.specs.Prelude.{◌≡◌, IfOk};
 ghost use Rattle.fm_lanes.specs.Value.{kind_of};
-ghost use Rattle.fm_lanes.specs.declared.value.Value.TheVariants.{Long};
-ghost use Rattle.fm_visit.specs.Handles.{AddsIt, CanCall, CanExchange, CanPut, ExchangesIt, Finds, Puts, SetsIt};
-ghost use Rattle.fm_visit.specs.Handles.{DoesAdd, DoesAddLong, DoesCompareAndSet, DoesExchange, DoesExchangeLong, DoesGetBy, DoesSetBy, DoesSetLong};
-ghost use Rattle.fm_visit.specs.Visiting.{AfterVisit};
+ghost use Rattle.fm_visit.specs.Handles.{CanCall, CanExchange, CanPut};
+ghost use Rattle.fm_visit.specs.Visiting.{AfterVisitAdd, AfterVisitAddLong, AfterVisitCompareAndSet, AfterVisitExchange, AfterVisitExchangeLong};
+ghost use Rattle.fm_visit.specs.Visiting.{AfterVisitGetBy, AfterVisitSetBy, AfterVisitSetLong};
 
 use super::Visit;
 use crate::handle::{compare_and_exchange, compare_and_set, get_and_add, get_by, set_by};
@@ -26,8 +25,8 @@ impl Visit {
         indices: &[u64],
     ) -> Result<Value, Refusal>
         requires { CanCall (M.view m.old) self.now.arena handle.now s.now indices.now }
-        ensures got { AfterVisit (M.view m.old) (M.view m.new) self.now.arena s.now (DoesGetBy handle.now s.now base indices.now)
-            (Finds handle.now s.now base indices.now (M.view m.old) (M.view m.new)) result }
+        ensures got { AfterVisitGetBy (M.view m.old) (M.view m.new)
+            self.now.arena handle.now s.now base indices.now result }
         ensures kind { IfOk result (λ v. kind_of v ≡ handle.now.value.kind) }
     {
         if self.is_elsewhere(s) {
@@ -48,8 +47,8 @@ impl Visit {
         v: Value,
     ) -> Result<(), Refusal>
         requires { CanPut (M.view m.old) self.now.arena handle.now s.now indices.now v }
-        ensures { AfterVisit (M.view m.old) (M.view m.new) self.now.arena s.now (DoesSetBy handle.now s.now base indices.now v)
-            (λ u. Puts handle.now s.now base indices.now (M.view m.old) (M.view m.new) v) result }
+        ensures { AfterVisitSetBy (M.view m.old) (M.view m.new)
+            self.now.arena handle.now s.now base indices.now v result }
     {
         if self.is_elsewhere(s) {
             return Err(Refusal::Unsupported);
@@ -70,9 +69,8 @@ impl Visit {
         v: Value,
     ) -> Result<bool, Refusal>
         requires { CanExchange (M.view m.old) self.now.arena handle.now s.now indices.now expected v }
-        ensures { AfterVisit (M.view m.old) (M.view m.new) self.now.arena s.now
-            (DoesCompareAndSet handle.now s.now base indices.now expected v)
-            (SetsIt handle.now s.now base indices.now (M.view m.old) (M.view m.new) expected v) result }
+        ensures { AfterVisitCompareAndSet (M.view m.old) (M.view m.new)
+            self.now.arena handle.now s.now base indices.now expected v result }
     {
         if self.is_elsewhere(s) {
             return Err(Refusal::Unsupported);
@@ -93,9 +91,8 @@ impl Visit {
         v: Value,
     ) -> Result<Value, Refusal>
         requires { CanExchange (M.view m.old) self.now.arena handle.now s.now indices.now expected v }
-        ensures exchanged { AfterVisit (M.view m.old) (M.view m.new) self.now.arena s.now
-            (DoesExchange handle.now s.now base indices.now expected v)
-            (ExchangesIt handle.now s.now base indices.now (M.view m.old) (M.view m.new) expected v) result }
+        ensures exchanged { AfterVisitExchange (M.view m.old) (M.view m.new)
+            self.now.arena handle.now s.now base indices.now expected v result }
         ensures kind { IfOk result (λ v. kind_of v ≡ handle.now.value.kind) }
     {
         if self.is_elsewhere(s) {
@@ -116,8 +113,8 @@ impl Visit {
         delta: Value,
     ) -> Result<Value, Refusal>
         requires { CanPut (M.view m.old) self.now.arena handle.now s.now indices.now delta }
-        ensures added { AfterVisit (M.view m.old) (M.view m.new) self.now.arena s.now (DoesAdd handle.now s.now base indices.now delta)
-            (AddsIt handle.now s.now base indices.now (M.view m.old) (M.view m.new) delta) result }
+        ensures added { AfterVisitAdd (M.view m.old) (M.view m.new)
+            self.now.arena handle.now s.now base indices.now delta result }
         ensures kind { IfOk result (λ v. kind_of v ≡ handle.now.value.kind) }
     {
         if self.is_elsewhere(s) {
@@ -137,8 +134,8 @@ impl Visit {
         v: i64,
     ) -> Result<(), Refusal>
         requires { CanCall (M.view m.old) self.now.arena handle.now s.now indices.now }
-        ensures { AfterVisit (M.view m.old) (M.view m.new) self.now.arena s.now (DoesSetLong handle.now s.now base indices.now v)
-            (λ u. Puts handle.now s.now base indices.now (M.view m.old) (M.view m.new) (Long v)) result }
+        ensures { AfterVisitSetLong (M.view m.old) (M.view m.new)
+            self.now.arena handle.now s.now base indices.now v result }
     {
         if self.is_elsewhere(s) {
             return Err(Refusal::Unsupported);
@@ -158,9 +155,8 @@ impl Visit {
         v: i64,
     ) -> Result<i64, Refusal>
         requires { CanCall (M.view m.old) self.now.arena handle.now s.now indices.now }
-        ensures { AfterVisit (M.view m.old) (M.view m.new) self.now.arena s.now
-            (DoesExchangeLong handle.now s.now base indices.now expected v)
-            (λ x. ExchangesIt handle.now s.now base indices.now (M.view m.old) (M.view m.new) (Long expected) (Long v) (Long x)) result }
+        ensures { AfterVisitExchangeLong (M.view m.old) (M.view m.new)
+            self.now.arena handle.now s.now base indices.now expected v result }
     {
         if self.is_elsewhere(s) {
             return Err(Refusal::Unsupported);
@@ -179,8 +175,8 @@ impl Visit {
         delta: i64,
     ) -> Result<i64, Refusal>
         requires { CanCall (M.view m.old) self.now.arena handle.now s.now indices.now }
-        ensures { AfterVisit (M.view m.old) (M.view m.new) self.now.arena s.now (DoesAddLong handle.now s.now base indices.now delta)
-            (λ x. AddsIt handle.now s.now base indices.now (M.view m.old) (M.view m.new) (Long delta) (Long x)) result }
+        ensures { AfterVisitAddLong (M.view m.old) (M.view m.new)
+            self.now.arena handle.now s.now base indices.now delta result }
     {
         if self.is_elsewhere(s) {
             return Err(Refusal::Unsupported);
