@@ -33,7 +33,7 @@ stands_off : (v w : View) (part : Part) → w.shape ≡ v.shape → Stands v par
 stands_off v w part sh s = record {
   known = λ l. absurd (omega arith);
   kept = λ l. subst (λ (z : Shape). IsKept z (record part { words = 0 })) (sym sh) (let h = s.kept l in
-  record { page = h.page; word = h.word; from = h.from; size = h.size; first = h.first; word_at = h.word_at; low = h.low });
+      record { page = h.page; word = h.word; from = h.from; size = h.size; first = h.first; word_at = h.word_at; low = h.low });
 }
 
 module _ {c : Caller} {i : Option ArenaId} {known : Part × Part} {count : ℕ} where
