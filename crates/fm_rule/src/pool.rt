@@ -158,6 +158,9 @@ impl Pool {
     }
 
     /// The part of this index of the slot's arena, where this is its map word.
+    ///
+    /// A call of its own: in a visit's loop its words would be made ready at each visit, used or not.
+    #[inline(never)]
     pub(crate) fn part_of(&self, slot: u32, index: u32, word: u64) -> Part
         requires low { word ≤ self.now.shape.pages }
         requires place { IsPlace self.now.shape (map slot index) }
