@@ -5,7 +5,8 @@
 //!   groups maps FILE THREADS     each thread counts a run of the values in a hash map of its own, which are then added
 //!   groups table FILE THREADS    all threads claim places of one table of atomics, and count there
 //!   groups bare FILE THREADS     a swap, a load and an add a value in one table, and nothing found
-//!   groups begun FILE THREADS    what `bare` begins with: the values, and a table of zeros
+//!   groups mixed FILE THREADS    the same at the places that `fmem group` tries first
+//!   groups begun FILE THREADS    what both begin with: the values, and a table of zeros
 
 use std::collections::HashMap;
 use std::io::{self, BufWriter, Read, Write};
@@ -113,8 +114,14 @@ impl Table {
         }
     }
 
-    fn steps(&self, v: i64) -> u64 {
-        let p = self.first(v);
+    /// A number's bits mixed and dealt to the places as `group` does.
+    fn mixed(&self, v: i64) -> usize {
+        let fold = |bits: u64| bits ^ (bits >> 33);
+        let bits = fold(fold(v as u64).wrapping_mul(0xff51_afd7_ed55_8ccd)).wrapping_mul(0xc4ce_b9fe_1a85_ec53);
+        ((u128::from(bits) * (self.mask as u128 + 1)) >> 64) as usize
+    }
+
+    fn steps(&self, p: usize) -> u64 {
         let found = self.words[2 * p].compare_exchange(0, 1, SeqCst, SeqCst).unwrap_or(0);
         let count = self.words[2 * p + 1].load(SeqCst);
         self.words[2 * p + 1].fetch_add(1, SeqCst);
@@ -122,7 +129,14 @@ impl Table {
     }
 }
 
-fn in_table(values: &[i64], threads: usize, bare: bool) -> Table {
+#[derive(Clone, Copy)]
+enum Loop {
+    Counts,
+    Bare,
+    Mixed,
+}
+
+fn in_table(values: &[i64], threads: usize, way: Loop) -> Table {
     let table = Table::of(values.len());
     let n = values.len();
     thread::scope(|s| {
@@ -131,10 +145,10 @@ fn in_table(values: &[i64], threads: usize, bare: bool) -> Table {
             s.spawn(move || {
                 let mut all = 0;
                 for ordinal in n * k / threads..n * (k + 1) / threads {
-                    if bare {
-                        all ^= table.steps(values[ordinal]);
-                    } else {
-                        table.count(values, ordinal);
+                    match way {
+                        Loop::Counts => table.count(values, ordinal),
+                        Loop::Bare => all ^= table.steps(table.first(values[ordinal])),
+                        Loop::Mixed => all ^= table.steps(table.mixed(values[ordinal])),
                     }
                 }
                 std::hint::black_box(all);
@@ -164,8 +178,9 @@ fn main() -> io::Result<()> {
     let threads = words[2].parse().expect("a number of threads");
     match words[0].as_str() {
         "maps" => print(maps(&values, threads)),
-        "table" => print(read(&in_table(&values, threads, false), &values)),
-        "bare" => Ok(drop(in_table(&values, threads, true))),
+        "table" => print(read(&in_table(&values, threads, Loop::Counts), &values)),
+        "bare" => Ok(drop(in_table(&values, threads, Loop::Bare))),
+        "mixed" => Ok(drop(in_table(&values, threads, Loop::Mixed))),
         "begun" => Ok(drop(std::hint::black_box(Table::of(values.len())))),
         _ => panic!("no such counting"),
     }
