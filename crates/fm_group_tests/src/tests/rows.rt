@@ -159,6 +159,25 @@ fn places_are_tried_from_the_remainder_on(rt: HostRuntime) {
             words: &[1, 1, 3, 1, 4, 1, 2, 1],
             groups: &[(i64::MIN, 1), (-1, 1), (0, 1), (i64::MAX, 1)],
         },
+        // one run of places, and one place more
+        Row {
+            order: PlaceOrder::ByRemainder,
+            places: 64,
+            numbers: &[63, 0, 63],
+            before: &[],
+            answers: &[Ok(63), Ok(0), Ok(63)],
+            words: &[2, 1],
+            groups: &[(0, 1), (63, 2)],
+        },
+        Row {
+            order: PlaceOrder::ByRemainder,
+            places: 65,
+            numbers: &[64, 0, 64, 63],
+            before: &[],
+            answers: &[Ok(64), Ok(0), Ok(64), Ok(63)],
+            words: &[2, 1],
+            groups: &[(0, 1), (63, 1), (64, 2)],
+        },
         // no power of two
         Row {
             order: PlaceOrder::ByRemainder,
@@ -179,7 +198,7 @@ fn places_are_tried_from_the_remainder_on(rt: HostRuntime) {
             groups: &[(i64::MIN, 2), (-1, 1), (4, 1), (i64::MAX, 1)],
         },
     ] {
-        let mut m = Mono::make(rt.alloc(), 1024);
+        let mut m = Mono::make(rt.alloc(), 2048);
         play(&rt, rt.alloc(), &mut m, &row);
     }
 }
