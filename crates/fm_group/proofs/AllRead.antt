@@ -4,7 +4,7 @@ use Rattle.fm_base.specs.{declared.{caller.Caller.{Caller}, refusal.Refusal.{Ref
 use Rattle.fm_base.{specs.{View.{Did, Makes, View}}, proofs.{Making.{Makes-none, Makes-then}}}
 use Rattle.fm_group_lists.specs.Groups.{Group}
 use Rattle.fm_group.proofs.Lasting.{later}
-use Rattle.fm_group.specs.{Asked.{CanReadRun, CanTry}, Table.{Counter}}
+use Rattle.fm_group.specs.{Asked.{CanTry}, Table.{Counter}}
 use Rattle.fm_group.specs.Reading.{DoesReadPlaces, DoesReadRun, EndsAt, ReadsPart, ReadsRun, ReadsRuns, at_run, no_run, one_run, runs_in}
 
 -- so many runs were read, and this was found

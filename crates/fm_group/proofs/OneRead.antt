@@ -5,7 +5,7 @@ use Rattle.fm_base.{specs.{View.{Did, Makes, View}}, proofs.{Making.{Makes-none,
 use Rattle.fm_group_lists.specs.Groups.{Group}
 use Rattle.fm_group.proofs.Lasting.{later}
 use Rattle.fm_group.specs.{Asked.{CanTry}, Counting.{ReadsValue}, Table.{Counter, named_by}}
-use Rattle.fm_group.specs.Reading.{DoesLook, DoesReadNamed, DoesReadRun, EndsAt, ReadsNamed, ReadsPart, claim_of, count_of, free, none_read, records_shut, run_length, run_seen, table_shut, taken}
+use Rattle.fm_group.specs.Reading.{DoesLook, DoesReadNamed, DoesReadRun, EndsAt, ReadsNamed, ReadsPart, claim_of, count_of, free, none_read, records_shut, run_length, table_shut, taken}
 
 -- ---- the values that its claims name
 

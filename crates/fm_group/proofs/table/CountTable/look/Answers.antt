@@ -1,4 +1,4 @@
-use Rattle.std.proofs.Common.{◌≡◌, ap, ◌∙◌, arith}
+use Rattle.std.proofs.Common.{ap, ◌∙◌, arith}
 use Rattle.fm_group.specs.Table.{Counter}
 use Rattle.fm_group.proofs.Looking.{looked}
 use Rattle.fm_group.proofs.table.CountTable.look.Goals as goal

@@ -1,6 +1,6 @@
-use Rattle.std.{proofs.{Common.{rules, w64, ◌≡◌, true, not, is_ok, Vec, Global, List, [], ◌∷◌, ◌++◌, Some, None, Err, Ok, ap, sym, ◌∙◌, arith}, lemmas.{Int.{to_z-of_z}, Result.{err_from_is_err_and}}}, specs.Prelude.{ℤ}}
+use Rattle.std.{proofs.{Common.{rules, w64, ◌≡◌, true, not, is_ok, Vec, Global, [], ◌∷◌, ◌++◌, Some, Err, Ok, ap, sym, ◌∙◌, arith}, lemmas.{Int.{to_z-of_z}, Result.{err_from_is_err_and}}}, specs.Prelude.{ℤ}}
 use Rattle.fm_group_lists.specs.Groups.{Group}
-use Rattle.fm_group.{specs.{Reading.{claim_of, count_of}, Table.{Counter, named_by}}, proofs.{OneRead.{named_all, named_free, named_no_memory, named_none, named_shut, named_taken}, ReadingOne.{read_as}}}
+use Rattle.fm_group.{specs.{Reading.{claim_of, count_of}, Table.{Counter, named_by}}, proofs.{OneRead.{named_free, named_no_memory, named_none, named_shut, named_taken}, ReadingOne.{read_as}}}
 use Rattle.fm_group.proofs.table.CountTable.read_named.Goals.{in-Some+in_ok-number-in-Some+else-is_err, in-None}
 use Rattle.fm_group.proofs.table.CountTable.read_named.Goals as goal
 

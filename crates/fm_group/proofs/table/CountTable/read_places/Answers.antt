@@ -1,7 +1,7 @@
-use Rattle.std.proofs.{Common.{sym, subst, arith, ap, ◌∙◌}, lemmas.{Result.{err_from_is_err_and}}}
+use Rattle.std.proofs.{Common.{sym, subst, arith}, lemmas.{Result.{err_from_is_err_and}}}
 use Rattle.std.specs.Prelude.{List}
 use Rattle.fm_group_lists.specs.Groups.{Group}
-use Rattle.fm_group.{specs.{Reading.{runs_in}, Table.{Counter}}, proofs.AllRead.{ReadTo, read_ended, read_more, read_none}}
+use Rattle.fm_group.proofs.AllRead.{ReadTo, read_ended, read_more, read_none}
 use Rattle.fm_group.proofs.table.CountTable.read_places.Goals as goal
 
 pub loop-run-init : goal.loop-run-init

@@ -1,6 +1,6 @@
 use Rattle.std.proofs.{Common.{◌≡◌, ◌*◌, ◌≤◌, ℕ, List, length, replicate, ap, ◌∙◌, subst, arith}, lemmas.{List.{length-replicate, length-take-le, take-append-le, take_all}, Result.{err_from_is_err_and}}}
 use Rattle.fm_base.specs.View.{Did}
-use Rattle.fm_group.{specs.Reading.{DoesReadNamed, run_length}, proofs.{Lasting.{later}, OneRead.{run_read, run_shut}}}
+use Rattle.fm_group.{specs.Reading.{DoesReadNamed}, proofs.{Lasting.{later}, OneRead.{run_read, run_shut}}}
 use Rattle.fm_group.proofs.table.CountTable.read_run.Goals as goal
 
 pub returns-in_err-look-clause-did : goal.returns-in_err-look-clause-did
