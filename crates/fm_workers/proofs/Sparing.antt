@@ -1,8 +1,8 @@
 -- What is answered where nobody else writes.
-use Rattle.std.{proofs.Common.{◌≡◌, ◌≢◌, ℕ, Bool, true, false, List, [], ◌∷◌, ◌++◌, sym, ◌∙◌, subst, inl, inr, ⊎_elim}, specs.Prelude.{◌⊎◌, cond}}
+use Rattle.std.{proofs.Common.{◌≡◌, ◌≢◌, ℕ, List, [], ◌∷◌, ◌++◌, sym, ◌∙◌, subst, inl, inr}}
 use Rattle.std.specs.List.{AllByRecursion, flat_map}
 use Rattle.fm_base_lists.{specs.Among.{IsAmong}, proofs.Each.{all_both}}
-use Rattle.fm_base.specs.{declared.{caller.Caller.{Caller}, arena_id.ArenaId.{ArenaId}}, Arenas.{are_one}, Calls.{Entry}, Histories.{made_by}}
+use Rattle.fm_base.specs.{declared.{caller.Caller.{Caller}, arena_id.ArenaId.{ArenaId}}, Calls.{Entry}, Histories.{made_by}}
 use Rattle.fm_base.specs.{Untouched.{Spares}, Visits.{refused_visit}}
 use Rattle.fm_rule_facts.specs.Views.{View, IsSound, limit_of, state_in}
 use Rattle.fm_rule_calls.proofs.Going.{reached_by}

@@ -5,7 +5,7 @@ use Rattle.fm_base.specs.View.{Did, View}
 use Rattle.fm_segment.specs.Region.{Region}
 use Rattle.fm_workers_shares.specs.{declared.answers.Done.{Done}, Shares.{Cut, IsCut, share_of, start_of}, Taking.{MakesNext}}
 use Rattle.fm_workers_shares.proofs.Serving.{can_query_share}
-use Rattle.fm_workers.specs.{Adding.{CanAdd}, Counts.{AreCounts, AreSums, listed}, Tallies.{CanCount, CanTally, DoesCount, all_numbers, tallying}}
+use Rattle.fm_workers.specs.{Counts.{AreCounts, AreSums, listed}, Tallies.{CanCount, CanTally, DoesCount, all_numbers, tallying}}
 use Rattle.fm_workers.proofs.Numbers.{both_counted}
 
 pub all_numbers-append : (ds es : List Done) → all_numbers (ds ++ es) ≡ all_numbers ds ++ all_numbers es

@@ -39,19 +39,15 @@ impl Counts {
         self.items[place] += 1;
     }
 
-    /// How many there are together. Refused: `Memory`, exactly where they pass 64 bits.
-    pub(crate) fn total(&self) -> Result<u64, Refusal>
-        ensures total { IfOk result (λ total. total ≡ sum self.now) }
-        ensures memory { IfErr result (λ refusal. (refusal ≡ Refusal.Memory) × (2 ^ 64 ≤ sum self.now)) }
+    /// How many there are together.
+    pub(crate) fn total(&self) -> u128
+        ensures { result ≡ sum self.now }
     {
-        let mut total = 0u64;
+        let mut total = 0u128;
         for k in 0..256 {
-            match total.checked_add(self.items[k]) {
-                Some(more) => total = more,
-                None => return Err(Refusal::Memory),
-            }
+            total += u128::from(self.items[k]);
         }
-        Ok(total)
+        total
     }
 
     /// Both added. Refused: `Memory`, exactly where a sum passes 64 bits.

@@ -1,43 +1,26 @@
-ghost use Rattle.std.specs.Prelude.{◌≡◌, ◌++◌, ◌∷◌, ◌<◌, [], codes, string_bytes, sum, IfOk, OnOk, IfErr};
+ghost use Rattle.std.specs.Prelude.{◌≡◌, ◌++◌, ◌∷◌, ◌<◌, [], codes, string_bytes, IfOk, OnOk};
 ghost use Rattle.std.specs.Fmt.{decimal};
 ghost use Rattle.fm_workers.specs.Counts.{number_of};
 ghost use Rattle.fm_workers.specs.Printed.{count_text, counts_text, place_text, total_text};
 
 use crate::counts::Counts;
-use fm_base::Refusal;
 use itoa::Buffer;
 use std::alloc::{AllocError, Global};
 
 /// The text of counts: for each number that comes, in rising order, a line with the number, a space and how often, and
-/// last `total` and how many there are. Refused: `Memory`.
-pub fn print_counts(alloc: Global, counts: &Counts) -> Result<String, Refusal>
+/// last `total` and how many there are.
+pub fn print_counts(alloc: Global, counts: &Counts) -> Result<String, AllocError>
     ensures text { IfOk result (λ text. string_bytes text ≡ counts_text counts.now) }
-    ensures memory { IfErr result (λ refusal. refusal ≡ Refusal.Memory) }
-{
-    let total = match counts.total() {
-        Ok(total) => total,
-        Err(refusal) => return Err(refusal),
-    };
-    match lines(alloc, counts, total) {
-        Ok(text) => Ok(text),
-        Err(_) => Err(Refusal::Memory),
-    }
-}
-
-/// The lines of the numbers that come, and that of how many there are.
-fn lines(alloc: Global, counts: &Counts, total: u64) -> Result<String, AllocError>
-    requires { total ≡ sum counts.now }
-    ensures { IfOk result (λ text. string_bytes text ≡ counts_text counts.now) }
 {
     let mut text = String::new(alloc);
     for k in 0..256 {
         push_place(&mut text, counts, (k + 128) % 256)?;
     }
-    push_total(&mut text, total)?;
+    push_total(&mut text, counts.total())?;
     Ok(text)
 }
 
-fn push_total(text: &mut String, total: u64) -> Result<(), AllocError>
+fn push_total(text: &mut String, total: u128) -> Result<(), AllocError>
     ensures { OnOk result (string_bytes text.new ≡ string_bytes text.old ++ total_text total) }
 {
     text.push_str("total ")?;

@@ -126,10 +126,7 @@ impl<'a> PoolPlan<'a> {
             threads,
             host.gate,
         )?;
-        // It is refused for want of memory alone.
-        let Ok(text) = print_counts(host.alloc, &counts) else {
-            return Err(AllocError);
-        };
+        let text = print_counts(host.alloc, &counts)?;
         Ok(Reply {
             text: Output::Whole(text),
             left: Left::Pool(finished),

@@ -178,7 +178,7 @@ const COUNTED: &str = "-8 1\n-1 7\n0 43\n1 1\n2 2\n3 2\n4 1\n5 2\n6 1\n7 2\n8 1\
 
 fn prints_counts<R: Abort + AllocGlobal>(rt: &R, counts: &Counts, wanted: &str) {
     let text = print_counts(rt.alloc(), counts);
-    same(rt, text.as_deref(), Ok(wanted));
+    same(rt, text.as_deref().ok(), Some(wanted));
 }
 
 #[test]

@@ -2,7 +2,7 @@ use Rattle.std.{proofs.{Common.{◌≡◌, ◌+◌, ◌++◌, [], ℕ, List, sym
 use Rattle.std.proofs.lemmas.Grind.{flat_map-append}
 use Rattle.fm_workers.specs.Printed.{place_text, rising, total_text}
 use Rattle.fm_base_lists.proofs.Ranges.{range_append}
-use Rattle.fm_workers.proofs.printing.lines.Goals as goal
+use Rattle.fm_workers.proofs.printing.print_counts.Goals as goal
 
 -- One more is behind the others.
 flat_more : (f : ℕ → List ℕ) (k : ℕ) → flat_map f (range_with_len 0 (k + 1)) ≡ flat_map f (range_with_len 0 k) ++ f k
@@ -20,6 +20,8 @@ pub returns : goal.returns
 returns c =
     let below = c.loop-k.auto.k-end in
     let all : c.loop-k.k ≡ 256 = omega (arith, below, c.loop-k-test.false) in
-    c.in_ok-push_total.ensures ∙ (ap (λ xs. xs ++ total_text c.args.total) (c.loop-k.invariant
-    ∙ ap (λ n. flat_map (λ k. place_text c.args.counts.now (rising k)) (range_with_len 0 n)) all)
-    ∙ ap (λ n. flat_map (λ k. place_text c.args.counts.now (rising k)) (range_with_len 0 256) ++ total_text n) c.requires)
+    record {
+      text = c.in_ok-push_total.ensures ∙ (ap (λ xs. xs ++ total_text c.total.result) (c.loop-k.invariant
+          ∙ ap (λ n. flat_map (λ k. place_text c.args.counts.now (rising k)) (range_with_len 0 n)) all)
+          ∙ ap (λ n. flat_map (λ k. place_text c.args.counts.now (rising k)) (range_with_len 0 256) ++ total_text n) c.total.ensures);
+    }
