@@ -2,6 +2,7 @@ pub mod Asked
 pub mod Causes
 pub mod Comes
 pub mod Counted
+pub mod DemoQueries
 pub mod Demos
 pub mod Ends
 pub mod Grouped

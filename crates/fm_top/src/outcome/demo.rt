@@ -1,6 +1,8 @@
 ghost use Rattle.std.specs.Prelude.{◌≡◌, IfOk};
+ghost use Rattle.fm_records_query.specs.Parsed.{IsParsed};
+ghost use Rattle.fm_records_query.specs.Records.{IsRecord};
 ghost use Rattle.fm_top_demo.specs.Records.{made_records};
-ghost use Rattle.fm_top.specs.Demos.{AreMadeQueries, DemoEnds};
+ghost use Rattle.fm_top.specs.Demos.{AreMadeQueries, DemoEnds, IsQueryOver};
 ghost use Rattle.fm_top.specs.Ending.{shown};
 ghost use Rattle.fm_top.specs.Words.{AreThreads, IsCount};
 
@@ -11,11 +13,11 @@ use crate::outcome::host::Host;
 use crate::outcome::left::Left;
 use crate::outcome::output::Output;
 use crate::outcome::reply::Reply;
-use fm_base::Refusal;
 use fm_io::Gate;
+use fm_layout::Layout;
 use fm_records_query::{Query, parse_query};
 use fm_top_demo::made_records;
-use fm_top_pooled::Pooled;
+use fm_top_pooled::{Pooled, unless_wanting};
 use std::alloc::{AllocError, Global};
 use std::sync::Wait;
 use std::thread::Threads;
@@ -29,10 +31,8 @@ pub fn demo_reply<R: Threads + Wait + Sync, G: Gate>(
     requires count { IsCount demo.now.count }
     ensures { IfOk result (λ reply. DemoEnds demo.now.count (shown reply)) }
 {
-    let Ok((first, second)) = made_queries(host.alloc) else {
-        return Err(AllocError);
-    };
-    let pooled = made_pool(host.rt, host.alloc, demo.count)?;
+    let (first, second) = make_queries(host.alloc)?;
+    let pooled = make_pool(host.rt, host.alloc, demo.count)?;
     let threads = demo.threads as u32;
     let (one, two, finished) = pooled.answer_both(
         host.rt, host.alloc, &first, &second, threads, host.gate,
@@ -52,7 +52,7 @@ pub fn demo_reply<R: Threads + Wait + Sync, G: Gate>(
 }
 
 /// So many records, in a pool of their own.
-fn made_pool<R: Wait>(rt: &R, alloc: Global, count: u64) -> Result<Pooled, AllocError>
+fn make_pool<R: Wait>(rt: &R, alloc: Global, count: u64) -> Result<Pooled, AllocError>
     requires { IsCount count }
     ensures { IfOk result (λ pooled. pooled.bytes ≡ made_records count) }
 {
@@ -60,16 +60,25 @@ fn made_pool<R: Wait>(rt: &R, alloc: Global, count: u64) -> Result<Pooled, Alloc
     Pooled::of_bytes(rt, alloc, records)
 }
 
-/// The two queries. Refused: `Memory`; that both are queries over the records is tested alone.
-fn made_queries(alloc: Global) -> Result<(Query, Query), Refusal>
+/// The two queries.
+fn make_queries(alloc: Global) -> Result<(Query, Query), AllocError>
     ensures { IfOk result (λ queries. AreMadeQueries queries.0 queries.1) }
 {
     let layout = demo_layout(alloc)?;
-    let first = parse_query(
+    let first = make_query(
         alloc,
         "count,sum(.amount),min(.amount),max(.amount)",
         &layout,
     )?;
-    let second = parse_query(alloc, "count,sum(.id) where .kind=3", &layout)?;
+    let second = make_query(alloc, "count,sum(.id) where .kind=3", &layout)?;
     Ok((first, second))
+}
+
+/// The query of a text, which is one over the layout.
+fn make_query(alloc: Global, text: &str, layout: &Layout) -> Result<Query, AllocError>
+    requires record { IsRecord layout.now }
+    requires query { IsQueryOver text.now layout.now }
+    ensures { IfOk result (IsParsed text.now layout.now) }
+{
+    unless_wanting(parse_query(alloc, text, layout))
 }
