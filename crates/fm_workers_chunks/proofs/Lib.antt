@@ -1,0 +1,4 @@
+pub mod Refusing
+pub mod Closing
+pub mod Meeting
+pub mod Rounds
