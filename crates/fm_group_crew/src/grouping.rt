@@ -39,7 +39,7 @@ impl<'a, R: Wait + Sync, G: Gate> Work<CountShare> for Grouping<'a, R, G> {
         self.gate.after(share.number, 0);
     }
 
-    ghost stays = { λ w. can_count_later w.table.now };
+    ghost stays = { λ w p q t same. can_count_later w.table.now p q t };
 }
 
 /// Where a share was refused nothing is read: some values weren't counted.

@@ -50,7 +50,7 @@ impl<'a, R: Wait + Sync + RandomSource + AllocGlobal, G: Gate> Work<Player> for 
         player.cut = played.err();
     }
 
-    ghost stays = { λ w. can_play_later (playing w.names.now w.lines.now w.firsts.now) };
+    ghost stays = { λ w p q t same. can_play_later (playing w.names.now w.lines.now w.firsts.now) p q t };
 }
 
 /// Plays a worker's lines.

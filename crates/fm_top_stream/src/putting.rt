@@ -32,5 +32,5 @@ impl<'a, F: Files> Beside<F> for Putting<'a> {
         self.put = Some(put);
     }
 
-    ghost stays = { λ x p q files. can_put_later (F.view files).holds x p q };
+    ghost stays = { λ x p q files same. can_put_later (F.view files).holds x p q };
 }

@@ -44,7 +44,7 @@ impl<'a, P, R: Wait + Sync, G: Gate, J: Job<P> + Sync> Work<Taker<P>> for Taking
         take_shares(self.rt, alloc, &turns, self.jobs, memory, self.job, taker);
     }
 
-    ghost stays = { λ w v u t l c. (J.stays w.job.now (view_of_pass v) (view_of_pass u) (knows_later l) c.0, c.1) };
+    ghost stays = { λ w v u t same l c. (J.stays w.job.now (view_of_pass v) (view_of_pass u) (knows_later l) c.0, c.1) };
 }
 
 /// Draws a pass for each of a crew, lets all of them take the shares of a job, each at its calls of the gate, gathers

@@ -1,6 +1,8 @@
 -- A worker that serves chunks up to its stop.
 use Rattle.std.specs.Prelude.{◌≡◌, ◌++◌, ◌∷◌, ℕ, None, List, []}
 use Rattle.fm_base.specs.{declared.caller.Caller.{Caller}, Calls.{Entry}, View.{Did}}
+use Rattle.std.proofs.Common.{ap, ◌∙◌}
+use Rattle.fm_arena.specs.Lasting.{SamePool}
 use Rattle.fm_records_query.specs.Plan.{Plan}
 use Rattle.fm_rule_calls.specs.Told.{view_of_pass}
 use Rattle.fm_rule_facts.specs.Views.{View, limit_of}
@@ -14,6 +16,14 @@ pub record IsOnTerms (home : List ℕ) (limit : ℕ) (plan : Plan) (v : View) (p
   pub same_home : v.home ≡ home
   pub same_limit : limit_of v.shape ≡ limit
   pub same_plan : p ≡ plan
+
+-- so is any pass of that pool
+pub on_terms_later : {home : List ℕ} {limit : ℕ} {plan p : Plan} {v u : View} → SamePool v u → IsOnTerms home limit plan v p → IsOnTerms home limit plan u p
+on_terms_later same on = record {
+  same_home = same.home ∙ on.same_home;
+  same_limit = ap limit_of same.shape ∙ on.same_limit;
+  same_plan = on.same_plan;
+}
 
 -- ---- what was served
 

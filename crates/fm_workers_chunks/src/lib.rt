@@ -14,6 +14,7 @@
 
 mod answering;
 mod chunk;
+mod crew;
 mod desk;
 mod job;
 mod served;
@@ -22,6 +23,7 @@ mod taking;
 mod terms;
 
 pub use chunk::Chunk;
+pub use crew::Serving;
 pub use desk::{Desk, Server};
 pub use job::Job;
 pub use served::Served;

@@ -7,7 +7,7 @@ use Rattle.fm_base.specs.{declared.caller.Caller.{Caller}, Calls.{Entry}, Histor
 use Rattle.fm_rule_facts.specs.{Views.{View, In}, Splits.{as_gathered}}
 use Rattle.fm_rule.specs.{declared.pool.Pool.{Pool}, Passes.{IsOf}}
 use Rattle.fm_rule_calls.{specs.{Kept.{Lasts}, Told.{view_of_pass}}, proofs.Going.{reached_by, lasts_by}}
-use Rattle.fm_arena.proofs.Lasting.{keeps}
+use Rattle.fm_arena.{specs.Lasting.{SamePool}, proofs.Lasting.{keeps}}
 use Rattle.fm_workers_crew.specs.{declared.worker.Worker.{Worker}, Crew.{IsFresh, IsIn, AreDone, callers}}
 use Rattle.fm_workers_crew.{specs.Rounds.{IsDrawn, IsSpare, IsWorked, tasks_of, crew_of, passes_of}, proofs.{Drawing.{made_behind}, Wholes.{NoDraws}}}
 
@@ -49,6 +49,10 @@ spare_worked {pool = pool} {d = d} {e = e} s k out =
 -- What was known to the drawer is known to it.
 lasts_drawn : {old d : View} → IsDrawn old d → Lasts old d
 lasts_drawn {old = old} {d = d} n = lasts_by (reached_by n.begun n.seen (ap (λ (v : View). v.shape) n.is) n.sound)
+
+-- It is of the drawer's pool.
+same_drawn : {old d : View} → IsDrawn old d → SamePool old d
+same_drawn n = record { home = ap (λ (v : View). v.home) n.is; shape = ap (λ (v : View). v.shape) n.is }
 
 -- Its entries since are those of its work.
 worker_made : {old new d e : View} {P : List Entry → Type 0} (more : List Entry) → IsDrawn old d → Did (view_of_pass d) (view_of_pass e) P → IsIn e new
@@ -122,13 +126,13 @@ module _ {T : Type 0} where
   idle_all old new more (w ∷ ws) n i seen = (idle_made more n.0 i.0 seen, idle_all old new more ws n.1 i.1 seen)
 
   -- the work can be done by each
-  pub ready_all : (can : View → T → Type 0) (stays : (p q : View) (t : T) → Lasts p q → can p t → can q t) (old : View) (ws : List (Worker T))
+  pub ready_all : (can : View → T → Type 0) (stays : (p q : View) (t : T) → SamePool p q → Lasts p q → can p t → can q t) (old : View) (ws : List (Worker T))
       → AllByRecursion (λ (w : Worker T). IsDrawn old w.memory) ws → AllByRecursion (can old) (tasks_of ws)
       → AllByRecursion (λ (w : Worker T). (w.memory.inside ≡ None) × can w.memory w.task) ws
   ready_all can stays old [] n h = tt
   ready_all can stays old (w ∷ ws) n h =
       let parts = all_split (can old) (tasks_of ws) (w.task ∷ []) h in
-      ((ap (λ (v : View). v.inside) n.0.is, stays old w.memory w.task (lasts_drawn n.0) parts.1.0), ready_all can stays old ws n.1 parts.0)
+      ((ap (λ (v : View). v.inside) n.0.is, stays old w.memory w.task (same_drawn n.0) (lasts_drawn n.0) parts.1.0), ready_all can stays old ws n.1 parts.0)
 
   module _ (Does : View → T → T → List Entry → Type 0) where
     pub spare_after : (pool : Pool) (ws vs : List (Worker T)) → AllByRecursion (λ (w : Worker T). IsSpare pool w.memory) ws → AllZip (IsWorked Does) ws vs

@@ -25,6 +25,7 @@ pub trait Beside<S> {
     ghost use Rattle.fm_rule_calls.specs.Kept.{Lasts};
     ghost use Rattle.fm_rule_calls.specs.Told.{view_of_pass};
     ghost use Rattle.fm_rule_facts.specs.Views.{View};
+    ghost use Rattle.fm_arena.specs.Lasting.{SamePool};
 
     /// Whether it can be done by who has seen so much.
     ghost can: { Self → View → S → Type 0 };
@@ -41,7 +42,7 @@ pub trait Beside<S> {
             (does self.old self.new with.old with.new memory.old.caller) };
 
     /// It can be done later too.
-    ghost stays: { (b : Self) (p q : View) (s : S) → Lasts p q → can b p s → can b q s };
+    ghost stays: { (b : Self) (p q : View) (s : S) → SamePool p q → Lasts p q → can b p s → can b q s };
 }
 
 /// The work of all, side by side, and what is done beside it.

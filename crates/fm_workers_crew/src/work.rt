@@ -9,6 +9,7 @@ pub trait Work<T>: Sync {
     ghost use Rattle.fm_rule_facts.specs.Views.{View};
     ghost use Rattle.fm_rule_calls.specs.Kept.{Lasts};
     ghost use Rattle.fm_rule_calls.specs.Told.{view_of_pass};
+    ghost use Rattle.fm_arena.specs.Lasting.{SamePool};
 
     /// Whether the work can be done at a task by who has seen so much.
     ghost can: { Self → View → T → Type 0 };
@@ -24,6 +25,6 @@ pub trait Work<T>: Sync {
         ensures did { Did (view_of_pass memory.old) (view_of_pass memory.new)
             (does self.now memory.new task.old task.new) };
 
-    /// It can be done later too.
-    ghost stays: { (w : Self) (p q : View) (t : T) → Lasts p q → can w p t → can w q t };
+    /// It can be done later too, by any pass of the pool.
+    ghost stays: { (w : Self) (p q : View) (t : T) → SamePool p q → Lasts p q → can w p t → can w q t };
 }

@@ -34,7 +34,7 @@ impl Beside<u32> for Raises {
         *number = number.saturating_add(1);
     }
 
-    ghost stays = { λ beside p q number lasts can. can };
+    ghost stays = { λ beside p q number same lasts can. can };
 }
 
 /// What a crew of two answers, as text, and how often a number was raised beside it.

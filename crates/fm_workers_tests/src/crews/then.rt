@@ -28,7 +28,7 @@ impl Work<u32> for Digits {
         *task = task.saturating_add(1);
     }
 
-    ghost stays = { λ work p q task lasts can. can };
+    ghost stays = { λ work p q task same lasts can. can };
 }
 
 impl Then<u32> for Digits {

@@ -1,6 +1,7 @@
 use Rattle.std.{proofs.{Common.{◌≡◌, ◌++◌, List, length, take, drop, sym, ap, ◌∙◌, subst, None}, lemmas.List.{take_at}}, specs.List.{AllByRecursion}}
 use Rattle.std.proofs.lemmas.List.Elements.{All-same, All-from_recursion, recursion_from_All}
 use Rattle.fm_rule_calls.{specs.Kept.{Lasts}, proofs.Going.{lasts_by, reached_by}}
+use Rattle.fm_arena.specs.Lasting.{SamePool}
 use Rattle.fm_rule_facts.specs.Views.{View}
 use Rattle.fm_workers_crew.specs.{declared.worker.Worker.{Worker}, Rounds.{IsSpare, GatheredCrew, tasks_of}}
 use Rattle.fm_workers_crew.proofs.{Besides.{acted_as, outside_acted, worked_beside}, Turning.{tasks_called}, Workers.{ready_all, spare_all, spare_after}}
@@ -36,8 +37,9 @@ work_beside-requires-clause-can g c κs within =
     let m = c.in-Ok.ensures.called.went in
     let drew = c.call_all.new.pass in
     let lasts : Lasts c.args.pass drew = lasts_by (reached_by {p = c.args.pass} {q = drew} m.more m.seen (ap (λ (v : View). v.shape) m.is) c.caller-caller.ensures.sound) in
+    let same : SamePool c.args.pass drew = record { home = ap (λ (v : View). v.home) m.is; shape = ap (λ (v : View). v.shape) m.is } in
     subst (λ (v : View). g.B.Beside.can c.args.beside.now v c.args.with.now) (sym c.new-memory.ensures)
-    (laws.stays c.args.beside.now c.args.pass drew c.args.with.now lasts c.requires.beside)
+    (laws.stays c.args.beside.now c.args.pass drew c.args.with.now same lasts c.requires.beside)
 
 pub gather_crew-requires-clause-outside : goal.gather_crew-requires-clause-outside
 gather_crew-requires-clause-outside g c =
