@@ -20,11 +20,46 @@ static uint8_t *exact(const uint8_t *from, size_t count) {
     return copy;
 }
 
+/* How many bytes an item takes that each call puts. */
+static const size_t wide[] = {1, 1, sizeof(int64_t), sizeof(struct fm_counted), 1};
+
+static uint64_t puts_by(int call, const uint8_t *layout, size_t length, uint8_t *const *of, const size_t *parts, void *out,
+                        size_t room, struct fm_report *report) {
+    switch (call) {
+    case 0: return fm_places(layout, length, out, room, report);
+    case 1: return fm_query(layout, length, of[1], parts[1], of[2], parts[2], out, room, report);
+    case 2: return fm_numbers(layout, length, of[1], parts[1], of[2], parts[2], out, room, report);
+    case 3: return fm_groups(layout, length, of[1], parts[1], of[2], parts[2], out, room, report);
+    default: return fm_texts(layout, length, of[1], parts[1], of[2], parts[2], out, room, report);
+    }
+}
+
+/* A place of any numbers, which are the bytes: where it leads is in its record and in the bytes, or it is refused. */
+static void at_any_numbers(const uint8_t *from, size_t count) {
+    struct {
+        struct fm_place place;
+        struct fm_stride strides[2];
+        uint64_t indices[2];
+        struct fm_within within;
+    } any = {0};
+    memcpy(&any, from, count < sizeof any ? count : sizeof any);
+    struct fm_report report;
+    uint64_t found = 7;
+    for (size_t steps = 0; steps <= 2; steps++)
+        for (size_t indices = 0; indices <= 2; indices++) {
+            uint64_t came = fm_at(&any.place, any.strides, steps, any.indices, indices, &any.within, &found, &report);
+            want(came == 0 || came == FM_BOUNDS || (came == FM_INDEX_OUT && report.first <= steps));
+            want(came ? found == 7 : found >= any.within.base && found < any.within.size && steps == indices);
+            found = 7;
+        }
+}
+
 int LLVMFuzzerTestOneInput(const uint8_t *data, size_t size) {
     static const char *const frames[] = {
         "%.*s", "{\"type\":\"struct\",\"members\":[%.*s]}", "{\"type\":\"sequence\",\"count\":3,\"element\":%.*s}",
         "{\"type\":\"int\",\"name\":\"a\",%.*s}",
-        "{\"type\":\"struct\",\"members\":[{\"type\":\"int\",\"name\":\"a\"},{\"type\":\"byte\",\"name\":\"b%.*s\",\"align\":1}]}",
+        "{\"type\":\"struct\",\"members\":[{\"type\":\"int\",\"name\":\"a\"},{\"type\":\"sequence\","
+        "\"name\":\"b\",\"count\":4,\"element\":{\"type\":\"byte\",\"name\":\"c%.*s\"}}]}",
     };
     if (size < 4)
         return 0;
@@ -39,7 +74,7 @@ int LLVMFuzzerTestOneInput(const uint8_t *data, size_t size) {
     char framed[512];
     int long_ = snprintf(framed, sizeof framed, frames[data[0] / 128 + data[1] / 64 % 4], (int)parts[0], (const char *)of[0]);
     size_t length = long_ < (int)sizeof framed ? (size_t)long_ : sizeof framed - 1;
-    uint8_t *layout = exact((const uint8_t *)framed, length), *out = malloc(room + 1), *whole = malloc(1 << 16);
+    uint8_t *layout = exact((const uint8_t *)framed, length), *out = malloc(16 * room + 1), *whole = malloc(1 << 16);
     struct fm_report report, again;
     struct fm_extent extent;
     struct fm_place place;
@@ -49,16 +84,14 @@ int LLVMFuzzerTestOneInput(const uint8_t *data, size_t size) {
     want(report.number || (extent.alignment && !(extent.alignment & (extent.alignment - 1))));
     fm_place(layout, length, of[1], parts[1], &place, stride, data[3] % 3, &report);
     want(report.number || (place.kind <= FM_LONG && place.order <= FM_BIG && place.offset <= place.root_size));
-    for (int call = 0; call < 2; call++) {
-        memset(out, '#', room + 1);
-        uint64_t came = call ? fm_query(layout, length, of[1], parts[1], of[2], parts[2], out, room, &report)
-                             : fm_places(layout, length, out, room, &report);
-        uint64_t same = call ? fm_query(layout, length, of[1], parts[1], of[2], parts[2], whole, 1 << 16, &again)
-                             : fm_places(layout, length, whole, 1 << 16, &again);
-        want(came == same && !memcmp(&report, &again, sizeof report) && out[room] == '#');
-        size_t put = came ? 0 : report.length < room ? report.length : room;
-        want(!memcmp(out, whole, put));
-        for (size_t k = put; k < room; k++)
+    at_any_numbers(of[2], parts[2]);
+    for (int call = 0; call < 5; call++) {
+        memset(out, '#', 16 * room + 1);
+        uint64_t came = puts_by(call, layout, length, of, parts, out, room, &report);
+        uint64_t same = puts_by(call, layout, length, of, parts, whole, (1 << 16) / 16, &again);
+        size_t put = came ? 0 : (report.length < room ? report.length : room) * wide[call];
+        want(came == same && !memcmp(&report, &again, sizeof report) && !memcmp(out, whole, put));
+        for (size_t k = put; k <= 16 * room; k++)
             want(out[k] == '#');
         fm_refusal(&report, out, room, &again);
     }

@@ -10,7 +10,14 @@ OF_RATTLE = {
     "Global": [],
     "&[u8]": ["const u8*", "usize"],
     "&mut [u8]": ["u8*", "usize"],
+    "&mut [i64]": ["i64*", "usize"],
+    "&mut [Counted]": ["counted*", "usize"],
     "&mut [Stride]": ["stride*", "usize"],
+    "&[Stride]": ["const stride*", "usize"],
+    "&[u64]": ["const u64*", "usize"],
+    "&Place": ["const place*"],
+    "&Within": ["const within*"],
+    "&mut u64": ["u64*"],
     "&mut Extent": ["extent*"],
     "&mut Place": ["place*"],
     "&mut Report": ["report*"],
@@ -71,7 +78,7 @@ def structs(bodies, field, widths):
 
 def of_rattle():
     found = {}
-    for name in ("extent", "place", "report"):
+    for name in ("extent", "groups", "place", "report", "spot"):
         text = read(f"crates/fm_c_calls/src/{name}.rt")
         found |= structs(re.findall(r"#\[repr\(C\)\].*?pub struct (\w+) \{(.*?)\n\}", text, re.S), r"pub (\w+): (\w+),", None)
     return found

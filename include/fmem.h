@@ -1,5 +1,5 @@
 /*
- * Layouts, paths and queries over bytes in memory: the calls of the static library fm_c.
+ * Layouts, paths, queries, groups and texts over bytes in memory: the calls of the static library fm_c.
  *
  * Each call takes slices, as a pointer and a count, and puts what it finds into memory of the caller's. Its answer is 0,
  * or the number of a refusal; the report tells that number, the refusal's arguments, and how long the whole output is.
@@ -31,7 +31,9 @@ extern "C" {
 #endif
 
 enum {
+    FM_BOUNDS = 3,    /* fm_at: the record passes the end of the bytes */
     FM_NO_ROOM = 10,  /* more than FM_MOST_RECORDS bytes of records; its argument is 0 */
+    FM_INDEX_OUT = 33, /* fm_at: this index isn't below its bound, is missing, or is one too many */
     FM_RAGGED = 51,   /* the records end with this many bytes more than whole ones */
     FM_NOT_TEXT = 60, /* a path or a query isn't UTF-8 behind so many bytes */
     FM_MEMORY = 99    /* memory ran out */
@@ -57,6 +59,7 @@ struct fm_extent {
 
 enum fm_kind { FM_BYTE, FM_BOOLEAN, FM_CHAR, FM_SHORT, FM_INT, FM_LONG };
 enum fm_order { FM_LITTLE, FM_BIG };
+enum fm_item { FM_COUNT, FM_SUM, FM_LEAST, FM_GREATEST, FM_LIST };
 
 /* Where a path leads. Sizes and offsets are in bytes. It is plain data: copy it, share it, forget it. */
 struct fm_place {
@@ -72,6 +75,18 @@ struct fm_place {
 struct fm_stride {
     int64_t stride;
     uint64_t bound;
+};
+
+/* Where a record stands: in `size` bytes, from the `base`th on. */
+struct fm_within {
+    uint64_t size;
+    uint64_t base;
+};
+
+/* A number, and how often it comes. */
+struct fm_counted {
+    int64_t number;
+    uint64_t count;
 };
 
 /*
@@ -96,6 +111,16 @@ uint64_t fm_place(const uint8_t *layout, size_t layout_length, const uint8_t *pa
                   struct fm_place *place, struct fm_stride *strides, size_t room, struct fm_report *report);
 
 /*
+ * Puts where the value of a place stands at these indices, one for each stride: so many bytes from the start of those in
+ * which its record stands. It is quick, takes no memory, and trusts no number that it is given.
+ * Refused, in this order: FM_INDEX_OUT with the first index, counted from 0, that isn't below its bound, is missing, or is
+ * one too many; FM_BOUNDS, where the record passes the end of the bytes, or where the place's numbers lead out of the
+ * record, which those that fm_place puts never do.
+ */
+uint64_t fm_at(const struct fm_place *place, const struct fm_stride *strides, size_t strides_count, const uint64_t *indices,
+               size_t indices_count, const struct fm_within *within, uint64_t *at, struct fm_report *report);
+
+/*
  * Puts the text of what the query answers over records of the layout, which lie side by side, as `fmem query` prints it.
  * The records are copied once, into memory of the call's own, so it takes as much memory as they do, and the text's.
  * Refused, in this order: as fm_layout; 25 or 22, where no records are of the layout; 60, where the query isn't UTF-8; 50,
@@ -103,6 +128,35 @@ uint64_t fm_place(const uint8_t *layout, size_t layout_length, const uint8_t *pa
  * FM_MOST_RECORDS; 51, where they are no whole number of records.
  */
 uint64_t fm_query(const uint8_t *layout, size_t layout_length, const uint8_t *query, size_t query_length,
+                  const uint8_t *records, size_t records_length, uint8_t *out, size_t room, struct fm_report *report);
+
+/*
+ * Puts the numbers that the query's items find in records, as fm_query: for each item, in their order, first its form,
+ * an enum fm_item, then how many numbers it has, and then these. A count has one, in 64 bits; a sum two, the low 64 bits and
+ * then the high ones of a number of 128; a least or greatest one, or none where it is of no values; a list all of them.
+ * `length` is how many numbers the whole has. Refused: as fm_query.
+ */
+uint64_t fm_numbers(const uint8_t *layout, size_t layout_length, const uint8_t *query, size_t query_length,
+                    const uint8_t *records, size_t records_length, int64_t *out, size_t room, struct fm_report *report);
+
+/*
+ * Puts each number that comes among the values of the path in records of the layout, and how often, in rising order of the
+ * numbers, as `fmem group` prints them. The records aren't copied; at least 16 bytes a value are taken while the call lasts.
+ * Refused, in this order: as fm_layout; 25 or 22, where no records are of the layout; 60, where the path isn't UTF-8; 50,
+ * where it is no path; 30 to 36, where it leads to no value; then 10 and 51 as fm_query.
+ */
+uint64_t fm_groups(const uint8_t *layout, size_t layout_length, const uint8_t *path, size_t path_length,
+                   const uint8_t *records, size_t records_length, struct fm_counted *out, size_t room,
+                   struct fm_report *report);
+
+/*
+ * Puts a line for each record of the layout, as `fmem texts` prints it: the text in the bytes to which the path leads, up to
+ * the first that is 0, in hex behind `text`; or `refused` and its numbers, where no byte is 0 or the text isn't UTF-8.
+ * Refused, in this order: as fm_layout; 25 or 22, where no records are of the layout; 60, where the path isn't UTF-8; 50,
+ * where it is no path; 30 to 34, where a step can't be taken; 6, where it doesn't end at a sequence of bytes; then 10 and 51
+ * as fm_query. The records aren't copied.
+ */
+uint64_t fm_texts(const uint8_t *layout, size_t layout_length, const uint8_t *path, size_t path_length,
                   const uint8_t *records, size_t records_length, uint8_t *out, size_t room, struct fm_report *report);
 
 /* Puts the text of the refusal that a report tells, as the program prints it: its number and then its arguments. */

@@ -1,4 +1,4 @@
-/* Answers a query over records, and reads a value of each by a place. `bash bindings/c/build` builds and runs it. */
+/* Answers a query over records, counts how often each number comes, and reads values by a place. `bash bindings/c/build` builds and runs it. */
 #include "fmem.h"
 
 #include <stdio.h>
@@ -25,13 +25,23 @@ int main(void) {
         return fails(&report);
     printf("%.*s", (int)report.length, text);
 
+    struct fm_counted often[8];
+    if (fm_groups((const uint8_t *)layout, strlen(layout), (const uint8_t *)".id", 3, records, sizeof records, often, 8, &report))
+        return fails(&report);
+    for (uint64_t k = 0; k < report.length; k++)
+        printf("id %lld comes %llu times\n", (long long)often[k].number, (unsigned long long)often[k].count);
+
     struct fm_place tag;
     struct fm_stride each[1];
     if (fm_place((const uint8_t *)layout, strlen(layout), (const uint8_t *)".tags[]", 7, &tag, each, 1, &report))
         return fails(&report);
-    for (size_t record = 0; record < sizeof records / tag.root_size; record++)
-        for (uint64_t i = 0; i < each[0].bound; i++)
-            printf("%d ", (int8_t)records[record * tag.root_size + tag.offset + (uint64_t)each[0].stride * i]);
+    struct fm_within within = {sizeof records, 0};
+    for (; within.base < sizeof records; within.base += tag.root_size)
+        for (uint64_t i = 0, at; i < each[0].bound; i++) {
+            if (fm_at(&tag, each, 1, &i, 1, &within, &at, &report))
+                return fails(&report);
+            printf("%d ", (int8_t)records[at]);
+        }
     printf("\n");
     return 0;
 }

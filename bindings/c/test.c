@@ -59,6 +59,90 @@ static void rooms(void) {
     }
 }
 
+/* The same of each call over records, whose items are so wide. */
+typedef uint64_t over(const uint8_t *, size_t, const uint8_t *, size_t, const uint8_t *, size_t, void *, size_t,
+                      struct fm_report *);
+static uint64_t numbers(const uint8_t *l, size_t ln, const uint8_t *q, size_t qn, const uint8_t *r, size_t rn, void *out,
+                        size_t room, struct fm_report *report) {
+    return fm_numbers(l, ln, q, qn, r, rn, out, room, report);
+}
+static uint64_t groups(const uint8_t *l, size_t ln, const uint8_t *q, size_t qn, const uint8_t *r, size_t rn, void *out,
+                       size_t room, struct fm_report *report) {
+    return fm_groups(l, ln, q, qn, r, rn, out, room, report);
+}
+static uint64_t texts(const uint8_t *l, size_t ln, const uint8_t *q, size_t qn, const uint8_t *r, size_t rn, void *out,
+                      size_t room, struct fm_report *report) {
+    return fm_texts(l, ln, q, qn, r, rn, out, room, report);
+}
+
+static void rooms_of(over *call, const char *text, size_t wide, const void *right, size_t count) {
+    for (size_t room = 0; room <= count + 3; room++) {
+        struct fm_report report;
+        uint8_t *out = malloc(room * wide + !room);
+        memset(out, '#', room * wide + !room);
+        uint64_t came =
+            call(layout.at, layout.count, (const uint8_t *)text, strlen(text), records.at, records.count, out, room, &report);
+        size_t put = (room < count ? room : count) * wide;
+        check(came == 0 && report.number == 0 && report.length == count, text);
+        check(memcmp(out, right, put) == 0, text);
+        for (size_t k = put; k < room * wide + !room; k++)
+            check(out[k] == '#', "nothing is put behind it");
+        free(out);
+    }
+    struct fm_report report;
+    uint8_t out[64] = "as it was";
+    struct bytes none = {records.at, 0};
+    check(!call(layout.at, layout.count, (const uint8_t *)text, strlen(text), none.at, 0, out, 0, &report), "no records");
+    for (size_t rest = 1; rest < 24; rest++)
+        check(call(layout.at, layout.count, (const uint8_t *)text, strlen(text), records.at, 24 + rest, out, 64 / wide,
+                   &report) == FM_RAGGED && report.first == rest && !memcmp(out, "as it was", 10), "ragged");
+}
+
+static void other_forms(void) {
+    static const int64_t found[] = {0, 1, 2, 1, 2, 210, 0, 2, 1, -40, 3, 1, 250, 4, 8, 1, 2, 3, 4, 5, 0, 0, -1};
+    rooms_of(numbers, "count,sum(.price),min(.price),max(.price),list(.tags[])", sizeof *found, found,
+             sizeof found / sizeof *found);
+    static const struct fm_counted often[] = {{-1, 1}, {0, 2}, {1, 1}, {2, 1}, {3, 1}, {4, 1}, {5, 1}};
+    rooms_of(groups, ".tags[]", sizeof *often, often, sizeof often / sizeof *often);
+    static const char lines[] = "refused 61\ntext 05\n";
+    rooms_of(texts, ".tags", 1, lines, strlen(lines));
+    struct fm_report report;
+    int64_t out[3];
+    check(!numbers(layout.at, layout.count, (const uint8_t *)"min(.id) where .kind=9", 22, records.at, records.count, out, 3,
+                   &report) && report.length == 2 && out[0] == FM_LEAST && out[1] == 0, "no least");
+    check(texts(layout.at, layout.count, (const uint8_t *)".id", 3, records.at, records.count, out, 3, &report) == 6, "no bytes");
+}
+
+/* Where a value stands at indices, by the place's own numbers and by any. */
+static void indices(void) {
+    struct fm_place place;
+    struct fm_stride each[1];
+    struct fm_report report;
+    uint64_t at = 7, of[2] = {3, 0};
+    check(!fm_place(layout.at, layout.count, (const uint8_t *)".tags[]", 7, &place, each, 1, &report), "a place");
+    struct fm_within within = {records.count, 24};
+    check(!fm_at(&place, each, 1, of, 1, &within, &at, &report) && at == 24 + 16 + 3, "where it stands");
+    check(records.at[at] == 255, "what stands there");
+    at = 7;
+    of[0] = 4;
+    check(fm_at(&place, each, 1, of, 1, &within, &at, &report) == FM_INDEX_OUT && report.first == 0, "not below its bound");
+    check(fm_at(&place, each, 1, of, 0, &within, &at, &report) == FM_INDEX_OUT && report.first == 0, "missing");
+    of[0] = 3;
+    check(fm_at(&place, each, 1, of, 2, &within, &at, &report) == FM_INDEX_OUT && report.first == 1, "one too many");
+    static const uint64_t past[] = {25, 48, 49, (uint64_t)-24, (uint64_t)-1};
+    for (size_t k = 0; k < sizeof past / sizeof *past; k++) {
+        within.base = past[k];
+        check(fm_at(&place, each, 1, of, 1, &within, &at, &report) == FM_BOUNDS, "past the end");
+    }
+    within.base = 0;
+    for (uint64_t stride = (uint64_t)1 << 62; stride; stride <<= 1) {
+        struct fm_stride wild[2] = {{(int64_t)stride, -1}, {1, -1}};
+        uint64_t high[2] = {(uint64_t)1 << 63, 1};
+        check(fm_at(&place, wild, 2, high, 2, &within, &at, &report) == FM_BOUNDS, "numbers that lead nowhere");
+    }
+    check(at == 7, "a refused call puts nothing");
+}
+
 static void refusals(const char *name) {
     char line[8192];
     FILE *file = fopen(name, "r");
@@ -117,9 +201,18 @@ static void places(void) {
     check(place.offset == 19 && each[0].stride == -2 && each[0].bound == 2, "where that is");
 }
 
+static struct fm_place shared;
+static struct fm_stride its_strides[1];
+
 static void *asks(void *count) {
     uint8_t out[128];
     struct fm_report report;
+    struct fm_within within = {records.count, 24};
+    for (uint64_t k = 0; k < 100000; k++) {
+        uint64_t at, index = k % 4;
+        if (fm_at(&shared, its_strides, 1, &index, 1, &within, &at, &report) || at != 40 + index)
+            return NULL;
+    }
     for (int k = 0; k < 200; k++)
         if (ask(query, records, out, sizeof out, &report) == 0 && !memcmp(out, wanted, strlen(wanted)))
             ++*(int *)count;
@@ -128,12 +221,45 @@ static void *asks(void *count) {
 static void threads(void) {
     pthread_t thread[8];
     int count[8] = {0};
+    struct fm_report report;
+    check(!fm_place(layout.at, layout.count, (const uint8_t *)".tags[]", 7, &shared, its_strides, 1, &report), "a place");
     for (int k = 0; k < 8; k++)
         pthread_create(&thread[k], NULL, asks, &count[k]);
     for (int k = 0; k < 8; k++) {
         pthread_join(thread[k], NULL);
-        check(count[k] == 200, "eight threads over one layout");
+        check(count[k] == 200, "eight threads over one layout and one place");
     }
+}
+
+/* Many calls leave no memory behind: the process holds as many pages in the end as after the first tenth of them. */
+static long held(void) {
+    long pages = 0;
+    FILE *file = fopen("/proc/self/statm", "r");
+    if (file && fscanf(file, "%*d %ld", &pages) != 1)
+        pages = 0;
+    if (file)
+        fclose(file);
+    return pages;
+}
+static void leaks(long calls) {
+    struct fm_place place;
+    struct fm_stride each[1];
+    struct fm_report report;
+    uint8_t out[128];
+    long before = 0;
+    for (long k = 0; k < calls; k++) {
+        if (k == calls / 10)
+            before = held();
+        check(!fm_place(layout.at, layout.count, (const uint8_t *)".tags[]", 7, &place, each, 1, &report), "a place");
+        check(ask(query, records, out, sizeof out, &report) == 0, "a query");
+        check(ask("sum(.nope)", records, out, sizeof out, &report) == 31, "a refused query");
+        check(!groups(layout.at, layout.count, (const uint8_t *)".id", 3, records.at, records.count, out, 2, &report), "groups");
+        check(!texts(layout.at, layout.count, (const uint8_t *)".tags", 5, records.at, records.count, out, 64, &report), "texts");
+    }
+#ifdef __SANITIZE_ADDRESS__ /* it keeps what is freed for a while, and finds leaks by itself */
+    before += held();
+#endif
+    check(held() <= before + 16, "memory stays flat");
 }
 
 int main(int argc, char **argv) {
@@ -142,10 +268,13 @@ int main(int argc, char **argv) {
     layout = read_all(argv[1]);
     records = read_all(argv[2]);
     rooms();
+    other_forms();
+    indices();
     refusals(argv[3]);
     records_of_all_sizes();
     places();
     threads();
+    leaks(getenv("FMEM_CALLS") ? atol(getenv("FMEM_CALLS")) : 2000);
     free(layout.at);
     free(records.at);
     printf("%d checks\n", tried);

@@ -39,6 +39,14 @@ class _Stride(ctypes.Structure):
     _fields_ = [("stride", ctypes.c_int64), ("bound", ctypes.c_uint64)]
 
 
+class _Within(ctypes.Structure):
+    _fields_ = [("size", ctypes.c_uint64), ("base", ctypes.c_uint64)]
+
+
+class _Counted(ctypes.Structure):
+    _fields_ = [("number", ctypes.c_int64), ("count", ctypes.c_uint64)]
+
+
 class _Buffer(ctypes.Structure):
     """Py_buffer, of which the first two fields are read."""
 
@@ -85,10 +93,14 @@ _slice = [ctypes.c_void_p, ctypes.c_size_t]
 _lib.fm_layout.argtypes = [*_slice, ctypes.POINTER(_Extent), ctypes.POINTER(_Report)]
 _lib.fm_places.argtypes = [*_slice, *_slice, ctypes.POINTER(_Report)]
 _lib.fm_place.argtypes = [*_slice, *_slice, ctypes.POINTER(_Place), *_slice, ctypes.POINTER(_Report)]
+_lib.fm_at.argtypes = [ctypes.POINTER(_Place), *_slice, *_slice, ctypes.POINTER(_Within), ctypes.POINTER(ctypes.c_uint64), ctypes.POINTER(_Report)]
+_lib.fm_numbers.argtypes = [*_slice, *_slice, *_slice, *_slice, ctypes.POINTER(_Report)]
+_lib.fm_groups.argtypes = [*_slice, *_slice, *_slice, *_slice, ctypes.POINTER(_Report)]
+_lib.fm_texts.argtypes = [*_slice, *_slice, *_slice, *_slice, ctypes.POINTER(_Report)]
 _lib.fm_query.argtypes = [*_slice, *_slice, *_slice, *_slice, ctypes.POINTER(_Report)]
 _lib.fm_refusal.argtypes = [ctypes.POINTER(_Report), *_slice, ctypes.POINTER(_Report)]
-for _call in (_lib.fm_layout, _lib.fm_places, _lib.fm_place, _lib.fm_query, _lib.fm_refusal):
-    _call.restype = ctypes.c_uint64
+for _name in ("layout", "places", "place", "at", "query", "numbers", "groups", "texts", "refusal"):
+    getattr(_lib, "fm_" + _name).restype = ctypes.c_uint64
 
 KINDS = ("byte", "boolean", "char", "short", "int", "long")
 ORDERS = ("little", "big")
@@ -104,16 +116,27 @@ class Refused(ValueError):
         super().__init__(_text(lambda *to: _lib.fm_refusal(ctypes.byref(report), *to), 64))
 
 
-def _text(call, room):
-    """The text that the call puts, of which most need no more room than this."""
+def _told(refused, report):
+    """How long the whole output is; else the refusal is raised."""
+    if refused:
+        raise MemoryError() if report.number == 99 else Refused(report)
+    return report.length
+
+
+def _filled(call, of, room):
+    """All items that the call puts, of which most need no more room than this, and how many they are."""
     report = _Report()
     while True:
-        out = ctypes.create_string_buffer(room)
-        if call(out, room, ctypes.byref(report)):
-            raise MemoryError() if report.number == 99 else Refused(report)
-        if report.length <= room:
-            return out.raw[: report.length].decode()
-        room = report.length
+        out = (of * room)()
+        length = _told(call(out, room, ctypes.byref(report)), report)
+        if length <= room:
+            return out, length
+        room = length
+
+
+def _text(call, room):
+    out, length = _filled(call, ctypes.c_char, room)
+    return memoryview(out)[:length].tobytes().decode()
 
 
 def _bytes(text):
@@ -123,22 +146,30 @@ def _bytes(text):
 class Place:
     """Where a path leads in a record: plain numbers, which any number of threads may read."""
 
-    __slots__ = ("offset", "kind", "order", "alignment", "size", "strides", "_format")
+    __slots__ = ("offset", "kind", "order", "alignment", "size", "strides", "_format", "_place", "_strides")
 
     def __init__(self, layout, path):
-        report, place, room = _Report(), _Place(), 64
+        self._place = place = _Place()
         with _Lent(_bytes(layout)) as json, _Lent(_bytes(path)) as text:
-            while True:
-                strides = (_Stride * room)()
-                if _lib.fm_place(*json, *text, ctypes.byref(place), strides, room, ctypes.byref(report)):
-                    raise MemoryError() if report.number == 99 else Refused(report)
-                if report.length <= room:
-                    break
-                room = report.length
+            self._strides, count = _filled(lambda *to: _lib.fm_place(*json, *text, ctypes.byref(place), *to), _Stride, 8)
         self.offset, self.alignment, self.size = place.offset, place.alignment, place.root_size
         self.kind, self.order = KINDS[place.kind], ORDERS[place.order]
-        self.strides = [(it.stride, it.bound) for it in strides[: report.length]]
+        self.strides = [(it.stride, it.bound) for it in self._strides[:count]]
         self._format = struct.Struct("<>"[place.order] + _FORMATS[self.kind])
+
+    def find(self, size, base, *indices):
+        """Where the value stands in so many bytes, of which a record begins at the base. An index that isn't below its
+        bound, is missing, or is one too many, and a record that passes the end, raise `Refused`."""
+        report, at = _Report(), ctypes.c_uint64()
+        of, within = (ctypes.c_uint64 * len(indices))(*indices), _Within(size, base)
+        _told(
+            _lib.fm_at(
+                ctypes.byref(self._place), self._strides, len(self.strides), of, len(indices), ctypes.byref(within),
+                ctypes.byref(at), ctypes.byref(report),
+            ),
+            report,
+        )
+        return at.value
 
     def at(self, *indices):
         """The value's offset at one index for each open step."""
@@ -157,8 +188,7 @@ def measure(layout):
     """The layout's size and alignment in bytes."""
     report, extent = _Report(), _Extent()
     with _Lent(_bytes(layout)) as json:
-        if _lib.fm_layout(*json, ctypes.byref(extent), ctypes.byref(report)):
-            raise MemoryError() if report.number == 99 else Refused(report)
+        _told(_lib.fm_layout(*json, ctypes.byref(extent), ctypes.byref(report)), report)
     return extent.size, extent.alignment
 
 
@@ -176,11 +206,46 @@ def answer(layout, text, records):
 
 def query(layout, text, records):
     """What each item of the query finds: a number; None for a least or greatest of no numbers; a list for `list`."""
-    found = []
-    for line in answer(layout, text, records).splitlines():
-        item, *numbers = line.split(" ")
-        if item.startswith("list("):
-            found.append([int(it) for it in numbers])
+    with _Lent(_bytes(layout)) as json, _Lent(_bytes(text)) as asked, _Lent(records) as lent:
+        out, length = _filled(lambda *to: _lib.fm_numbers(*json, *asked, *lent, *to), ctypes.c_int64, 64)
+    numbers, found, at = memoryview(out).cast("B").cast("q"), [], 0
+    while at < length:
+        form, count = numbers[at : at + 2]
+        of = numbers[at + 2 : at + 2 + count].tolist()
+        if form == 4:
+            found.append(of)
+        elif form == 1:
+            found.append((of[1] << 64) + (of[0] & 0xFFFFFFFFFFFFFFFF))
         else:
-            found.append(None if numbers == ["none"] else int(numbers[0]))
+            found.append(of[0] if of else None)
+        at += 2 + count
     return found
+
+
+def groups(layout, path, records):
+    """How often each number comes among the values of the path: a dict, in rising order of the numbers."""
+    with _Lent(_bytes(layout)) as json, _Lent(_bytes(path)) as text, _Lent(records) as lent:
+        out, count = _filled(lambda *to: _lib.fm_groups(*json, *text, *lent, *to), _Counted, 256)
+    return {it.number: it.count for it in out[:count]}
+
+
+class NoText:
+    """Why a record has no text: its number is 61, no byte is 0; or 60, it isn't UTF-8, and its longest front that is has
+    as many bytes as the argument says."""
+
+    def __init__(self, number, *arguments):
+        self.number, self.arguments = number, arguments
+
+
+def texts(layout, path, records):
+    """The text of each record, in the bytes to which the path leads, up to the first that is 0; or a `NoText`."""
+    with _Lent(_bytes(layout)) as json, _Lent(_bytes(path)) as text, _Lent(records) as lent:
+        lines = _text(lambda *to: _lib.fm_texts(*json, *text, *lent, *to), 4096)
+    return [_text_of(line) for line in lines.splitlines()]
+
+
+def _text_of(line):
+    word, *rest = line.split(" ")
+    if word == "text":
+        return bytes.fromhex(*rest or [""]).decode()
+    return NoText(*map(int, rest))

@@ -94,6 +94,44 @@ class Answers(unittest.TestCase):
         self.assertEqual(fmem.query(b'{"type":"long"}', "sum(.)", numpy.arange(1000, dtype=numpy.int64)), [499500])
 
 
+class OtherForms(unittest.TestCase):
+    def test_sums_beyond_64_bits(self):
+        longs = (2**63 - 1).to_bytes(8, "little") * 3
+        self.assertEqual(fmem.query(b'{"type":"long"}', "sum(.)", longs), [3 * (2**63 - 1)])
+        least = (-(2**63)).to_bytes(8, "little", signed=True) * 3
+        self.assertEqual(fmem.query(b'{"type":"long"}', "sum(.),min(.)", least), [-3 * 2**63, -(2**63)])
+
+    def test_groups(self):
+        self.assertEqual(list(fmem.groups(LAYOUT, ".tags[]", SALES).items()), [(-1, 1), (0, 2), (1, 1), (2, 1), (3, 1), (4, 1), (5, 1)])
+        self.assertEqual(fmem.groups(LAYOUT, ".price", b""), {})
+        draw = random.Random(1)
+        for kind, order in (("short", "big"), ("int", "little"), ("char", "big"), ("long", "little"), ("boolean", "little")):
+            width = {"short": 2, "char": 2, "int": 4, "long": 8, "boolean": 1}[kind]
+            numbers = [draw.randrange(0, 2) if kind == "boolean" else draw.randrange(-99, 99) % (2 ** (8 * width)) for _ in range(5000)]
+            given = b"".join(n.to_bytes(width, order) for n in numbers)
+            signed = [n if kind in ("char", "boolean") or n < 2 ** (8 * width - 1) else n - 2 ** (8 * width) for n in numbers]
+            found = fmem.groups(f'{{"type":"{kind}","order":"{order}"}}', ".", given)
+            self.assertEqual(list(found.items()), [(n, signed.count(n)) for n in sorted(set(signed))])
+
+    def test_texts(self):
+        found = fmem.texts(LAYOUT, ".tags", SALES)
+        self.assertEqual((found[0].number, found[0].arguments, found[1]), (61, (), "\x05"))
+        layout = b'{"type":"sequence","count":3,"element":{"type":"byte"}}'
+        found = fmem.texts(layout, ".", b"ab\0\0..a\xff\0" + "\u00e4\0".encode())
+        self.assertEqual([found[0], found[1], found[3]], ["ab", "", "\u00e4"])
+        self.assertEqual((found[2].number, found[2].arguments), (60, (1,)))
+
+    def test_find(self):
+        tag = fmem.Place(LAYOUT, ".tags[]")
+        self.assertEqual([tag.find(48, 24, k) for k in range(4)], [40, 41, 42, 43])
+        for size, base, indices, numbers in (
+            (48, 24, (4,), "33 0"), (48, 24, (), "33 0"), (48, 24, (1, 0), "33 1"), (47, 24, (0,), "3"), (48, 2**64 - 1, (0,), "3"),
+        ):
+            with self.assertRaises(fmem.Refused) as refused:
+                tag.find(size, base, *indices)
+            self.assertEqual(str(refused.exception), numbers)
+
+
 class Refusals(unittest.TestCase):
     def test_all(self):
         given = list(rows())
@@ -110,13 +148,27 @@ class Refusals(unittest.TestCase):
             self.assertEqual([refused.exception.number, *refused.exception.arguments], [int(it) for it in numbers.split()])
 
     def test_records(self):
-        for rest in range(1, 24):
+        calls = ((fmem.query, "count", "count"), (fmem.answer, "count", "count"), (fmem.groups, ".price", "."), (fmem.texts, ".tags", "."))
+        for call, text, of_bytes in calls:
+            for rest in range(1, 24):
+                with self.assertRaises(fmem.Refused) as refused:
+                    call(LAYOUT, text, SALES + bytes(rest))
+                self.assertEqual((refused.exception.number, refused.exception.arguments), (51, (rest,)))
+            element = '{"type":"byte"}' if call is not fmem.texts else '{"type":"sequence","count":1,"element":{"type":"byte"}}'
             with self.assertRaises(fmem.Refused) as refused:
-                fmem.query(LAYOUT, "count", SALES + bytes(rest))
-            self.assertEqual((refused.exception.number, refused.exception.arguments), (51, (rest,)))
-        with self.assertRaises(fmem.Refused) as refused:
-            fmem.query(b'{"type":"byte"}', "count", bytes(67108865))
-        self.assertEqual((refused.exception.number, refused.exception.arguments), (10, (0,)))
+                call(element, of_bytes, bytes(67108865))
+            self.assertEqual((refused.exception.number, refused.exception.arguments), (10, (0,)))
+
+    def test_paths(self):
+        for path, number in ((".nope", 31), (".tags", 35), (".tags[9]", 33), ("tags", 50), (b".\xff", 60)):
+            for call in (fmem.Place, lambda layout, path: fmem.groups(layout, path, SALES)):
+                with self.assertRaises(fmem.Refused) as refused:
+                    call(LAYOUT, path)
+                self.assertEqual(refused.exception.number, number, path)
+        for path, number in ((".nope", 31), (".tags[0]", 6), (".tags[]", 34), ("tags", 50), (b".\xff", 60)):
+            with self.assertRaises(fmem.Refused) as refused:
+                fmem.texts(LAYOUT, path, SALES)
+            self.assertEqual(refused.exception.number, number, path)
 
     def test_texts(self):
         with self.assertRaises(fmem.Refused) as refused:

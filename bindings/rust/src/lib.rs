@@ -19,6 +19,8 @@ use std::fmt;
 
 mod raw;
 
+pub use raw::Stride;
+
 /// Why a call was refused.
 #[derive(Clone, Copy, Debug, PartialEq, Eq, Hash)]
 pub enum Error {
@@ -91,22 +93,11 @@ impl Kind {
     }
 }
 
-/// What the index of an open step does to the offset: so many bytes from one to the next, and so many indices from 0 on.
-#[derive(Clone, Copy, Debug, PartialEq, Eq, Hash)]
-pub struct Stride {
-    pub stride: i64,
-    pub bound: u64,
-}
-
 /// Where a path leads in a record: plain data, which any number of threads may read. Sizes and offsets are in bytes.
 #[derive(Clone, Debug, PartialEq, Eq, Hash)]
 pub struct Place {
-    offset: u64,
+    place: raw::Place,
     kind: Kind,
-    big: bool,
-    alignment: u64,
-    record_size: u64,
-    record_alignment: u64,
     strides: Vec<Stride>,
 }
 
@@ -117,28 +108,32 @@ impl Place {
         let strides = raw::filled(8, |out| {
             raw::place(layout.as_bytes(), path.as_bytes(), &mut place, out)
         })?;
+        let kind = match place.kind {
+            0 => Kind::Byte,
+            1 => Kind::Boolean,
+            2 => Kind::Char,
+            3 => Kind::Short,
+            4 => Kind::Int,
+            _ => Kind::Long,
+        };
         Ok(Place {
-            offset: place.offset,
-            kind: [
-                Kind::Byte,
-                Kind::Boolean,
-                Kind::Char,
-                Kind::Short,
-                Kind::Int,
-                Kind::Long,
-            ][place.kind as usize],
-            big: place.order == 1,
-            alignment: place.alignment,
-            record_size: place.root_size,
-            record_alignment: place.root_alignment,
-            strides: strides
-                .iter()
-                .map(|it| Stride {
-                    stride: it.stride,
-                    bound: it.bound,
-                })
-                .collect(),
+            place,
+            kind,
+            strides,
         })
+    }
+
+    /// Where the value stands at these indices in bytes of which a record begins at `base`: so far from their start.
+    ///
+    /// Refused: 33 with the first index that isn't below its bound, is missing, or is one too many; 3 where the record
+    /// passes the end of the bytes.
+    #[inline]
+    pub fn find(&self, bytes: &[u8], base: u64, indices: &[u64]) -> Result<usize, Error> {
+        let within = raw::Within {
+            size: bytes.len() as u64,
+            base,
+        };
+        Ok(raw::at(&self.place, &self.strides, indices, &within)? as usize)
     }
 
     /// The value's offset in its record at one index for each open step; none where an index isn't below its bound, or
@@ -148,7 +143,7 @@ impl Place {
         if indices.len() != self.strides.len() {
             return None;
         }
-        let mut at = self.offset;
+        let mut at = self.place.offset;
         for (stride, index) in self.strides.iter().zip(indices) {
             if *index >= stride.bound {
                 return None;
@@ -163,19 +158,19 @@ impl Place {
     }
 
     pub fn is_big(&self) -> bool {
-        self.big
+        self.place.order == 1
     }
 
     pub fn alignment(&self) -> u64 {
-        self.alignment
+        self.place.alignment
     }
 
     pub fn record_size(&self) -> u64 {
-        self.record_size
+        self.place.root_size
     }
 
     pub fn record_alignment(&self) -> u64 {
-        self.record_alignment
+        self.place.root_alignment
     }
 
     /// Those of the open steps, in their order.
@@ -190,12 +185,17 @@ impl Place {
         let bytes = record.get(at..at + self.kind.width())?;
         let mut number = 0u64;
         for k in 0..bytes.len() {
-            let place = if self.big { bytes.len() - 1 - k } else { k };
+            let place = if self.is_big() {
+                bytes.len() - 1 - k
+            } else {
+                k
+            };
             number |= u64::from(bytes[place]) << (8 * k);
         }
         let unused = 64 - 8 * bytes.len() as u32;
         Some(match self.kind {
-            Kind::Char | Kind::Boolean => number as i64,
+            Kind::Boolean => i64::from(number != 0),
+            Kind::Char => number as i64,
             _ => (number << unused).cast_signed() >> unused,
         })
     }
@@ -219,7 +219,100 @@ pub fn places(layout: &str) -> Result<String, Error> {
 ///
 /// The records are copied once. More than 67,108,864 bytes of them are refused.
 pub fn query(layout: &str, text: &str, records: &[u8]) -> Result<String, Error> {
-    raw::text(raw::filled(4096, |out| {
-        raw::query(layout.as_bytes(), text.as_bytes(), records, out)
-    })?)
+    let given = [layout.as_bytes(), text.as_bytes(), records];
+    raw::text(raw::filled(4096, |out| raw::query(given, out))?)
+}
+
+/// What an item of a query finds.
+#[derive(Clone, Debug, PartialEq, Eq)]
+pub enum Item {
+    /// How many records are chosen.
+    Count(u64),
+    /// The sum of the values.
+    Sum(i128),
+    /// The least of them, if there is one.
+    Least(Option<i64>),
+    /// The greatest, if there is one.
+    Greatest(Option<i64>),
+    /// All of them.
+    List(Vec<i64>),
+}
+
+/// What the query's items find in records of the layout, in their order. As `query`, but for the form of the answer.
+///
+/// ```
+/// use fmem::Item;
+/// let found = fmem::items(r#"{"type":"short"}"#, "sum(.),list(.)", &[1, 0, 255, 255])?;
+/// assert_eq!(found, [Item::Sum(0), Item::List(vec![1, -1])]);
+/// # Ok::<(), fmem::Error>(())
+/// ```
+pub fn items(layout: &str, text: &str, records: &[u8]) -> Result<Vec<Item>, Error> {
+    let given = [layout.as_bytes(), text.as_bytes(), records];
+    let numbers = raw::filled(64, |out| raw::numbers(given, out))?;
+    let (mut rest, mut found) = (&numbers[..], Vec::new());
+    while let [form, count, more @ ..] = rest {
+        let (of, behind) = more.split_at(*count as usize);
+        found.push(match (form, of) {
+            (0, [n]) => Item::Count(n.cast_unsigned()),
+            (1, [low, high]) => {
+                Item::Sum(i128::from(*high) << 64 | i128::from(low.cast_unsigned()))
+            }
+            (2, _) => Item::Least(of.first().copied()),
+            (3, _) => Item::Greatest(of.first().copied()),
+            _ => Item::List(of.to_vec()),
+        });
+        rest = behind;
+    }
+    Ok(found)
+}
+
+/// Each number that comes among the values of the path in records of the layout, and how often, in rising order.
+///
+/// ```
+/// let bytes = [3, 255, 3];
+/// assert_eq!(fmem::groups(r#"{"type":"byte"}"#, ".", &bytes)?, [(-1, 1), (3, 2)]);
+/// # Ok::<(), fmem::Error>(())
+/// ```
+pub fn groups(layout: &str, path: &str, records: &[u8]) -> Result<Vec<(i64, u64)>, Error> {
+    let given = [layout.as_bytes(), path.as_bytes(), records];
+    let found = raw::filled(256, |out| raw::groups(given, out))?;
+    Ok(found.iter().map(|it| (it.number, it.count)).collect())
+}
+
+/// The text of each record of the layout, in the bytes to which the path leads, up to the first that is 0; or why there is
+/// none: no byte is 0, or the text isn't UTF-8.
+///
+/// ```
+/// let layout = r#"{"type":"sequence","count":3,"element":{"type":"byte"}}"#;
+/// let texts = fmem::texts(layout, ".", b"ab\0abc")?;
+/// assert_eq!((texts[0].as_deref(), texts[1].as_ref().map_err(|e| e.number())), (Ok("ab"), Err(61)));
+/// # Ok::<(), fmem::Error>(())
+/// ```
+pub fn texts(
+    layout: &str,
+    path: &str,
+    records: &[u8],
+) -> Result<Vec<Result<String, Error>>, Error> {
+    let given = [layout.as_bytes(), path.as_bytes(), records];
+    let lines = raw::text(raw::filled(4096, |out| raw::texts(given, out))?)?;
+    lines.lines().map(text_of).collect()
+}
+
+/// The text of a line `text HEX`, or the refusal of one `refused NUMBERS`.
+fn text_of(line: &str) -> Result<Result<String, Error>, Error> {
+    if let Some(numbers) = line.strip_prefix("refused ") {
+        let mut numbers = numbers.split(' ').map(|it| it.parse().ok());
+        return Ok(Err(Error::Refused {
+            number: numbers.next().flatten().expect("a number"),
+            arguments: [numbers.next().flatten(), numbers.next().flatten()],
+        }));
+    }
+    let digits = line.strip_prefix("text").expect("a text").trim_start();
+    let byte = |pair: &[u8]| {
+        let digit = |d: u8| char::from(d).to_digit(16).expect("a digit") as u8;
+        digit(pair[0]) << 4 | digit(pair[1])
+    };
+    Ok(Ok(raw::text(
+        digits.as_bytes().chunks_exact(2).map(byte).collect(),
+    )?))
 }

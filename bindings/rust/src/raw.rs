@@ -22,7 +22,7 @@ pub struct Extent {
 }
 
 #[repr(C)]
-#[derive(Default)]
+#[derive(Clone, Debug, Default, PartialEq, Eq, Hash)]
 pub struct Place {
     pub offset: u64,
     pub kind: u64,
@@ -32,11 +32,25 @@ pub struct Place {
     pub root_alignment: u64,
 }
 
+/// What the index of an open step does to the offset: so many bytes from one to the next, and so many indices from 0 on.
 #[repr(C)]
-#[derive(Clone, Default)]
+#[derive(Clone, Copy, Debug, Default, PartialEq, Eq, Hash)]
 pub struct Stride {
     pub stride: i64,
     pub bound: u64,
+}
+
+#[repr(C)]
+pub struct Within {
+    pub size: u64,
+    pub base: u64,
+}
+
+#[repr(C)]
+#[derive(Clone, Default)]
+pub struct Counted {
+    pub number: i64,
+    pub count: u64,
 }
 
 unsafe extern "C" {
@@ -60,6 +74,49 @@ unsafe extern "C" {
         path_length: usize,
         place: *mut Place,
         strides: *mut Stride,
+        room: usize,
+        report: *mut Report,
+    ) -> u64;
+    fn fm_at(
+        place: *const Place,
+        strides: *const Stride,
+        strides_count: usize,
+        indices: *const u64,
+        indices_count: usize,
+        within: *const Within,
+        at: *mut u64,
+        report: *mut Report,
+    ) -> u64;
+    fn fm_numbers(
+        layout: *const u8,
+        layout_length: usize,
+        query: *const u8,
+        query_length: usize,
+        records: *const u8,
+        records_length: usize,
+        out: *mut i64,
+        room: usize,
+        report: *mut Report,
+    ) -> u64;
+    fn fm_groups(
+        layout: *const u8,
+        layout_length: usize,
+        path: *const u8,
+        path_length: usize,
+        records: *const u8,
+        records_length: usize,
+        out: *mut Counted,
+        room: usize,
+        report: *mut Report,
+    ) -> u64;
+    fn fm_texts(
+        layout: *const u8,
+        layout_length: usize,
+        path: *const u8,
+        path_length: usize,
+        records: *const u8,
+        records_length: usize,
+        out: *mut u8,
         room: usize,
         report: *mut Report,
     ) -> u64;
@@ -131,31 +188,76 @@ pub fn place(
     told(&report)
 }
 
-pub fn query(layout: &[u8], query: &[u8], records: &[u8], out: &mut [u8]) -> Result<usize, Error> {
-    let mut report = Report::default();
-    let (json, text) = (
-        (layout.as_ptr(), layout.len()),
-        (query.as_ptr(), query.len()),
-    );
-    let (bytes, to) = (
-        (records.as_ptr(), records.len()),
-        (out.as_mut_ptr(), out.len()),
-    );
+pub fn at(
+    place: &Place,
+    strides: &[Stride],
+    indices: &[u64],
+    within: &Within,
+) -> Result<u64, Error> {
+    let (mut report, mut at) = (Report::default(), 0);
     // SAFETY: as above.
     unsafe {
-        fm_query(
-            json.0,
-            json.1,
-            text.0,
-            text.1,
-            bytes.0,
-            bytes.1,
-            to.0,
-            to.1,
+        fm_at(
+            place,
+            strides.as_ptr(),
+            strides.len(),
+            indices.as_ptr(),
+            indices.len(),
+            within,
+            &mut at,
+            &mut report,
+        )
+    };
+    told(&report).map(|_| at)
+}
+
+/// A call that reads a layout, a text and records, and puts items.
+type Over<T> = unsafe extern "C" fn(
+    *const u8,
+    usize,
+    *const u8,
+    usize,
+    *const u8,
+    usize,
+    *mut T,
+    usize,
+    *mut Report,
+) -> u64;
+
+fn over<T>(call: Over<T>, given: [&[u8]; 3], out: &mut [T]) -> Result<usize, Error> {
+    let mut report = Report::default();
+    let [layout, text, records] = given;
+    // SAFETY: as above; the call is one of those below, for which items of `T` are right.
+    unsafe {
+        call(
+            layout.as_ptr(),
+            layout.len(),
+            text.as_ptr(),
+            text.len(),
+            records.as_ptr(),
+            records.len(),
+            out.as_mut_ptr(),
+            out.len(),
             &mut report,
         )
     };
     told(&report)
+}
+
+pub fn query(given: [&[u8]; 3], out: &mut [u8]) -> Result<usize, Error> {
+    over(fm_query, given, out)
+}
+
+pub fn numbers(given: [&[u8]; 3], out: &mut [i64]) -> Result<usize, Error> {
+    over(fm_numbers, given, out)
+}
+
+pub fn groups(given: [&[u8]; 3], out: &mut [Counted]) -> Result<usize, Error> {
+    over(fm_groups, given, out)
+}
+
+pub fn texts(given: [&[u8]; 3], out: &mut [u8]) -> Result<usize, Error> {
+    over(fm_texts, given, out)
 }
 
 /// All that the call puts, of which most need no more room than this.

@@ -1,7 +1,7 @@
 //! Tests of the crate's calls over the repository's examples. `FMEM_REFUSALS` names a file of refusals, a line
 //! `KIND TAB GIVEN TAB NUMBERS` each.
 
-use fmem::{Error, Kind, Place, measure, places, query};
+use fmem::{Error, Item, Kind, Place, groups, items, measure, places, query, texts};
 use std::fs;
 
 fn example(name: &str) -> Vec<u8> {
@@ -50,6 +50,59 @@ fn reads_by_places() {
 }
 
 #[test]
+fn finds_numbers_groups_and_texts() {
+    let (layout, sales) = (text("sale_layout"), example("two_sales"));
+    let asked = "count,sum(.price),min(.price),max(.price) where .kind=9";
+    let none = [
+        Item::Count(0),
+        Item::Sum(0),
+        Item::Least(None),
+        Item::Greatest(None),
+    ];
+    assert_eq!(items(&layout, asked, &sales).expect("an answer"), none);
+    let listed = [Item::Count(2), Item::List(vec![250, -40])];
+    let found = items(&layout, "count,list(.price)", &sales);
+    assert_eq!(found.expect("an answer"), listed);
+    let most = [i64::MAX.to_le_bytes(), i64::MAX.to_le_bytes()].concat();
+    let sum = Item::Sum(2 * i128::from(i64::MAX));
+    assert_eq!(items(r#"{"type":"long"}"#, "sum(.)", &most), Ok(vec![sum]));
+    let least = [i64::MIN.to_le_bytes(), i64::MIN.to_le_bytes()].concat();
+    let sum = Item::Sum(2 * i128::from(i64::MIN));
+    assert_eq!(items(r#"{"type":"long"}"#, "sum(.)", &least), Ok(vec![sum]));
+    let often = vec![(-1, 1), (0, 2), (1, 1), (2, 1), (3, 1), (4, 1), (5, 1)];
+    assert_eq!(groups(&layout, ".tags[]", &sales), Ok(often));
+    assert_eq!(groups(&layout, ".tags[]", &[]), Ok(vec![]));
+    let no_zero = Error::Refused {
+        number: 61,
+        arguments: [None, None],
+    };
+    let found = texts(&layout, ".tags", &sales);
+    assert_eq!(found, Ok(vec![Err(no_zero), Ok("\u{5}".into())]));
+    let boolean = Place::of(r#"{"type":"boolean"}"#, ".").expect("a place");
+    assert_eq!(
+        (boolean.get(&[2], &[]), boolean.get(&[0], &[])),
+        (Some(1), Some(0))
+    );
+}
+
+#[test]
+fn finds_where_a_value_stands() {
+    let (layout, sales) = (text("sale_layout"), example("two_sales"));
+    let tag = Place::of(&layout, ".tags[]").expect("a place");
+    assert_eq!(tag.find(&sales, 24, &[3]), Ok(43));
+    let refused = |base, indices: &[u64]| tag.find(&sales, base, indices).expect_err("refused");
+    for (base, indices, numbers) in [
+        (24, &[4][..], "33 0"),
+        (24, &[], "33 0"),
+        (24, &[0, 0], "33 1"),
+        (25, &[0], "3"),
+        (u64::MAX, &[0], "3"),
+    ] {
+        assert_eq!(refused(base, indices).to_string(), numbers);
+    }
+}
+
+#[test]
 fn refuses_each_with_its_numbers() {
     let Ok(file) = std::env::var("FMEM_REFUSALS") else {
         return;
@@ -72,10 +125,11 @@ fn refuses_each_with_its_numbers() {
             number: 51,
             arguments: [Some(rest), None],
         };
-        assert_eq!(
-            query(&layout, "count", &sales[..24 + rest as usize]),
-            Err(refused)
-        );
+        let ragged = &sales[..24 + rest as usize];
+        assert_eq!(query(&layout, "count", ragged), Err(refused));
+        assert_eq!(items(&layout, "count", ragged), Err(refused));
+        assert_eq!(groups(&layout, ".id", ragged), Err(refused));
+        assert_eq!(texts(&layout, ".tags", ragged), Err(refused));
     }
     let refused = Error::Refused {
         number: 10,
@@ -96,6 +150,7 @@ fn serves_eight_threads_by_one_place() {
             scope.spawn(|| {
                 for _ in 0..100 {
                     assert_eq!(tag.get(&sales, &[2]), Some(3));
+                    assert_eq!(tag.find(&sales, 24, &[2]), Ok(42));
                     assert_eq!(
                         query(&layout, "sum(.price)", &sales),
                         Ok("sum(.price) 210\n".into())
@@ -104,4 +159,12 @@ fn serves_eight_threads_by_one_place() {
             });
         }
     });
+}
+
+#[test]
+fn may_cross_threads() {
+    fn crosses<T: Send + Sync>() {}
+    crosses::<Place>();
+    crosses::<Error>();
+    crosses::<Item>();
 }

@@ -1,14 +1,21 @@
-//! Layouts, paths and queries for C: each export hands a call of `fm_c_calls` on, under C's rules.
+//! Layouts, paths, queries, groups and texts for C: each export hands a call of `fm_c_calls` on, under C's rules.
 //!
 //! An export's clause is that of the call, and that just what came of it is told. `include/fmem.h` says each in words.
 #![tactic(auto)]
 
+ghost use Rattle.fm_c_calls.specs.Grouped.{PutsGroups};
 ghost use Rattle.fm_c_calls.specs.Held.{PutsAnswer};
+ghost use Rattle.fm_c_calls.specs.Located.{FindsAt};
+ghost use Rattle.fm_c_calls.specs.Numbered.{PutsNumbers};
 ghost use Rattle.fm_c_calls.specs.Placed.{PutsPlace};
 ghost use Rattle.fm_c_calls.specs.Reading.{Lists, Measures};
 ghost use Rattle.fm_c_calls.specs.Reports.{PutsText, Tells};
+ghost use Rattle.fm_c_calls.specs.Texts.{PutsTexts};
 
-use fm_c_calls::{Extent, Place, Report, Stride, list, measure, put_answer, put_place, put_report};
+use fm_c_calls::{
+    Counted, Extent, Place, Report, Stride, Within, find_at, list, measure, put_answer, put_groups,
+    put_numbers, put_place, put_report, put_texts,
+};
 use std::alloc::Global;
 
 /// Puts how long a layout is, and how it is aligned.
@@ -52,6 +59,21 @@ pub extern "C" fn fm_place(
     report.tell(put_place(alloc, layout, path, place, strides))
 }
 
+/// Puts where the value of a place stands at indices, in the bytes in which its record stands.
+#[unsafe(no_mangle)]
+pub extern "C" fn fm_at(
+    place: &Place,
+    strides: &[Stride],
+    indices: &[u64],
+    within: &Within,
+    at: &mut u64,
+    report: &mut Report,
+) -> u64
+    ensures { Tells (FindsAt place.now strides.now indices.now within.now at.old at.new) result report.new }
+{
+    report.tell(find_at(place, strides, indices, within, at))
+}
+
 /// Puts the text of what a query answers over records.
 #[unsafe(no_mangle)]
 pub extern "C" fn fm_query(
@@ -65,6 +87,51 @@ pub extern "C" fn fm_query(
     ensures { Tells (PutsAnswer layout.now query.now records.now out.old out.new) result report.new }
 {
     report.tell(put_answer(alloc, layout, query, records, out))
+}
+
+/// Puts the numbers that the items of a query find in records.
+#[unsafe(no_mangle)]
+pub extern "C" fn fm_numbers(
+    alloc: Global,
+    layout: &[u8],
+    query: &[u8],
+    records: &[u8],
+    out: &mut [i64],
+    report: &mut Report,
+) -> u64
+    ensures { Tells (PutsNumbers layout.now query.now records.now out.old out.new) result report.new }
+{
+    report.tell(put_numbers(alloc, layout, query, records, out))
+}
+
+/// Puts how often each number comes among the values of a path in records.
+#[unsafe(no_mangle)]
+pub extern "C" fn fm_groups(
+    alloc: Global,
+    layout: &[u8],
+    path: &[u8],
+    records: &[u8],
+    out: &mut [Counted],
+    report: &mut Report,
+) -> u64
+    ensures { Tells (PutsGroups layout.now path.now records.now out.old out.new) result report.new }
+{
+    report.tell(put_groups(alloc, layout, path, records, out))
+}
+
+/// Puts the lines of the texts to which a path leads in records.
+#[unsafe(no_mangle)]
+pub extern "C" fn fm_texts(
+    alloc: Global,
+    layout: &[u8],
+    path: &[u8],
+    records: &[u8],
+    out: &mut [u8],
+    report: &mut Report,
+) -> u64
+    ensures { Tells (PutsTexts layout.now path.now records.now out.old out.new) result report.new }
+{
+    report.tell(put_texts(alloc, layout, path, records, out))
 }
 
 /// Puts the text of a refusal that another call told.

@@ -1,5 +1,10 @@
+mod Grouping
+mod Inside
+mod Out
 mod Outcomes
 mod Querying
 mod Room
 mod Standing
+mod Told
+mod Valued
 mod Words

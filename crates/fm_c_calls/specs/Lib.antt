@@ -1,5 +1,10 @@
+pub mod Grouped
 pub mod Held
+pub mod Located
+pub mod Numbered
 pub mod Output
 pub mod Placed
 pub mod Reading
 pub mod Reports
+pub mod Texts
+pub mod Whole

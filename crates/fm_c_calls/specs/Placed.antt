@@ -38,13 +38,23 @@ place_of r = record {
   root_alignment = r.root_alignment;
 }
 
--- the path that the bytes spell is resolved against the layout to this
+-- the path that the bytes spell is resolved against a layout to this
+pub record IsPlacedIn (path : List ℕ) (t : Tree) (r : Resolution) : Type 0 where
+  pub steps : List PathStep
+  pub spelled : IsTextOf path steps
+  pub resolved : IsResolved steps t r
+
+-- why it isn't, the first cause that applies
+pub data IsUnplacedIn (path : List ℕ) (t : Tree) (e : Refusal) : Type 0 where
+  no_text : IsNoText path e → IsUnplacedIn path t e
+  no_path : IsNoPath path e → IsUnplacedIn path t e
+  not_resolved : (steps : List PathStep) → IsTextOf path steps → IsRefusal steps t e → IsUnplacedIn path t e
+
+-- so against the layout whose JSON the bytes are
 pub record IsPlaced (json path : List ℕ) (r : Resolution) : Type 0 where
   pub layout : Tree
   pub read : IsLayoutOf json layout
-  pub steps : List PathStep
-  pub spelled : IsTextOf path steps
-  pub resolved : IsResolved steps layout r
+  pub placed : IsPlacedIn path layout r
 
 pub record Places (json path : List ℕ) (new : Place) (old_strides new_strides : List Stride) (n : ℕ) : Type 0 where
   pub resolution : Resolution
@@ -57,11 +67,8 @@ pub record Places (json path : List ℕ) (new : Place) (old_strides new_strides 
 -- why there is no place, the first cause that applies; or memory was wanting
 pub data IsNoPlace (json path : List ℕ) (e : Refusal) : Type 0 where
   no_layout : IsNoLayout json e → IsNoPlace json path e
-  no_text : (t : Tree) → IsLayoutOf json t → IsNoText path e → IsNoPlace json path e
-  no_path : (t : Tree) → IsLayoutOf json t → IsNoPath path e → IsNoPlace json path e
+  unplaced : (t : Tree) → IsLayoutOf json t → IsUnplacedIn path t e → IsNoPlace json path e
   no_memory : e ≡ Memory → IsNoPlace json path e
-  not_resolved : (t : Tree) (steps : List PathStep) → IsLayoutOf json t → IsTextOf path steps → IsRefusal steps t e
-      → IsNoPlace json path e
 
 -- its numbers and its strides were put, these as far as there was room; or it was refused and nothing was
 abbrev pub PutsPlace : List ℕ → List ℕ → Place → Place → List Stride → List Stride → Result ℕ Refusal → Type 0

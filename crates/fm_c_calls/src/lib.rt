@@ -1,4 +1,4 @@
-//! Layouts, paths and queries for callers that have bytes and numbers alone, as those in C.
+//! Layouts, paths, queries, groups and texts for callers that have bytes and numbers alone, as those in C.
 //!
 //! **The problem.** C passes numbers, and slices as pointers and lengths: no layout, no list, no `Result`. And it keeps
 //! to no contract, so none of its values may be one that a call rests on.
@@ -17,19 +17,29 @@
 
 mod answering;
 mod extent;
+mod groups;
 mod held;
 mod laws;
+mod numbers;
 mod output;
 mod place;
 mod places;
 mod printing;
 mod reading;
 mod report;
+mod spot;
+mod texts;
+mod values;
+mod whole;
 
 pub use answering::{answer_over, put_answer, read_query};
 pub use extent::{Extent, measure};
-pub use laws::reports_say_refusals;
+pub use groups::{Counted, put_groups};
+pub use laws::{places_lead_inside, reports_say_refusals};
+pub use numbers::put_numbers;
 pub use place::{Place, Stride, put_place};
 pub use places::list;
 pub use printing::put_report;
 pub use report::Report;
+pub use spot::{Within, find_at};
+pub use texts::put_texts;

@@ -1,11 +1,12 @@
 ghost use Rattle.std.specs.Prelude.{◌≡◌, IfOk, IfErr};
 ghost use Rattle.fm_path.specs.Resolution.{StaysInside};
-ghost use Rattle.fm_c_calls.specs.Output.{Fills};
-ghost use Rattle.fm_c_calls.specs.Placed.{IsNoPlace, IsPlaced, PutsPlace, kind_code, order_code, place_of, stride_of, strides_of};
+ghost use Rattle.fm_c_calls.specs.Placed.{IsNoPlace, IsPlaced, IsPlacedIn, IsUnplacedIn, PutsPlace, kind_code, order_code, place_of, stride_of, strides_of};
 
+use crate::output::put_front;
 use crate::reading::{read_layout, read_text};
 use fm_base::Refusal;
 use fm_lanes::{Order, ValueKind};
+use fm_layout::Layout;
 use fm_path::{Dim, Resolved, parse_path, resolve};
 use std::alloc::{AllocError, Global};
 
@@ -66,6 +67,15 @@ pub fn resolve_bytes(alloc: Global, json: &[u8], path: &[u8]) -> Result<Resolved
     ensures refused { IfErr result (IsNoPlace json.now path.now) }
 {
     let layout = read_layout(alloc, json)?;
+    resolve_in(alloc, &layout, path)
+}
+
+/// The path that the bytes spell, resolved against a layout. Refused as `put_place`, but for the layout's JSON.
+pub fn resolve_in(alloc: Global, layout: &Layout, path: &[u8]) -> Result<Resolved, Refusal>
+    ensures resolved { IfOk result (IsPlacedIn path.now layout.now) }
+    ensures inside { IfOk result StaysInside }
+    ensures refused { IfErr result (IsUnplacedIn path.now layout.now) }
+{
     let text = match read_text(path) {
         Ok(text) => text,
         Err(refusal) => return Err(refusal),
@@ -74,7 +84,7 @@ pub fn resolve_bytes(alloc: Global, json: &[u8], path: &[u8]) -> Result<Resolved
         Ok(steps) => steps,
         Err(refusal) => return Err(refusal),
     };
-    resolve(alloc, &layout, &steps)
+    resolve(alloc, layout, &steps)
 }
 
 fn numbers_of(resolved: &Resolved) -> Place
@@ -122,15 +132,6 @@ fn strides_of(alloc: Global, dims: &[Dim]) -> Result<Vec<Stride>, AllocError>
         strides.push(stride_of(*dim))?;
     }
     Ok(strides)
-}
-
-/// Puts the first of these strides that there is room for, and answers how many they are in all.
-fn put_front(out: &mut [Stride], strides: &[Stride]) -> u64
-    ensures { Fills out.old out.new strides.now result }
-{
-    let count = strides.len().min(out.len());
-    out[..count].copy_from_slice(&strides[..count]);
-    strides.len() as u64
 }
 
 fn stride_of(dim: Dim) -> Stride

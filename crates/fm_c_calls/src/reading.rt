@@ -1,4 +1,5 @@
 ghost use Rattle.std.specs.Prelude.{◌≡◌, IfOk, IfErr};
+ghost use Rattle.std.specs.Str.{IsUtf8};
 ghost use Rattle.fm_c_calls.specs.Reading.{IsLayoutOf, IsNoLayout, IsNoText};
 
 use fm_base::Refusal;
@@ -17,6 +18,7 @@ pub fn read_layout(alloc: Global, json: &[u8]) -> Result<Layout, Refusal>
 /// The text that the bytes are. Refused: `NotText` with the length in bytes of the longest front that is UTF-8.
 pub fn read_text(bytes: &[u8]) -> Result<&str, Refusal>
     ensures text { IfOk result (λ text. text.now ≡ bytes.now) }
+    ensures utf8 { IfOk result (λ text. IsUtf8 text.now) }
     ensures refused { IfErr result (IsNoText bytes.now) }
 {
     match std::str::from_utf8(bytes) {
