@@ -71,3 +71,7 @@ pub record AfterPolls (old new : SetView) : Type 0 where
 abbrev pub SetAnswers : SetView → Poll ℕ → Type 0
 SetAnswers c (Ready n) = (n ≡ length c.closes) × (unfinished (closes_of c.closes) ≡ 0)
 SetAnswers c Pending = 0 < unfinished (closes_of c.closes)
+
+-- a number that is that of all arenas of the new set is that of the old one's
+abbrev pub StayAsMany : SetView → SetView → Type 0
+StayAsMany old new = (n : ℕ) → n ≡ length new.closes → n ≡ length old.closes

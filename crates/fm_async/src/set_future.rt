@@ -48,7 +48,7 @@ impl<'a, 'p> SetFuture<'a, 'p> {
 
 impl<'a, 'p> Future for SetFuture<'a, 'p> {
     ghost use Rattle.std.specs.Prelude.{⊤, ℕ, true};
-    ghost use Rattle.fm_async.specs.Polls.{AfterPolls, SetAnswers};
+    ghost use Rattle.fm_async.specs.Polls.{AfterPolls, SetAnswers, StayAsMany};
     ghost use Rattle.futures.specs.Poll.{IfReady, OnPending};
     ghost use Rattle.futures.specs.Task.{Covers, Keeps};
 
@@ -60,7 +60,7 @@ impl<'a, 'p> Future for SetFuture<'a, 'p> {
     fn poll(&mut self, cx: &mut Context<'_>) -> Poll<u32>
         ensures value { IfReady result (λ n. n ≡ length self.old.set.now.closes) }
         ensures again { OnPending result ⊤ }
-        ensures same { OnPending result ((n : ℕ) → n ≡ length self.new.set.now.closes → n ≡ length self.old.set.now.closes) }
+        ensures same { OnPending result (StayAsMany self.old.set.now self.new.set.now) }
         ensures registered { OnPending result (Covers cx.new (λ s. ⊥)) }
         ensures kept { Keeps cx.old cx.new }
         ensures polls { AfterPolls self.old.set.now self.new.set.now }
