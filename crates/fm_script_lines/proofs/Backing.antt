@@ -96,15 +96,6 @@ module _ (p q : View) {all_holds all_handles holds handles : List ArenaId} {base
   own_later : All (IsBacked q) own
   own_later = All-weaker (IsBacked p) (IsBacked q) (λ s h. backed_later p q l same s h) own b.own_known
 
-  -- Nothing was taken and nothing given back.
-  pub backs_still : q.holds ≡ all_holds → q.handles ≡ all_handles → Backs q holds handles base own
-  backs_still hs ks = record {
-    others_known = others_later;
-    own_known = own_later;
-    has_holds = subst (λ (xs : List ArenaId). HasTokens xs (among hold_of own) holds) (sym hs) b.has_holds;
-    has_handles = subst (λ (xs : List ArenaId). HasTokens xs (among handle_of own) handles) (sym ks) b.has_handles;
-  }
-
   -- A line's name more.
   pub backs_more : (made : Standing) → q.holds ≡ holds_with made all_holds → q.handles ≡ handles_with made all_handles → IsBacked q made
       → Backs q holds handles base (own ++ made ∷ [])
