@@ -1,4 +1,3 @@
 pub mod Joining
-pub mod Opened
 pub mod Telling
 pub mod Living
