@@ -19,7 +19,7 @@ use Rattle.fm_top_load.specs.{declared.{load_fault.LoadFault.{LoadFault, TheVari
 use Rattle.fm_top_load.specs.Whole.{IsCut, IsPortion, IsWhole}
 use Rattle.fm_top_load.{specs.Records.{IsRest, TellsRecords}, proofs.{FileBytes.{first_to_last}, Telling.{tells_rest}}}
 use Rattle.fm_top_pooled.{specs.Stocked.{IsAlone, IsStockedOf, bytes_in_pool}, proofs.Filling.{held_room}}
-use Rattle.fm_top_pooled.proofs.Shows.{pooled_is, read_in}
+use Rattle.fm_top_pooled.proofs.Shows.{pooled_is}
 use Rattle.fm_top_stream.specs.{Chunks.{all_bytes}, Gone.{CanAnswer, CanAsk, CanTakeChunk, GoesByChunk, GoneSoFar, GoneThrough, HasGone, HasNext}}
 use Rattle.fm_top_stream.specs.{declared.{under_way.UnderWay.{UnderWay}, placed.Placed.{Placed}}, Shown.{ReadStanding, ShowsChunk}}
 use Rattle.fm_top_stream.specs.Steps.{AnswersOn, CanClose, Closes, GoesOn, StandsIn, arenas_of}

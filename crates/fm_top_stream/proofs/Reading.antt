@@ -1,11 +1,10 @@
 -- A crew that answers a query over a segment changes no arena's life nor words.
-use Rattle.std.proofs.Common.{◌≡◌, ℕ, ◌%◌, List, [], ◌∷◌, ◌++◌, Result, Ok, Err, refl, ap, sym, ◌∙◌, subst, inl, inr, ⊎_elim, arith}
+use Rattle.std.proofs.Common.{◌≡◌, ℕ, ◌%◌, List, [], ◌∷◌, Result, Ok, Err, refl, ap, sym, ◌∙◌, subst, inl, inr, ⊎_elim, arith}
 use Rattle.std.specs.Prelude.{◌⊎◌}
 use Rattle.fm_base.specs.declared.{arena_id.ArenaId.{ArenaId}, caller.Caller.{Caller}, refusal.Refusal.{Refusal, TheVariants.{Memory, NoPass}}}
 use Rattle.fm_base.specs.Arenas.{Arena, State, arena_of, changed}
 use Rattle.fm_base.specs.{Calls.{Call, Closed, Enter, Entry, Fine, Found, Given, Held, Leave, NoRoom, Read, Reply, TooManyHolds}, Histories.{state_after}}
 use Rattle.fm_base.{specs.Machine.{after, state_by, entered, left}, proofs.Lookup.{KeepsName, changed_has, changed_lookup}}
-use Rattle.fm_base_lists.proofs.Among.{among_right}
 use Rattle.fm_gate.specs.Needs.{IsOutside}
 use Rattle.fm_rule_calls.proofs.Going.{reached_by}
 use Rattle.fm_rule_facts.specs.Views.{View, limit_of, state_in}

@@ -1,5 +1,5 @@
 -- A pass that draws a crew for the segment, and puts the next stretch of the file into another arena while the crew answers.
-use Rattle.std.proofs.Common.{◌≡◌, ◌≢◌, ℕ, ◌<◌, ◌≤◌, true, false, List, [], ◌∷◌, ◌++◌, length, take, Option, Result, Ok, refl, ap, sym, ◌∙◌, subst, inl, inr, ⊎_elim, arith}
+use Rattle.std.proofs.Common.{◌≡◌, ◌≢◌, ℕ, ◌<◌, ◌≤◌, true, false, List, [], ◌∷◌, length, take, Option, Result, Ok, refl, ap, sym, ◌∙◌, subst, inl, inr, ⊎_elim, arith}
 use Rattle.std.specs.{Prelude.{◌⊎◌}, List.{AllByRecursion}}
 use Rattle.fm_base_aside.{specs.Aside.{IsLook, IsOwnOrLook, OthersLook, arena_for, state_for}, proofs.Looks.{alone_for, arena_for_of, has_for}}
 use Rattle.fm_base.specs.declared.{arena_id.ArenaId.{ArenaId}, caller.Caller.{Caller}, refusal.Refusal.{Refusal}}
@@ -7,7 +7,7 @@ use Rattle.fm_base.specs.{Arenas.{Alive, Arena, State, MayUse, are_one, arena_of
 use Rattle.fm_base.specs.{Histories.{made_by, state_after}, Machine.{words_within}, Untouched.{AllSpare, Spares}, View.{given_in}}
 use Rattle.fm_base.proofs.Names.{are_one-not, are_one-true}
 use Rattle.fm_base_bytes.specs.Words.{bytes_in}
-use Rattle.fm_base_lists.{specs.Among.{IsAmong}, proofs.{Among.{among_right}, Each.{all_weaker}}}
+use Rattle.fm_base_lists.{specs.Among.{IsAmong}, proofs.Each.{all_weaker}}
 use Rattle.fm_gate.specs.Needs.{IsOutside}
 use Rattle.fm_io.specs.Files.{Contents}
 use Rattle.fm_records_query.specs.Plan.{Plan}

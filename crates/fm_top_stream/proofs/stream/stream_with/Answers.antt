@@ -1,6 +1,6 @@
 use Rattle.std.proofs.Common.{◌<◌, ap, sym, subst, ◌∙◌}
 use Rattle.fm_rule.specs.Views.{first_pass, numbers_of}
-use Rattle.fm_top_load.proofs.Telling.{read_quietly, tells_memory, tells_none}
+use Rattle.fm_top_load.proofs.Telling.{read_quietly, tells_none}
 use Rattle.fm_top_stream.proofs.{Chunking.{tells_no_memory}, Ends.{can_go, some_in_chunk, streamed}}
 use Rattle.fm_top_stream.proofs.stream.stream_with.Goals as goal
 
