@@ -3,7 +3,7 @@ use Rattle.std.proofs.Common.{◌≡◌, ◌≢◌, ℕ, ◌<◌, ◌==◌, Bool
 use Rattle.std.proofs.lemmas.List.{append-nil}
 use Rattle.fm_words.specs.{declared.shape.Shape.{Shape}, Places.{groups}}
 use Rattle.fm_base.specs.{declared.caller.Caller.{Caller}, Finds.{Find, Draws as Drawing, is_draw}}
-use Rattle.fm_rule_facts.specs.{Views.{View, In, HasFind, IsSound}, Steps.{Stepped, draws, note_draw, none_noted, is_clear}}
+use Rattle.fm_rule_facts.specs.{Views.{View, In, IsSound}, Steps.{Stepped, draws, note_draw, none_noted, is_clear}}
 use Rattle.fm_rule_facts.specs.Hands.{Number, no_number, number_taken, number_learnt, number_left, number_drawn, most_draws, drawn_by, number_after}
 use Rattle.fm_rule_facts.{specs.{Moves.{LearnsCount}, Splits.{drawn_left}}, proofs.Founds.{draw_found, draw_drew, draw_is}}
 use Rattle.fm_rule_facts.proofs.Keeping.{in_append, in_left, in_right}

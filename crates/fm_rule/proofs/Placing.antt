@@ -1,6 +1,6 @@
 -- Where the words of a part stand that a pass read at some visit.
 use Rattle.std.proofs.Common.{◌≡◌, ℕ, ◌+◌, ◌-◌, ◌*◌, ◌/◌, ◌%◌, ◌^◌, ◌<◌, ◌≤◌, List, [], Option, subst, sym, ap, ◌∙◌, arith}
-use Rattle.std.proofs.{Math.Nat.{mod-lt}, lemmas.Nat.{div-mul-add, mod-mul-add}}
+use Rattle.std.proofs.{lemmas.Nat.{div-mul-add, mod-mul-add}}
 use Rattle.fm_words.{specs.{declared.shape.Shape.{Shape}, Shapes.{IsValid}, Maps.{map_word}, Places.{at, page_word}}, proofs.Tables.{at-within}}
 use Rattle.fm_base.specs.declared.{caller.Caller.{Caller}, arena_id.ArenaId.{ArenaId}}
 use Rattle.fm_rule_facts.specs.{Views.{View}, Parts.{reads_after}, Moves.{LearnsMap}, Steps.{Stepped, none_noted}}

@@ -1,7 +1,7 @@
 //! The steps by which a pass gets pages for an arena, and finds them.
 #![tactic(auto, using(crate::proofs::Stepping::step_rules), unfolding(fm_rule_facts::specs::Steps::part))]
 
-ghost use Rattle.std.specs.Prelude.{◌≡◌, ◌≢◌, None, ◌<◌, ◌≤◌, ◌/◌, ◌==◌, [], ◌∷◌, Some};
+ghost use Rattle.std.specs.Prelude.{◌≡◌, ◌≢◌, None, ◌<◌, ◌≤◌, ◌/◌, ◌==◌, [], ◌∷◌, IfSome, Some};
 ghost use Rattle.fm_base.specs.Calls as machine;
 ghost use Rattle.fm_base.specs.Calls.{entry_of};
 ghost use Rattle.fm_base.specs.Finds.{TakesPage as Claiming, Maps as Mapping};
@@ -85,14 +85,28 @@ pub fn step_read_map(pool: &Pool, pass: &mut Pass, id: ArenaId, index: u32) -> u
 
 /// Where the word of this index of the arena that the pass is inside stands, by the map word of its part.
 ///
-/// Of the part that the pass read last all is kept but the map word: its page may have been given back since, and
-/// another may have come. Where that word is as it was, the place is found without the shape.
+/// Of the two parts that the pass read last all is kept but their map words: their pages may have been given back since,
+/// and others may have come. Where the part's map word is as it was, the place is found without the shape.
 #[inline(always)]
 pub fn step_find(pool: &Pool, pass: &mut Pass, id: ArenaId, word: u64) -> u64
     requires of { IsOf pool.now pass.old }
     requires inside { pass.old.inside ≡ Some id }
     requires low { word / pool.now.shape.page_words < pool.now.shape.reach }
     ensures { FindsPlace pass.old id word result pass.new }
+{
+    match find_in_last(pool, pass, id, word) {
+        Some(place) => place,
+        None => step_find_anew(pool, pass, word),
+    }
+}
+
+/// As `step_find`, if the word lies in the part that the pass read last; else nothing is done.
+#[inline(always)]
+fn find_in_last(pool: &Pool, pass: &mut Pass, id: ArenaId, word: u64) -> Option<u64>
+    requires of { IsOf pool.now pass.old }
+    requires inside { pass.old.inside ≡ Some id }
+    ensures found { IfSome result (λ place. FindsPlace pass.old id word place pass.new) }
+    ensures none { result ≡ None → pass.new ≡ pass.old }
 {
     let part = pass.part;
     if part.slot == id.slot && part.first <= word && word - part.first < part.size {
@@ -101,16 +115,16 @@ pub fn step_find(pool: &Pool, pass: &mut Pass, id: ArenaId, word: u64) -> u64
         let found = load_as::<Brand>(pool, seat, part.word_at, step);
         if found == part.word {
             pass.part.words = part.size;
-            return part.from + (word - part.first);
+            return Some(part.from + (word - part.first));
         }
         pass.part = pool.part_of(part.slot, part.index, found);
-        return pool.word_place(found, (word - part.first) as u32);
+        return Some(pool.word_place(found, (word - part.first) as u32));
     }
-    step_find_anew(pool, pass, word)
+    None
 }
 
-/// As `step_find`, of any part. The arena is the one that the pass is inside: its name would be put into memory for this
-/// call at each visit.
+/// As `step_find`, of the other part that the pass keeps, or of any. The arena is the one that the pass is inside: its
+/// name would be put into memory for this call at each visit.
 #[inline(never)]
 fn step_find_anew(pool: &Pool, pass: &mut Pass, word: u64) -> u64
     requires of { IsOf pool.now pass.old }
@@ -121,12 +135,29 @@ fn step_find_anew(pool: &Pool, pass: &mut Pass, word: u64) -> u64
     match pass.inside() {
         None => unreachable!(),
         Some(a) => {
-            let size = u64::from(pool.shape.page_words);
-            let index = quotient(word, size);
-            let found = step_read_map(pool, pass, a, index as u32);
-            pool.word_place(found, (word - index * size) as u32)
+            pass.swap_parts();
+            match find_in_last(pool, pass, a, word) {
+                Some(place) => place,
+                None => {
+                    pass.swap_parts();
+                    read_anew(pool, pass, a, word)
+                }
+            }
         }
     }
+}
+
+/// As `step_find`, by the shape.
+fn read_anew(pool: &Pool, pass: &mut Pass, id: ArenaId, word: u64) -> u64
+    requires of { IsOf pool.now pass.old }
+    requires inside { pass.old.inside ≡ Some id }
+    requires low { word / pool.now.shape.page_words < pool.now.shape.reach }
+    ensures { FindsPlace pass.old id word result pass.new }
+{
+    let size = u64::from(pool.shape.page_words);
+    let index = quotient(word, size);
+    let found = step_read_map(pool, pass, id, index as u32);
+    pool.word_place(found, (word - index * size) as u32)
 }
 
 /// Makes the bit of the page 1 that the pass has in its hand: it can be claimed from this step on.

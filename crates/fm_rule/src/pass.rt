@@ -128,6 +128,15 @@ impl Pass {
         None
     }
 
+    /// The part that it read before the last counts as the last one from here on.
+    pub(crate) fn swap_parts(&mut self)
+        ensures { self.new ≡ self.old }
+    {
+        let part = self.part;
+        self.part = self.other;
+        self.other = part;
+    }
+
     /// The arena in which it is under way; None exactly where it is outside.
     pub fn inside(&self) -> Option<ArenaId>
         ensures inside { result ≡ self.now.inside }

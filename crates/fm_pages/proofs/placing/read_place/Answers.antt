@@ -1,4 +1,4 @@
-use Rattle.std.proofs.Common.{◌≡◌, ◌<◌, ◌/◌, ℕ, ap, sym, ◌∙◌, subst, Some, arith}
+use Rattle.std.proofs.Common.{◌<◌, ◌/◌, sym, ◌∙◌, subst}
 use Rattle.fm_words.specs.declared.shape.Shape.{Shape}
 use Rattle.fm_pages.proofs.Finding.{part_low, placed_by}
 use Rattle.fm_pages.proofs.placing.read_place.Goals as goal

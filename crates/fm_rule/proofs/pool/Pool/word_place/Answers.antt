@@ -1,4 +1,4 @@
-use Rattle.std.proofs.Common.{◌≡◌, ◌+◌, ◌-◌, ◌<◌, ◌≤◌, ℕ, sym, ap, ◌∙◌, arith}
+use Rattle.std.proofs.Common.{◌≡◌, ◌-◌, ◌<◌, ◌≤◌, ℕ, ap, ◌∙◌, arith}
 use Rattle.fm_words.specs.{Places.{at, page_word}, Maps.{map_word}}
 use Rattle.fm_rule.proofs.pool.Pool.word_place.Goals as goal
 

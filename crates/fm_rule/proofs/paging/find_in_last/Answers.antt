@@ -1,9 +1,9 @@
-use Rattle.std.proofs.Common.{◌≡◌, ◌<◌, ◌/◌, ◌%◌, ◌-◌, ◌^◌, ℕ, ap, sym, ◌∙◌, subst, arith}
+use Rattle.std.proofs.Common.{◌<◌, ◌%◌, ◌-◌, ℕ, ap, sym, ◌∙◌, subst, arith}
 use Rattle.fm_words.specs.{declared.shape.Shape.{Shape}, Places.{at, map, page_word}}
 use Rattle.fm_rule_facts.specs.Steps.{part, entries, noted}
 use Rattle.fm_rule.proofs.{Knowing.{opened, sees, inside_slot, shape_is, valid}, Making.{can_read_map}, Keeping.{read_map_keeps}, Stepping.{step_stepped, map_learnt}}
-use Rattle.fm_rule.proofs.Placing.{kept_here, fits, in_kept, in_page, kept_place, kept_small, kept_part, kept_on, kept_some, finds_place}
-use Rattle.fm_rule.proofs.paging.step_find.Goals as goal
+use Rattle.fm_rule.proofs.Placing.{kept_here, in_kept, in_page, kept_place, kept_small, kept_part, kept_on, kept_some, finds_place}
+use Rattle.fm_rule.proofs.paging.find_in_last.Goals as goal
 
 pub load_as-found-requires-clause-can : goal.load_as-found-requires-clause-can
 load_as-found-requires-clause-can c =
@@ -44,9 +44,9 @@ invariant_of-pass c =
     (λ p e. kept_part _ _ c.args.word k c.if-part-word.true c.if-word-part.true p (sym c.if-found-part.true ∙ e))
     (λ l. kept_on _ _ c.args.word k c.if-part-word.true c.if-word-part.true) _ c.pass.invariant.other
 
-pub returns-then-found-part : goal.returns-then-found-part
+pub returns-then-found-part-clause-found : goal.returns-then-found-part-clause-found
 unfolding part entries noted
-returns-then-found-part c =
+returns-then-found-part-clause-found c =
     let k = kept_here c.args.word c.pass.view_is c.requires.of.1 c.pass.invariant c.if-word-part.true in
     finds_place _ _ c.load_as-found.result c.requires.of.1 (in_kept _ _ c.args.word k c.if-part-word.true c.if-word-part.true)
     (map_learnt c.pass.view_is c.load_as-found.ensures.tells.learns)
@@ -60,9 +60,9 @@ invariant_of-pass-then-word-part c =
     read_map_keeps c.pass.invariant _ _ c.load_as-found.ensures (shape_is (sees c.pass.view_is c.requires.of.1 c.pass.invariant))
     c.part_of-pass-inside.ensures.none c.part_of-pass-inside.ensures.some c.part_of-pass-inside.ensures.kept _ c.pass.invariant.other
 
-pub returns-then-word-part : goal.returns-then-word-part
+pub returns-then-word-part-clause-found : goal.returns-then-word-part-clause-found
 unfolding part entries noted
-returns-then-word-part c =
+returns-then-word-part-clause-found c =
     let k = kept_here c.args.word c.pass.view_is c.requires.of.1 c.pass.invariant c.if-word-part.true in
     finds_place _ _ c.load_as-found.result c.requires.of.1 (in_kept _ _ c.args.word k c.if-part-word.true c.if-word-part.true)
     (map_learnt c.pass.view_is c.load_as-found.ensures.tells.learns)

@@ -1,2 +1,0 @@
-use Rattle.std.proofs.Common.{arith}
-use Rattle.fm_rule.proofs.paging.step_find_anew.Goals as goal
