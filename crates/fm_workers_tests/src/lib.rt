@@ -16,4 +16,6 @@ mod packed;
 #[cfg(test)]
 mod printed;
 #[cfg(test)]
+mod queue;
+#[cfg(test)]
 mod records;
