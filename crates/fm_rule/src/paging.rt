@@ -9,13 +9,14 @@ ghost use Rattle.fm_rule_facts.specs.Hands.{takes};
 ghost use Rattle.fm_rule_facts.specs.Parts.{pages_mapped, pages_taken, reads_after, reads_mapped};
 ghost use Rattle.fm_rule_facts.specs.Moves.{LearnsMap};
 ghost use Rattle.fm_words.specs.Bits.{number_at};
+ghost use Rattle.fm_words.specs.Places.{IsPlace, map};
 ghost use Rattle.fm_rule_facts.specs.Steps.{Stepped, none_noted, note_of, where_found};
 ghost use Rattle.fm_rule.specs.Passes.{IsOf};
 ghost use Rattle.fm_rule.specs.Placing.{FindsPlace};
 
 use crate::acts::{exchange_as, load_as, or_as};
 use crate::fitting::quotient;
-use crate::pass::Pass;
+use crate::pass::{Part, Pass};
 use crate::pool::Pool;
 use crate::words::bit;
 use fm_base::ArenaId;
@@ -117,10 +118,23 @@ fn find_in_last(pool: &Pool, pass: &mut Pass, id: ArenaId, word: u64) -> Option<
             pass.part.words = part.size;
             return Some(part.from + (word - part.first));
         }
-        pass.part = pool.part_of(part.slot, part.index, found);
+        keep_part(pool, pass, part.slot, part.index, found);
         return Some(pool.word_place(found, (word - part.first) as u32));
     }
     None
+}
+
+/// Keeps the part of this index, which has another page now, for later looks at it. In a call of its own, since the
+/// compiler makes room for a part ready where this stands.
+#[inline(never)]
+fn keep_part(pool: &Pool, pass: &mut Pass, slot: u32, index: u32, word: u64)
+    requires of { IsOf pool.now pass.old }
+    requires low { word ≤ pool.now.shape.pages }
+    requires place { IsPlace pool.now.shape (map slot index) }
+    ensures { pass.new ≡ pass.old }
+{
+    let part = pool.part_of(slot, index, word);
+    pass.part = Part { words: 0, ..part };
 }
 
 /// As `step_find`, of the other part that the pass keeps, or of any. The arena is the one that the pass is inside: its
