@@ -18,7 +18,8 @@
  * neither from a signal handler nor from the forked child of a process with threads. malloc, realloc and free are of one
  * allocator. Values are never owed: whatever bytes and numbers are passed, the call answers as it says here.
  *
- * Refusals have the numbers and arguments that docs/REFUSALS.md lists. FM_MEMORY may come from any call.
+ * Refusals have the numbers and arguments that docs/REFUSALS.md lists. FM_MEMORY may come from any call but
+ * fm_at, which takes no memory.
  */
 #ifndef FMEM_H
 #define FMEM_H
@@ -31,7 +32,7 @@ extern "C" {
 #endif
 
 enum {
-    FM_BOUNDS = 3,    /* fm_at: the record passes the end of the bytes */
+    FM_BOUNDS = 3,    /* fm_at: the record passes the end of the bytes, or the value its record */
     FM_NO_ROOM = 10,  /* more than FM_MOST_RECORDS bytes of records; its argument is 0 */
     FM_INDEX_OUT = 33, /* fm_at: this index isn't below its bound, is missing, or is one too many */
     FM_RAGGED = 51,   /* the records end with this many bytes more than whole ones */
@@ -112,7 +113,8 @@ uint64_t fm_place(const uint8_t *layout, size_t layout_length, const uint8_t *pa
 
 /*
  * Puts where the value of a place stands at these indices, one for each stride: so many bytes from the start of those in
- * which its record stands. It is quick, takes no memory, and trusts no number that it is given.
+ * which its record stands. It is quick, takes no memory, and trusts no number that it is given. A kind above FM_LONG, which
+ * fm_place never puts, counts as one of 8 bytes.
  * Refused, in this order: FM_INDEX_OUT with the first index, counted from 0, that isn't below its bound, is missing, or is
  * one too many; FM_BOUNDS, where the record passes the end of the bytes, or where the place's numbers lead out of the
  * record, which those that fm_place puts never do.
@@ -141,7 +143,8 @@ uint64_t fm_numbers(const uint8_t *layout, size_t layout_length, const uint8_t *
 
 /*
  * Puts each number that comes among the values of the path in records of the layout, and how often, in rising order of the
- * numbers, as `fmem group` prints them. The records aren't copied; at least 16 bytes a value are taken while the call lasts.
+ * numbers, as `fmem group` prints them, but that it prints their total behind them, and refuses more than 1,048,576 values: here
+ * the records' own limit is the only one. The records aren't copied; at least 16 bytes a value are taken while the call lasts.
  * Refused, in this order: as fm_layout; 25 or 22, where no records are of the layout; 60, where the path isn't UTF-8; 50,
  * where it is no path; 30 to 36, where it leads to no value; then 10 and 51 as fm_query.
  */

@@ -111,6 +111,8 @@ static void other_forms(void) {
     check(!numbers(layout.at, layout.count, (const uint8_t *)"min(.id) where .kind=9", 22, records.at, records.count, out, 3,
                    &report) && report.length == 2 && out[0] == FM_LEAST && out[1] == 0, "no least");
     check(texts(layout.at, layout.count, (const uint8_t *)".id", 3, records.at, records.count, out, 3, &report) == 6, "no bytes");
+    check(texts(layout.at, layout.count, (const uint8_t *)".tags[]", 7, records.at, records.count, out, 3, &report) == 34 &&
+              report.first == 1, "a step that is open");
 }
 
 /* Where a value stands at indices, by the place's own numbers and by any. */
@@ -143,8 +145,34 @@ static void indices(void) {
     check(at == 7, "a refused call puts nothing");
 }
 
+/* A path is refused alike by each call that takes one, but that texts want a sequence of bytes. */
+static void refuses_path(const char *path, const char *numbers, const char *of_texts) {
+    struct fm_place place = {.offset = 7};
+    struct fm_stride each[1] = {{7, 7}};
+    struct fm_counted often[1] = {{7, 7}};
+    struct fm_report report[3], printed;
+    uint8_t lines[10] = "as it was", out[64];
+    const uint8_t *bytes = (const uint8_t *)path;
+    const char *wants[3] = {numbers, numbers, of_texts};
+    uint64_t came[3];
+    came[0] = fm_place(layout.at, layout.count, bytes, strlen(path), &place, each, 1, &report[0]);
+    came[1] = groups(layout.at, layout.count, bytes, strlen(path), records.at, records.count, often, 1, &report[1]);
+    came[2] = texts(layout.at, layout.count, bytes, strlen(path), records.at, records.count, lines, sizeof lines, &report[2]);
+    for (int k = 0; k < 3; k++) {
+        if (!wants[k])
+            continue;
+        check(came[k] && came[k] == report[k].number && report[k].length == 0, path);
+        check(!fm_refusal(&report[k], out, sizeof out, &printed), path);
+        check(printed.length == strlen(wants[k]) && !memcmp(out, wants[k], printed.length), wants[k]);
+    }
+    check(place.offset == 7 && each[0].bound == 7, "a refused place puts nothing");
+    check(!numbers || often[0].count == 7, "refused groups put nothing");
+    check(!of_texts || !memcmp(lines, "as it was", 10), "refused texts put nothing");
+}
+
 static void refusals(const char *name) {
     char line[8192];
+    int paths = 0;
     FILE *file = fopen(name, "r");
     if (!file)
         exit(2);
@@ -165,8 +193,20 @@ static void refusals(const char *name) {
         check(extent.size == 7 && !memcmp(out, "as it was", 10), "a refused call puts nothing");
         check(fm_refusal(&report, out, sizeof out, &printed) == 0, given);
         check(printed.length == strlen(numbers) && !memcmp(out, numbers, printed.length), numbers);
+        /* The path of an item alone is refused as the query; but a text ends at a sequence, and none of its steps is open. */
+        size_t length = strlen(given);
+        if (!strcmp(kind, "query") && !strncmp(given, "sum(", 4) && given[length - 1] == ')') {
+            given[length - 1] = 0;
+            int open = !strcmp(numbers, "32 1") || !strcmp(numbers, "36 1");
+            refuses_path(given + 4, numbers, open ? "34 1" : strcmp(numbers, "35") ? numbers : NULL);
+            paths++;
+        }
     }
     fclose(file);
+    check(paths >= 6, "the rows have paths");
+    refuses_path("tags", "50 0", "50 0");
+    refuses_path(".\xff", "60 1", "60 1");
+    refuses_path(".tags", "35", NULL);
 }
 
 static void records_of_all_sizes(void) {

@@ -1,11 +1,12 @@
-"""Layouts, paths and queries over bytes in memory, by the proved library fm_c.
+"""Layouts, paths, queries, groups and texts over bytes in memory, by the proved library fm_c.
 
     import fmem
     layout = open("examples/sale_layout", "rb").read()
     fmem.query(layout, "count,list(.tags[])", open("examples/two_sales", "rb").read())
 
-Records may be anything with a buffer: bytes, a memoryview, an mmap, an array of numpy's. None is copied here; the
-library copies it once. A refused call raises `Refused`.
+Records may be anything with a buffer: bytes, a memoryview, an mmap, an array of numpy's. None is copied here. The
+library copies a query's records once a call, and the call is made again where its answer takes more room than was guessed:
+4,096 bytes of text, 64 numbers. A refused call raises `Refused`.
 """
 
 import ctypes
@@ -159,7 +160,11 @@ class Place:
 
     def find(self, size, base, *indices):
         """Where the value stands in so many bytes, of which a record begins at the base. An index that isn't below its
-        bound, is missing, or is one too many, and a record that passes the end, raise `Refused`."""
+        bound, is missing, or is one too many, and a record that passes the end, raise `Refused`; a number that is below 0 or
+        takes more than 64 bits, an `OverflowError`."""
+        # ctypes would cut such a number off.
+        if not all(0 <= n < 2**64 for n in (size, base, *indices)):
+            raise OverflowError("a number of 64 bits is wanted")
         report, at = _Report(), ctypes.c_uint64()
         of, within = (ctypes.c_uint64 * len(indices))(*indices), _Within(size, base)
         _told(

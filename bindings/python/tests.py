@@ -130,6 +130,9 @@ class OtherForms(unittest.TestCase):
             with self.assertRaises(fmem.Refused) as refused:
                 tag.find(size, base, *indices)
             self.assertEqual(str(refused.exception), numbers)
+        for size, base, index in ((2**64 + 48, 24, 1), (48, 2**64 + 24, 1), (48, 24, 2**64 + 1), (-1, 24, 1), (48, -1, 1), (48, 24, -1)):
+            with self.assertRaises(OverflowError):
+                tag.find(size, base, index)
 
 
 class Refusals(unittest.TestCase):

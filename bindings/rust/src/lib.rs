@@ -1,7 +1,8 @@
-//! Layouts, paths and queries over bytes in memory, by the proved library `fm_c`.
+//! Layouts, paths, queries, groups and texts over bytes in memory, by the proved library `fm_c`.
 //!
 //! A layout says as JSON what stands in a record. A [`Place`] says where a path's value stands in it, so that a loop of
-//! one's own reads the right bytes; [`query`] answers a query over records.
+//! one's own reads the right bytes; [`query`] answers a query over records, [`groups`] says how often each number comes, and
+//! [`texts`] reads the records' texts.
 //!
 //! ```
 //! let layout = r#"{"type":"struct","members":[
@@ -217,7 +218,8 @@ pub fn places(layout: &str) -> Result<String, Error> {
 
 /// The text of what the query answers over records of the layout, as `fmem query` prints it.
 ///
-/// The records are copied once. More than 67,108,864 bytes of them are refused.
+/// The records are copied once a call; the call is made again where the text takes more than 4,096 bytes. More than
+/// 67,108,864 bytes of records are refused.
 pub fn query(layout: &str, text: &str, records: &[u8]) -> Result<String, Error> {
     let given = [layout.as_bytes(), text.as_bytes(), records];
     raw::text(raw::filled(4096, |out| raw::query(given, out))?)
@@ -238,7 +240,8 @@ pub enum Item {
     List(Vec<i64>),
 }
 
-/// What the query's items find in records of the layout, in their order. As `query`, but for the form of the answer.
+/// What the query's items find in records of the layout, in their order. As `query`, but for the form of the
+/// answer: the call is made again where it takes more than 64 numbers.
 ///
 /// ```
 /// use fmem::Item;

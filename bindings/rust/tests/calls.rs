@@ -102,6 +102,28 @@ fn finds_where_a_value_stands() {
     }
 }
 
+/// A path is refused alike by each call that takes one, but that a text ends at a sequence, and none of its steps is open.
+fn refuses_path(path: &str, numbers: &str) {
+    let (layout, sales) = (text("sale_layout"), example("two_sales"));
+    assert_eq!(
+        Place::of(&layout, path).expect_err(path).to_string(),
+        numbers
+    );
+    assert_eq!(
+        groups(&layout, path, &sales).expect_err(path).to_string(),
+        numbers
+    );
+    let of_texts = match numbers {
+        "35" => return,
+        "32 1" | "36 1" => "34 1",
+        other => other,
+    };
+    assert_eq!(
+        texts(&layout, path, &sales).expect_err(path).to_string(),
+        of_texts
+    );
+}
+
 #[test]
 fn refuses_each_with_its_numbers() {
     let Ok(file) = std::env::var("FMEM_REFUSALS") else {
@@ -109,6 +131,7 @@ fn refuses_each_with_its_numbers() {
     };
     let (layout, sales) = (text("sale_layout"), example("two_sales"));
     let rows = fs::read_to_string(file).expect("the rows are there");
+    let mut paths = 0;
     for row in rows.lines() {
         let [kind, given, numbers] = row.split('\t').collect::<Vec<_>>()[..] else {
             panic!("{row}")
@@ -119,7 +142,17 @@ fn refuses_each_with_its_numbers() {
             _ => query(&layout, given, &sales),
         };
         assert_eq!(came.expect_err(given).to_string(), numbers, "{given}");
+        // The path of an item alone is refused as the query.
+        if let Some(path) = given
+            .strip_prefix("sum(")
+            .and_then(|it| it.strip_suffix(')'))
+        {
+            refuses_path(path, numbers);
+            paths += 1;
+        }
     }
+    assert!(paths >= 6);
+    refuses_path("tags", "50 0");
     for rest in 1..24 {
         let refused = Error::Refused {
             number: 51,

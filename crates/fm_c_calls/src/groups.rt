@@ -22,7 +22,7 @@ pub struct Counted {
 }
 
 /// Puts each number that comes among the values of a path in records, of the layout whose JSON the bytes are, and how
-/// often, in rising order of the numbers: what `fmem group` prints.
+/// often, in rising order of the numbers: what `fmem group` prints, without its total and its limit of 1,048,576 values.
 ///
 /// Refused, in this order: as `layout_from_json` of `fm_ljson`; as `check_record` of `fm_records_query`; as `resolve_in`;
 /// as `check_records`. `Memory` may come at any time. A refused call puts nothing.

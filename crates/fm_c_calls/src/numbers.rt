@@ -7,11 +7,22 @@ use fm_base::Refusal;
 use fm_records::{Found, Numbers};
 use std::alloc::{AllocError, Global};
 
+/// The forms of items, each the first number of what one finds.
+const COUNT: i64 = 0;
+
+const SUM: i64 = 1;
+
+const LEAST: i64 = 2;
+
+const GREATEST: i64 = 3;
+
+const LIST: i64 = 4;
+
 /// Puts the numbers that the items of a query find in records, of the layout whose JSON the bytes are: for each item, in
 /// their order, its form, how many numbers it has, and then these.
 ///
-/// A count has the form 0 and one number, in 64 bits; a sum 1 and two, the low 64 bits and the high ones of its two's
-/// complement; a least 2 and a greatest 3, and one number or none; a list 4 and all of them. Refused as `put_answer`. A refused call puts nothing.
+/// A count has one number, in 64 bits; a sum two, the low 64 bits and the high ones of its two's complement; a least and a
+/// greatest one number or none; a list all of them. Refused as `put_answer`. A refused call puts nothing.
 pub fn put_numbers(
     alloc: Global,
     json: &[u8],
@@ -44,10 +55,10 @@ fn push_found(numbers: &mut Vec<i64>, found: &Found) -> Result<(), AllocError>
     ensures { OnOk result (numbers.new.items ≡ numbers.old.items ++ found_numbers found.now) }
 {
     match found {
-        Found::Count(n) => numbers.extend_from_slice(&[0, 1, n.cast_signed()]),
+        Found::Count(n) => numbers.extend_from_slice(&[COUNT, 1, n.cast_signed()]),
         Found::Sum(n) => push_sum(numbers, *n),
-        Found::Least(n) => push_end(numbers, 2, *n),
-        Found::Greatest(n) => push_end(numbers, 3, *n),
+        Found::Least(n) => push_end(numbers, LEAST, *n),
+        Found::Greatest(n) => push_end(numbers, GREATEST, *n),
         Found::Listed(list) => push_listed(numbers, list),
     }
 }
@@ -59,7 +70,7 @@ fn push_sum(numbers: &mut Vec<i64>, sum: i128) -> Result<(), AllocError>
     let bits = sum.cast_unsigned();
     let low = (bits & 0xffff_ffff_ffff_ffff) as u64;
     let high = (bits >> 64) as u64;
-    numbers.extend_from_slice(&[1, 2, low.cast_signed(), high.cast_signed()])
+    numbers.extend_from_slice(&[SUM, 2, low.cast_signed(), high.cast_signed()])
 }
 
 /// Adds a number that may be missing.
@@ -76,7 +87,7 @@ fn push_listed(numbers: &mut Vec<i64>, list: &Numbers) -> Result<(), AllocError>
     ensures { OnOk result (numbers.new.items ≡ numbers.old.items ++ listed_numbers list.now) }
 {
     numbers.reserve(list.len())?;
-    numbers.extend_from_slice(&[4, (list.len() as u64).cast_signed()])?;
+    numbers.extend_from_slice(&[LIST, (list.len() as u64).cast_signed()])?;
     for k in 0..list.len() {
         numbers.push(list.at(k))?;
     }

@@ -29,7 +29,7 @@ pub fn find_at(
 ) -> Result<u64, Refusal>
     ensures { FindsAt place.now strides.now indices.now within.now at.old at.new result }
 {
-    match first_out(0, strides, indices) {
+    match find_out(0, strides, indices) {
         Some(k) => return Err(Refusal::IndexOut(k)),
         None => {}
     }
@@ -47,7 +47,7 @@ pub fn find_at(
 
 /// The first index, counted from `k`, that isn't below its bound, is missing, or is one too many.
 #[tactic(auto, using(crate::proofs::Out::missing, crate::proofs::Out::surplus))]
-fn first_out(k: u64, strides: &[Stride], indices: &[u64]) -> Option<u64>
+fn find_out(k: u64, strides: &[Stride], indices: &[u64]) -> Option<u64>
     requires { k + length strides.now < 2 ^ 64 }
     ensures { MatchOption result (AreAdmitted (dims_of strides.now) indices.now) (IsOut k strides.now indices.now) }
 {
@@ -57,7 +57,7 @@ fn first_out(k: u64, strides: &[Stride], indices: &[u64]) -> Option<u64>
             if indices.is_empty() || indices[0] >= stride.bound {
                 Some(k)
             } else {
-                first_out(k + 1, more, &indices[1..])
+                find_out(k + 1, more, &indices[1..])
             }
         }
     }
@@ -84,14 +84,14 @@ fn reach_all(at: u64, strides: &[Stride], indices: &[u64]) -> Option<u64>
     match strides {
         [] => Some(at),
         [stride, more @ ..] => {
-            let next = moved(at, stride.stride, indices[0])?;
+            let next = move_by(at, stride.stride, indices[0])?;
             reach_all(next, more, &indices[1..])
         }
     }
 }
 
 /// The offset an index further on, or back, if it is none below 0 and none of more than 64 bits.
-fn moved(at: u64, stride: i64, index: u64) -> Option<u64>
+fn move_by(at: u64, stride: i64, index: u64) -> Option<u64>
     ensures { MatchOption result (¬ (IsInside at stride index)) (λ n. IsInside at stride index × (n ≡ reach at stride index)) }
 {
     let by = stride.unsigned_abs().checked_mul(index)?;
