@@ -21,6 +21,7 @@ OF_RATTLE = {
     "&mut Extent": ["extent*"],
     "&mut Place": ["place*"],
     "&mut Report": ["report*"],
+    "&mut Handle": ["handle*"],
     "&Report": ["const report*"],
 }
 OF_C = {"uint8_t": "u8", "size_t": "usize", "uint64_t": "u64", "int64_t": "i64"}

@@ -8,10 +8,12 @@
  * `length` says how much the whole takes. So a call with no room asks for the length. A refused call puts nothing but
  * the report.
  *
- * Threads: a call keeps nothing and shares nothing. Any number of threads may call at once, over the same layout, path,
- * query, records and place, as long as nobody changes these meanwhile, and each call has an output and a report of its own.
+ * Threads: a call shares nothing, and keeps nothing but what a handle keeps. Any number of threads may call at once, over the
+ * same layout, path, query, records and place, as long as nobody changes these meanwhile, and each call has an output and a
+ * report of its own. A handle is for one call at a time: each thread makes its own, or they take turns, which a lock orders, or
+ * a thread's start or end.
  *
- * Ownership: the caller owns all memory that it passes. Nothing needs to be given back.
+ * Ownership: the caller owns all memory that it passes. Nothing needs to be given back but a handle that was made.
  *
  * What the caller owes: no pointer is NULL, not even where its count is 0; each points to as many items as the count says,
  * aligned for them; outputs and reports overlap neither each other nor what is read; a count is below 2^63. Calls come
@@ -90,6 +92,11 @@ struct fm_counted {
     uint64_t count;
 };
 
+/* A query that is kept, or none where it is {0}. What it leads to is the library's alone. */
+struct fm_handle {
+    void *query;
+};
+
 /*
  * Puts how long the layout is whose JSON the bytes are, and how it is aligned.
  * Refused: 40, where the bytes are no JSON; 41, 20 to 24, where that is no layout.
@@ -131,6 +138,28 @@ uint64_t fm_at(const struct fm_place *place, const struct fm_stride *strides, si
  */
 uint64_t fm_query(const uint8_t *layout, size_t layout_length, const uint8_t *query, size_t query_length,
                   const uint8_t *records, size_t records_length, uint8_t *out, size_t room, struct fm_report *report);
+
+/*
+ * Keeps the query that the bytes spell, over records of the layout, behind the handle, which is one of {0} or one that was
+ * freed; what a handle kept isn't freed. So a query that is asked often isn't read anew each time. `length` is 0.
+ * Refused, in this order: as fm_layout; 25 or 22, where no records are of the layout; 60, where the query isn't UTF-8; 50,
+ * where it is no query; 30 to 36, where it asks for no value. A refused call leaves the handle as it was.
+ */
+uint64_t fm_query_make(const uint8_t *layout, size_t layout_length, const uint8_t *query, size_t query_length,
+                       struct fm_handle *handle, struct fm_report *report);
+
+/*
+ * Puts the text of what the kept query answers over records, as fm_query. Refused, in this order: 10 and 51, as fm_query.
+ * The handle is one that was made and hasn't been freed since; else it is the caller's fault, and anything may happen.
+ */
+uint64_t fm_query_ask(struct fm_handle *handle, const uint8_t *records, size_t records_length, uint8_t *out, size_t room,
+                      struct fm_report *report);
+
+/*
+ * Frees the kept query; the answer is 0. From here on the handle keeps none, and may be made again. A handle that is freed
+ * twice, or was never made, is the caller's fault, and so is one that is used through a copy after it was freed.
+ */
+uint64_t fm_query_free(struct fm_handle *handle);
 
 /*
  * Puts the numbers that the query's items find in records, as fm_query: for each item, in their order, first its form,

@@ -271,6 +271,57 @@ static void threads(void) {
     }
 }
 
+static void *asks_by_its_own(void *count) {
+    struct fm_handle handle = {0};
+    struct fm_report report;
+    uint8_t out[128];
+    if (fm_query_make(layout.at, layout.count, (const uint8_t *)query, strlen(query), &handle, &report))
+        return NULL;
+    for (int k = 0; k < 200; k++)
+        if (!fm_query_ask(&handle, records.at, records.count, out, sizeof out, &report) && !memcmp(out, wanted, strlen(wanted)))
+            ++*(int *)count;
+    fm_query_free(&handle);
+    return NULL;
+}
+
+/* A query that is kept: asked many times, over all sizes of outputs and records, made again, and by eight threads. */
+static void handles(void) {
+    struct fm_handle handle = {0};
+    struct fm_report report;
+    uint8_t out[128];
+    check(fm_query_make(layout.at, layout.count, (const uint8_t *)"sum(.nope)", 10, &handle, &report) == 31, "no member");
+    check(!handle.query && report.first == 0, "a refused call leaves the handle");
+    check(fm_query_make((const uint8_t *)"{", 1, (const uint8_t *)"count", 5, &handle, &report) == 40, "no layout");
+    for (int times = 0; times < 3; times++) {
+        check(!fm_query_make(layout.at, layout.count, (const uint8_t *)query, strlen(query), &handle, &report), "it is made");
+        check(handle.query && report.length == 0, "a handle");
+        for (size_t room = 0; room <= strlen(wanted) + 3; room++) {
+            size_t put = room < strlen(wanted) ? room : strlen(wanted);
+            memset(out, '#', sizeof out);
+            check(!fm_query_ask(&handle, records.at, records.count, out, room, &report), "an answer");
+            check(report.length == strlen(wanted) && !memcmp(out, wanted, put) && out[put] == '#', "a first part");
+        }
+        for (size_t rest = 1; rest < 24; rest++)
+            check(fm_query_ask(&handle, records.at, 24 + rest, out, sizeof out, &report) == FM_RAGGED && report.first == rest,
+                  "ragged");
+        check(!fm_query_ask(&handle, records.at, 0, out, sizeof out, &report), "no records");
+        check(fm_query_free(&handle) == 0, "it is freed");
+    }
+    uint8_t *many = calloc(FM_MOST_RECORDS + 8, 1);
+    check(!fm_query_make(layout.at, layout.count, (const uint8_t *)"count", 5, &handle, &report), "it is made");
+    check(fm_query_ask(&handle, many, FM_MOST_RECORDS + 8, out, sizeof out, &report) == FM_NO_ROOM, "too many");
+    fm_query_free(&handle);
+    free(many);
+    pthread_t thread[8];
+    int count[8] = {0};
+    for (int k = 0; k < 8; k++)
+        pthread_create(&thread[k], NULL, asks_by_its_own, &count[k]);
+    for (int k = 0; k < 8; k++) {
+        pthread_join(thread[k], NULL);
+        check(count[k] == 200, "eight threads, each with a handle");
+    }
+}
+
 /* Many calls leave no memory behind: the process holds as many pages in the end as after the first tenth of them. */
 static long held(void) {
     long pages = 0;
@@ -290,6 +341,10 @@ static void leaks(long calls) {
     for (long k = 0; k < calls; k++) {
         if (k == calls / 10)
             before = held();
+        struct fm_handle handle = {0};
+        check(!fm_query_make(layout.at, layout.count, (const uint8_t *)query, strlen(query), &handle, &report), "a handle");
+        check(!fm_query_ask(&handle, records.at, records.count, out, sizeof out, &report), "it answers");
+        fm_query_free(&handle);
         check(!fm_place(layout.at, layout.count, (const uint8_t *)".tags[]", 7, &place, each, 1, &report), "a place");
         check(ask(query, records, out, sizeof out, &report) == 0, "a query");
         check(ask("sum(.nope)", records, out, sizeof out, &report) == 31, "a refused query");
@@ -314,6 +369,7 @@ int main(int argc, char **argv) {
     records_of_all_sizes();
     places();
     threads();
+    handles();
     leaks(getenv("FMEM_CALLS") ? atol(getenv("FMEM_CALLS")) : 2000);
     free(layout.at);
     free(records.at);

@@ -12,6 +12,7 @@ library copies a query's records once a call, and the call is made again where i
 import ctypes
 import os
 import struct
+import threading
 
 _NAME = "libfm_c.so"
 
@@ -42,6 +43,10 @@ class _Stride(ctypes.Structure):
 
 class _Within(ctypes.Structure):
     _fields_ = [("size", ctypes.c_uint64), ("base", ctypes.c_uint64)]
+
+
+class _Handle(ctypes.Structure):
+    _fields_ = [("query", ctypes.c_void_p)]
 
 
 class _Counted(ctypes.Structure):
@@ -99,8 +104,11 @@ _lib.fm_numbers.argtypes = [*_slice, *_slice, *_slice, *_slice, ctypes.POINTER(_
 _lib.fm_groups.argtypes = [*_slice, *_slice, *_slice, *_slice, ctypes.POINTER(_Report)]
 _lib.fm_texts.argtypes = [*_slice, *_slice, *_slice, *_slice, ctypes.POINTER(_Report)]
 _lib.fm_query.argtypes = [*_slice, *_slice, *_slice, *_slice, ctypes.POINTER(_Report)]
+_lib.fm_query_make.argtypes = [*_slice, *_slice, ctypes.POINTER(_Handle), ctypes.POINTER(_Report)]
+_lib.fm_query_ask.argtypes = [ctypes.POINTER(_Handle), *_slice, *_slice, ctypes.POINTER(_Report)]
+_lib.fm_query_free.argtypes = [ctypes.POINTER(_Handle)]
 _lib.fm_refusal.argtypes = [ctypes.POINTER(_Report), *_slice, ctypes.POINTER(_Report)]
-for _name in ("layout", "places", "place", "at", "query", "numbers", "groups", "texts", "refusal"):
+for _name in ("layout", "places", "place", "at", "query", "query_make", "query_ask", "query_free", "numbers", "groups", "texts", "refusal"):
     getattr(_lib, "fm_" + _name).restype = ctypes.c_uint64
 
 KINDS = ("byte", "boolean", "char", "short", "int", "long")
@@ -225,6 +233,40 @@ def query(layout, text, records):
             found.append(of[0] if of else None)
         at += 2 + count
     return found
+
+
+class Query:
+    """A query over records of a layout that is kept, so that it isn't read anew each time. It is freed by `close`, at the end
+    of a `with`, or when it is collected. Threads that share it take turns."""
+
+    def __init__(self, layout, text):
+        self._turn, self._handle = threading.Lock(), None
+        report, handle = _Report(), _Handle()
+        with _Lent(_bytes(layout)) as json, _Lent(_bytes(text)) as asked:
+            _told(_lib.fm_query_make(*json, *asked, ctypes.byref(handle), ctypes.byref(report)), report)
+        self._handle = handle
+
+    def answer(self, records):
+        """The text of what it answers over records, as `answer`."""
+        with _Lent(records) as lent, self._turn:
+            if self._handle is None:
+                raise ValueError("the query is closed")
+            return _text(lambda *to: _lib.fm_query_ask(ctypes.byref(self._handle), *lent, *to), 4096)
+
+    def close(self):
+        with self._turn:
+            handle, self._handle = self._handle, None
+            if handle is not None:
+                _lib.fm_query_free(ctypes.byref(handle))
+
+    def __enter__(self):
+        return self
+
+    def __exit__(self, *_):
+        self.close()
+
+    def __del__(self):
+        self.close()
 
 
 def groups(layout, path, records):

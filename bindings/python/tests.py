@@ -179,6 +179,40 @@ class Refusals(unittest.TestCase):
         self.assertEqual((refused.exception.number, refused.exception.arguments), (60, (5,)))
 
 
+class Kept(unittest.TestCase):
+    def test_many_answers(self):
+        with fmem.Query(LAYOUT, QUERY) as kept:
+            for _ in range(1000):
+                self.assertEqual(kept.answer(SALES).encode(), read("examples/sale_answer"))
+            with self.assertRaises(fmem.Refused) as refused:
+                kept.answer(SALES[:25])
+            self.assertEqual((refused.exception.number, refused.exception.arguments), (51, (1,)))
+        with self.assertRaises(ValueError):
+            kept.answer(SALES)
+        kept.close()
+        with self.assertRaises(fmem.Refused) as refused:
+            fmem.Query(LAYOUT, "sum(.nope)")
+        self.assertEqual(str(refused.exception), "31 0")
+        with fmem.Query(b'{"type":"byte"}', "list(.)") as kept:
+            self.assertEqual(len(kept.answer(bytes(range(256)) * 512).split()), 131073)
+        for _ in range(10000):
+            fmem.Query(LAYOUT, "count").close()
+
+    def test_turns(self):
+        kept, counts = fmem.Query(LAYOUT, QUERY), [0] * 8
+
+        def ask(k):
+            for _ in range(50):
+                counts[k] += kept.answer(SALES).encode() == read("examples/sale_answer")
+
+        threads = [threading.Thread(target=ask, args=(k,)) for k in range(8)]
+        for it in threads:
+            it.start()
+        for it in threads:
+            it.join()
+        self.assertEqual(counts, [50] * 8)
+
+
 class Threads(unittest.TestCase):
     def test_one_place(self):
         place, counts = fmem.Place(LAYOUT, ".tags[]"), [0] * 8

@@ -14,7 +14,8 @@
 //! # Ok::<(), fmem::Error>(())
 //! ```
 //!
-//! A call keeps and shares nothing, so all here may be used from any number of threads.
+//! A call shares nothing, and keeps nothing but what a [`Query`] keeps, which is `Send` and not `Sync`: all else here may be
+//! used from any number of threads.
 
 use std::fmt;
 
@@ -223,6 +224,35 @@ pub fn places(layout: &str) -> Result<String, Error> {
 pub fn query(layout: &str, text: &str, records: &[u8]) -> Result<String, Error> {
     let given = [layout.as_bytes(), text.as_bytes(), records];
     raw::text(raw::filled(4096, |out| raw::query(given, out))?)
+}
+
+/// A query that is kept, so that it isn't read anew each time. It may go to another thread, and answers one call at a time.
+///
+/// ```
+/// let mut sum = fmem::Query::of(r#"{"type":"short"}"#, "sum(.)")?;
+/// assert_eq!(sum.ask(&[1, 0, 2, 0])?, "sum(.) 3\n");
+/// assert_eq!(sum.ask(&[])?, "sum(.) 0\n");
+/// # Ok::<(), fmem::Error>(())
+/// ```
+///
+/// It isn't `Sync`, since the library gives a handle to one call at a time:
+///
+/// ```compile_fail
+/// fn crosses<T: Sync>() {}
+/// crosses::<fmem::Query>();
+/// ```
+pub struct Query(raw::Handle);
+
+impl Query {
+    /// The query that the text spells, over records of the layout.
+    pub fn of(layout: &str, text: &str) -> Result<Query, Error> {
+        raw::Handle::make(layout.as_bytes(), text.as_bytes()).map(Query)
+    }
+
+    /// The text of what it answers over records, as `query`.
+    pub fn ask(&mut self, records: &[u8]) -> Result<String, Error> {
+        raw::text(raw::filled(4096, |out| self.0.ask(records, out))?)
+    }
 }
 
 /// What an item of a query finds.

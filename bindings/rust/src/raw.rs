@@ -46,6 +46,67 @@ pub struct Within {
     pub base: u64,
 }
 
+/// A query that the library keeps; what it leads to is the library's alone.
+#[repr(C)]
+pub struct Handle {
+    query: *mut u8,
+}
+
+// SAFETY: what it keeps is plain data of the library's, which may go from one thread to another (`include/fmem.h`).
+unsafe impl Send for Handle {}
+
+impl Handle {
+    pub fn make(layout: &[u8], query: &[u8]) -> Result<Handle, Error> {
+        let (mut report, mut handle) = (
+            Report::default(),
+            Handle {
+                query: std::ptr::null_mut(),
+            },
+        );
+        // SAFETY: the pointers are of slices and `&mut`s that are borrowed for the call, and never null. The handle is empty.
+        unsafe {
+            fm_query_make(
+                layout.as_ptr(),
+                layout.len(),
+                query.as_ptr(),
+                query.len(),
+                &mut handle,
+                &mut report,
+            )
+        };
+        match told(&report) {
+            Ok(_) => Ok(handle),
+            Err(error) => {
+                std::mem::forget(handle);
+                Err(error)
+            }
+        }
+    }
+
+    pub fn ask(&mut self, records: &[u8], out: &mut [u8]) -> Result<usize, Error> {
+        let mut report = Report::default();
+        // SAFETY: as above; the handle was made, is freed by its drop alone, and is borrowed by this call alone.
+        unsafe {
+            fm_query_ask(
+                self,
+                records.as_ptr(),
+                records.len(),
+                out.as_mut_ptr(),
+                out.len(),
+                &mut report,
+            )
+        };
+        told(&report)
+    }
+}
+
+impl Drop for Handle {
+    fn drop(&mut self) {
+        // SAFETY: the handle was made, and nothing uses it after this.
+        unsafe { fm_query_free(self) };
+    }
+}
+
 #[repr(C)]
 #[derive(Clone, Default)]
 pub struct Counted {
@@ -109,6 +170,23 @@ unsafe extern "C" {
         room: usize,
         report: *mut Report,
     ) -> u64;
+    fn fm_query_make(
+        layout: *const u8,
+        layout_length: usize,
+        query: *const u8,
+        query_length: usize,
+        handle: *mut Handle,
+        report: *mut Report,
+    ) -> u64;
+    fn fm_query_ask(
+        handle: *mut Handle,
+        records: *const u8,
+        records_length: usize,
+        out: *mut u8,
+        room: usize,
+        report: *mut Report,
+    ) -> u64;
+    fn fm_query_free(handle: *mut Handle) -> u64;
     fn fm_texts(
         layout: *const u8,
         layout_length: usize,

@@ -1,7 +1,7 @@
 //! Tests of the crate's calls over the repository's examples. `FMEM_REFUSALS` names a file of refusals, a line
 //! `KIND TAB GIVEN TAB NUMBERS` each.
 
-use fmem::{Error, Item, Kind, Place, groups, items, measure, places, query, texts};
+use fmem::{Error, Item, Kind, Place, Query, groups, items, measure, places, query, texts};
 use std::fs;
 
 fn example(name: &str) -> Vec<u8> {
@@ -195,9 +195,36 @@ fn serves_eight_threads_by_one_place() {
 }
 
 #[test]
+fn keeps_a_query() {
+    let (layout, sales) = (text("sale_layout"), example("two_sales"));
+    let asked = "count,sum(.price),list(.tags[]) where .kind>=2";
+    let mut kept = Query::of(&layout, asked).expect("a query");
+    for _ in 0..1000 {
+        assert_eq!(kept.ask(&sales), Ok(text("sale_answer")));
+    }
+    let refused = Error::Refused {
+        number: 51,
+        arguments: [Some(1), None],
+    };
+    assert_eq!(kept.ask(&sales[..25]), Err(refused));
+    let moved = std::thread::spawn(move || kept.ask(&example("two_sales")));
+    assert_eq!(moved.join().expect("it ended"), Ok(text("sale_answer")));
+    let refused = Query::of(&layout, "sum(.nope)").err().expect("no member");
+    assert_eq!(refused.to_string(), "31 0");
+    let bytes: Vec<u8> = (0..131_072).map(|k| k as u8).collect();
+    let mut all = Query::of(r#"{"type":"byte"}"#, "list(.)").expect("a query");
+    assert_eq!(all.ask(&bytes).map(|it| it.split(' ').count()), Ok(131_073));
+    for _ in 0..10_000 {
+        drop(Query::of(&layout, "count").expect("a query"));
+    }
+}
+
+#[test]
 fn may_cross_threads() {
     fn crosses<T: Send + Sync>() {}
     crosses::<Place>();
     crosses::<Error>();
     crosses::<Item>();
+    fn goes<T: Send>() {}
+    goes::<Query>();
 }

@@ -3,8 +3,11 @@
 //! An export's clause is that of the call, and that just what came of it is told. `include/fmem.h` says each in words.
 #![tactic(auto)]
 
+ghost use Rattle.std.specs.Prelude.{◌≡◌, None};
+ghost use Rattle.fm_c_calls.specs.Asked.{MakesQuery, PutsKept};
 ghost use Rattle.fm_c_calls.specs.Grouped.{PutsGroups};
 ghost use Rattle.fm_c_calls.specs.Held.{PutsAnswer};
+ghost use Rattle.fm_c_calls.specs.Kept.{Keeps};
 ghost use Rattle.fm_c_calls.specs.Located.{FindsAt};
 ghost use Rattle.fm_c_calls.specs.Numbered.{PutsNumbers};
 ghost use Rattle.fm_c_calls.specs.Placed.{PutsPlace};
@@ -13,8 +16,8 @@ ghost use Rattle.fm_c_calls.specs.Reports.{PutsText, Tells};
 ghost use Rattle.fm_c_calls.specs.Texts.{PutsTexts};
 
 use fm_c_calls::{
-    Counted, Extent, Place, Report, Stride, Within, find_at, list, measure, put_answer, put_groups,
-    put_numbers, put_place, put_report, put_texts,
+    Counted, Extent, Handle, Place, Report, Stride, Within, ask_query, find_at, free_query, list,
+    make_query, measure, put_answer, put_groups, put_numbers, put_place, put_report, put_texts,
 };
 use std::alloc::Global;
 
@@ -87,6 +90,47 @@ pub extern "C" fn fm_query(
     ensures { Tells (PutsAnswer layout.now query.now records.now out.old out.new) result report.new }
 {
     report.tell(put_answer(alloc, layout, query, records, out))
+}
+
+/// Keeps a query behind the handle, so that it isn't read anew each time.
+#[unsafe(no_mangle)]
+pub extern "C" fn fm_query_make(
+    alloc: Global,
+    layout: &[u8],
+    query: &[u8],
+    handle: &mut Handle,
+    report: &mut Report,
+) -> u64
+    ensures { Tells (MakesQuery layout.now query.now handle.old.query handle.new.query) result report.new }
+{
+    report.tell(make_query(alloc, layout, query, handle))
+}
+
+/// Puts the text of what the kept query answers over records.
+#[unsafe(no_mangle)]
+pub extern "C" fn fm_query_ask(
+    alloc: Global,
+    handle: &mut Handle,
+    records: &[u8],
+    out: &mut [u8],
+    report: &mut Report,
+) -> u64
+    requires { Keeps handle.old.query }
+    ensures kept { handle.new.query ≡ handle.old.query }
+    ensures told { Tells (PutsKept handle.old.query records.now out.old out.new) result report.new }
+{
+    report.tell(ask_query(alloc, handle, records, out))
+}
+
+/// Frees the kept query.
+#[unsafe(no_mangle)]
+pub extern "C" fn fm_query_free(alloc: Global, handle: &mut Handle) -> u64
+    requires { Keeps handle.old.query }
+    ensures kept { handle.new.query ≡ None }
+    ensures answers { result ≡ 0 }
+{
+    free_query(alloc, handle);
+    0
 }
 
 /// Puts the numbers that the items of a query find in records.

@@ -1,4 +1,6 @@
+mod Boxes
 mod Grouping
+mod Handled
 mod Inside
 mod Out
 mod Outcomes

@@ -1,5 +1,7 @@
+pub mod Asked
 pub mod Grouped
 pub mod Held
+pub mod Kept
 pub mod Located
 pub mod Numbered
 pub mod Output

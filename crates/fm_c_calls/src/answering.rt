@@ -64,7 +64,12 @@ pub fn answer_over(alloc: Global, query: &Query, records: &[u8]) -> Result<Answe
     query_segment(alloc, &mut memory, query, &segment)
 }
 
-fn text_of_answer(alloc: Global, query: &Query, answer: &Answer) -> Result<SureSink, Refusal>
+/// The text of the answer. Refused: `Memory`.
+pub(crate) fn text_of_answer(
+    alloc: Global,
+    query: &Query,
+    answer: &Answer,
+) -> Result<SureSink, Refusal>
     ensures text { IfOk result (λ sink. sure_written sink ≡ answer_text query.now answer.now) }
     ensures memory { IfErr result (λ refusal. refusal ≡ Refusal.Memory) }
 {

@@ -9,17 +9,22 @@
 //!
 //! **Both sides.** `fm_c` exports each call under C's rules, in a line, with the clause that stands here.
 //!
-//! **Why it is safe.** Nothing is kept between two calls, and nothing is shared but what no call changes.
+//! **Why it is safe.** Nothing is shared but what no call changes, and nothing is kept between two calls but a query behind a
+//! [`Handle`], which one call has at a time. What a handle owns is proved by hand, in `handle.rt` and `loose.rt`.
 //!
-//! **What is not promised.** That the caller's pointers are good, and that nobody changes the bytes meanwhile. Pools
+//! **What is not promised.** That the caller's pointers are good, that nobody changes the bytes meanwhile, and that a handle
+//! that is asked or freed was made and hasn't been freed since. Pools
 //! aren't offered: their calls may wait, and C has nothing to wait with.
 #![tactic(auto)]
 
 mod answering;
+mod asking;
 mod extent;
 mod groups;
+mod handle;
 mod held;
 mod laws;
+mod loose;
 mod numbers;
 mod output;
 mod place;
@@ -33,8 +38,10 @@ mod values;
 mod whole;
 
 pub use answering::{answer_over, put_answer, read_query};
+pub use asking::{ask_query, free_query, make_query};
 pub use extent::{Extent, measure};
 pub use groups::{Counted, put_groups};
+pub use handle::Handle;
 pub use laws::{places_lead_inside, reports_say_refusals};
 pub use numbers::put_numbers;
 pub use place::{Place, Stride, put_place};

@@ -1,0 +1,8 @@
+use Rattle.std.proofs.{Common.{refl}, lemmas.Result.{err_from_is_err_and}}
+use Rattle.fm_c_calls.specs.Held.{no_memory}
+use Rattle.fm_c_calls.proofs.asking.put_answer_of.Goals as goal
+
+pub returns-in_err-text : goal.returns-in_err-text
+returns-in_err-text c =
+    let p = err_from_is_err_and c.from_residual-in_err-text.result c.from_residual-in_err-text.ensures.1 in
+    rw (p.1, p.2, c.in_err-text.ensures.memory) (refl, no_memory)
