@@ -10,18 +10,18 @@
  *
  * Threads: a call shares nothing, and keeps nothing but what a handle keeps. Any number of threads may call at once, over the
  * same layout, path, query, records and place, as long as nobody changes these meanwhile, and each call has an output and a
- * report of its own. A handle is for one call at a time: each thread makes its own, or they take turns, which a lock orders, or
- * a thread's start or end.
+ * report of its own. A handle is for one call at a time: each thread makes its own, or they take turns, ordered by a lock, by
+ * a thread's start or join, or by a sequentially consistent atomic.
  *
  * Ownership: the caller owns all memory that it passes. Nothing needs to be given back but a handle that was made.
  *
  * What the caller owes: no pointer is NULL, not even where its count is 0; each points to as many items as the count says,
  * aligned for them; outputs and reports overlap neither each other nor what is read; a count is below 2^63. Calls come
  * neither from a signal handler nor from the forked child of a process with threads. malloc, realloc and free are of one
- * allocator. Values are never owed: whatever bytes and numbers are passed, the call answers as it says here.
+ * allocator. Values are never owed, but a handle's: whatever bytes and numbers are passed, the call answers as it says here.
  *
  * Refusals have the numbers and arguments that docs/REFUSALS.md lists. FM_MEMORY may come from any call but
- * fm_at, which takes no memory.
+ * fm_at and fm_query_free, which take no memory.
  */
 #ifndef FMEM_H
 #define FMEM_H
@@ -172,8 +172,9 @@ uint64_t fm_numbers(const uint8_t *layout, size_t layout_length, const uint8_t *
 
 /*
  * Puts each number that comes among the values of the path in records of the layout, and how often, in rising order of the
- * numbers, as `fmem group` prints them, but that it prints their total behind them, and refuses more than 1,048,576 values: here
- * the records' own limit is the only one. The records aren't copied; at least 16 bytes a value are taken while the call lasts.
+ * numbers, as `fmem group` prints them, but that it prints their total behind them, and refuses more than 1,048,576 values:
+ * here the records' own limit is the only one. The records aren't copied; at least 16 bytes a value are taken while the call
+ * lasts.
  * Refused, in this order: as fm_layout; 25 or 22, where no records are of the layout; 60, where the path isn't UTF-8; 50,
  * where it is no path; 30 to 36, where it leads to no value; then 10 and 51 as fm_query.
  */
