@@ -11,8 +11,8 @@ use denote.Param.Send.{IsSend, Quiet, owning_send, struct_send, sendable, part_k
 use denote.Builtin.{RawPtr}
 use denote.Struct.Struct.{exits_of}
 use denote.Struct.Owning.{shape, fields, to}
-use Rattle.libc.specs.Heap.{chunk-Keyless}
-use Rattle.fm_c_calls.specs.Kept.{kept}
+use Rattle.std.proofs.Crossing.{frees}
+use Rattle.fm_c_calls.specs.Kept.{heap, kept}
 use Rattle.fm_c_calls.specs.contracts.handle.Handle.{the_row, the_type}
 use Rattle.fm_records_query.specs.contracts.query.Query as asked
 use Rattle.fm_records_query.proofs.query.Query.TheSendSync as sent
@@ -27,7 +27,7 @@ lies R s null_ptr x = tt
 
 keyless : (R : RattleType) → IsSend R → (p : Ptr) (x : Option R.Denot) → Keyless (kept R p x)
 keyless R s p None = tt
-keyless R s p (Some x) = (lies R s p x, chunk-Keyless (raw (lone R.mir)) p)
+keyless R s p (Some x) = (lies R s p x, frees.frees heap (raw (lone R.mir)) p)
 
 pub send : IsSend the_row
 send = let O = the_type in let ps : IsSend RawPtr = search sendable in

@@ -25,10 +25,9 @@ use base.Logic.{never, fst∗}
 use types.Logic.{sem}
 use denote.Memory.{lone}
 use denote.RawPtr.{in_a_block}
-use Rattle.libc.specs.Heap.{chunk}
 use Rattle.std.specs.Box.Ownership.{box_owns}
 use Rattle.fm_c_calls.proofs.Boxes.{al}
-use Rattle.fm_c_calls.specs.Kept.{kept, Keeps}
+use Rattle.fm_c_calls.specs.Kept.{heap, kept, Keeps}
 use Rattle.fm_c_calls.proofs.Handled.{Z, R, Held, held_val, held_told, held_typed, some_of}
 use Rattle.fm_c_calls.specs.contracts.handle.Handle.open.{ended, clauses}
 use Rattle.fm_c_calls.specs.contracts.handle.Handle.open.Key.{name as #self}
@@ -47,7 +46,7 @@ open_spec 𝓤 𝓛 𝓜 𝓡 wired =
     let some = some_of d.query keeps in let x = some.0 in
     split ! $ move ! (1 ∷ []) $ fsplit ! $ fsplit ! $ drop ! $
     rewrite ! 0 (λ (o : Option R.Denot). ‵ (kept R d.at o)) some.1 refl $
-    in_a_block ! d.at (λ p. box_owns chunk R p x) (fst∗ 𝓤 (never 𝓤) (sem 𝓛 (chunk (bare (lone R.mir)) null_ptr))) (λ b o e.
+    in_a_block ! d.at (λ p. box_owns (ghosts.dealloc_token heap) R p x) (fst∗ 𝓤 (never 𝓤) (sem 𝓛 (ghosts.dealloc_token heap (bare (lone R.mir)) null_ptr))) (λ b o e.
     move ! (1 ∷ []) $ fsplit ! $ handle_tells (al R Z LZ ghosts) ! a z.0.4.1.0 (λ h eh fits. move ! (1 ∷ []) $ drop ! $
     move ! (1 ∷ 0 ∷ []) $
     let w : Val = both (vptr b o) h in let typed = loose_good R Z LZ ghosts b o h fits in let r : Lr.Denot = record { at = block_ptr b o; alloc = a; value = x } in
